@@ -1,0 +1,14 @@
+// Texts, bytes, lists and maps as contracts see them, crash ids and raw crashes.
+#![tactic(auto)]
+
+mod bytes;
+mod no_memory;
+mod pairs;
+mod text;
+mod text_list;
+
+pub use bytes::Bytes;
+pub use no_memory::NoMemory;
+pub use pairs::Pairs;
+pub use text::Text;
+pub use text_list::TextList;
