@@ -1,0 +1,16 @@
+// A text without its front or its back.
+ghost use Rattle.std.specs.Prelude.{◌≡◌, ◌++◌, List, ℕ, MatchOption};
+
+/// What follows `front` in a text that begins with it.
+pub fn strip_front<'a>(text: &'a [u8], front: &[u8]) -> Option<&'a [u8]>
+    ensures { MatchOption result ((rest : List ℕ) → ¬ (text.now ≡ front.now ++ rest)) (λ rest. text.now ≡ front.now ++ rest.now) }
+{
+    text.strip_prefix(front)
+}
+
+/// What stands before `back` in a text that ends with it.
+pub fn strip_back<'a>(text: &'a [u8], back: &[u8]) -> Option<&'a [u8]>
+    ensures { MatchOption result ((rest : List ℕ) → ¬ (text.now ≡ rest ++ back.now)) (λ rest. text.now ≡ rest.now ++ back.now) }
+{
+    text.strip_suffix(back)
+}
