@@ -2,8 +2,12 @@
 //! give permissions to a caller, and rows of fields.
 #![tactic(auto)]
 
+mod caller;
 mod permit;
+mod sight;
 mod table;
 
+pub use caller::{Caller, Products};
 pub use permit::{Permission, Permissions};
+pub use sight::{granted, visible};
 pub use table::{Field, FieldKind};

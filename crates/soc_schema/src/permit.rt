@@ -1,26 +1,70 @@
 //! What a caller may do.
-ghost use Rattle.std.specs.Prelude.{◌≡◌, ◌↔◌, IsTrue};
+ghost use Rattle.std.specs.Prelude.{◌≡◌, ◌≢◌, false, true};
+ghost use Rattle.soc_schema.specs.declared.permit.Permission.{Permission};
 
 /// Something that a caller may do or see.
 #[derive(Clone, Copy, PartialEq, Eq, Debug)]
 pub enum Permission {
-    /// What everybody may see. Each caller holds it.
+    /// To see what everybody may see. Each set has it.
     Public,
-    /// To see the fields and annotations that may name a person or what they did.
+    /// To see the fields and annotations that may tell of a person.
     ProtectedData,
     /// To see the dumps as they came.
     ViewRawdump,
     /// To have crashes processed again, or before others.
     ReprocessCrashes,
-    /// To run and stop the service.
+    /// To run and to stop the service.
     Operate,
 }
 
-/// A set of permissions. `Permission::Public` is always in it.
+/// A set of permissions. `Permission::Public` is in each.
 #[derive(Clone, Copy, PartialEq, Eq, Debug)]
 pub struct Permissions {
     protected_data: bool,
     view_rawdump: bool,
     reprocess_crashes: bool,
     operate: bool,
+}
+
+impl Permissions {
+    ghost use Rattle.soc_schema.specs.Permits.{holds};
+
+    /// The set that has `Permission::Public` alone.
+    pub fn public() -> Permissions
+        ensures { (q : Permission) → q ≢ Permission.Public → holds result q ≡ false }
+    {
+        Permissions {
+            protected_data: false,
+            view_rawdump: false,
+            reprocess_crashes: false,
+            operate: false,
+        }
+    }
+
+    /// Whether the set has the permission.
+    pub fn has(&self, p: Permission) -> bool
+        ensures { result ≡ holds self.now p }
+    {
+        match p {
+            Permission::Public => true,
+            Permission::ProtectedData => self.protected_data,
+            Permission::ViewRawdump => self.view_rawdump,
+            Permission::ReprocessCrashes => self.reprocess_crashes,
+            Permission::Operate => self.operate,
+        }
+    }
+
+    /// Puts the permission into the set.
+    pub fn add(&mut self, p: Permission)
+        ensures added { holds self.new p ≡ true }
+        ensures others { (q : Permission) → q ≢ p → holds self.new q ≡ holds self.old q }
+    {
+        match p {
+            Permission::Public => {}
+            Permission::ProtectedData => self.protected_data = true,
+            Permission::ViewRawdump => self.view_rawdump = true,
+            Permission::ReprocessCrashes => self.reprocess_crashes = true,
+            Permission::Operate => self.operate = true,
+        }
+    }
 }

@@ -62,8 +62,18 @@ static TABLE: [Entry; 36] = [
     entry!("adapter_vendor_id", Text, Public, Some("AdapterVendorID")),
     entry!("addons", Text, ProtectedData, Some("Add-ons")),
     entry!("address", Text, ProtectedData, None),
-    entry!("async_shutdown_timeout", Text, ProtectedData, Some("AsyncShutdownTimeout")),
-    entry!("available_page_file", Number, Public, Some("AvailablePageFile")),
+    entry!(
+        "async_shutdown_timeout",
+        Text,
+        ProtectedData,
+        Some("AsyncShutdownTimeout")
+    ),
+    entry!(
+        "available_page_file",
+        Number,
+        Public,
+        Some("AvailablePageFile")
+    ),
     entry!("build_id", Number, Public, Some("BuildID")),
     entry!("cpu_arch", Text, Public, None),
     entry!("cpu_count", Number, Public, None),
@@ -76,7 +86,12 @@ static TABLE: [Entry; 36] = [
     entry!("module_count", Number, Public, None),
     entry!("moz_crash_reason", Text, Public, Some("MozCrashReason")),
     entry!("notes", Text, ProtectedData, None),
-    entry!("oom_allocation_size", Number, Public, Some("OOMAllocationSize")),
+    entry!(
+        "oom_allocation_size",
+        Number,
+        Public,
+        Some("OOMAllocationSize")
+    ),
     entry!("platform", Text, Public, None),
     entry!("platform_version", Text, Public, None),
     entry!("process_type", Text, Public, Some("ProcessType")),
@@ -97,40 +112,75 @@ static TABLE: [Entry; 36] = [
 
 impl Field {
     pub const ABORT_MESSAGE: Field = Field { place: 0 };
+
     pub const ADAPTER_DEVICE_ID: Field = Field { place: 1 };
+
     pub const ADAPTER_VENDOR_ID: Field = Field { place: 2 };
+
     pub const ADDONS: Field = Field { place: 3 };
+
     pub const ADDRESS: Field = Field { place: 4 };
+
     pub const ASYNC_SHUTDOWN_TIMEOUT: Field = Field { place: 5 };
+
     pub const AVAILABLE_PAGE_FILE: Field = Field { place: 6 };
+
     pub const BUILD_ID: Field = Field { place: 7 };
+
     pub const CPU_ARCH: Field = Field { place: 8 };
+
     pub const CPU_COUNT: Field = Field { place: 9 };
+
     pub const CRASHING_THREAD: Field = Field { place: 10 };
+
     pub const DATE: Field = Field { place: 11 };
+
     pub const EMAIL: Field = Field { place: 12 };
+
     pub const FRAME_COUNT: Field = Field { place: 13 };
+
     pub const INSTALL_AGE: Field = Field { place: 14 };
+
     pub const IPC_CHANNEL_ERROR: Field = Field { place: 15 };
+
     pub const MODULE_COUNT: Field = Field { place: 16 };
+
     pub const MOZ_CRASH_REASON: Field = Field { place: 17 };
+
     pub const NOTES: Field = Field { place: 18 };
+
     pub const OOM_ALLOCATION_SIZE: Field = Field { place: 19 };
+
     pub const PLATFORM: Field = Field { place: 20 };
+
     pub const PLATFORM_VERSION: Field = Field { place: 21 };
+
     pub const PROCESS_TYPE: Field = Field { place: 22 };
+
     pub const PRODUCT: Field = Field { place: 23 };
+
     pub const PROTO_SIGNATURE: Field = Field { place: 24 };
+
     pub const REASON: Field = Field { place: 25 };
+
     pub const RELEASE_CHANNEL: Field = Field { place: 26 };
+
     pub const SIGNATURE: Field = Field { place: 27 };
+
     pub const STARTUP_CRASH: Field = Field { place: 28 };
+
     pub const SUCCESS: Field = Field { place: 29 };
+
     pub const THROTTLE_RULE: Field = Field { place: 30 };
+
     pub const UPTIME: Field = Field { place: 31 };
+
     pub const URL: Field = Field { place: 32 };
+
     pub const USER_COMMENTS: Field = Field { place: 33 };
+
     pub const UUID: Field = Field { place: 34 };
+
     pub const VERSION: Field = Field { place: 35 };
 
     /// How many fields there are.

@@ -1,6 +1,5 @@
-use Rattle.std.proofs.Common.{◌≡◌, ◌<◌, ◌∙◌, arith, sym, ap, Some, subst}
+use Rattle.std.proofs.Common.{◌∙◌, arith, sym}
 use Rattle.std.specs.Cmp.Lexicographic.{same_text}
-use Rattle.soc_schema.specs.Fields.{name_of, field_named}
 use Rattle.soc_schema.proofs.TableLemmas.{field_named-found, field_named-absent}
 use Rattle.soc_schema.proofs.table.Field.named.Goals as goal
 

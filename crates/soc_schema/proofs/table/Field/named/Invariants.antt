@@ -1,4 +1,4 @@
-use Rattle.std.proofs.Common.{◌≡◌, ◌≢◌, ℕ, ◌<◌}
+use Rattle.std.proofs.Common.{◌≢◌, ℕ, ◌<◌}
 use Rattle.soc_schema.specs.Fields.{name_of}
 use Rattle.soc_schema.proofs.table.Field.named.Given as goal
 

@@ -1,5 +1,4 @@
-use Rattle.std.proofs.Common.{◌≡◌, ◌<◌, ◌∙◌, arith, rules, sym}
-use Rattle.soc_schema.specs.Fields.{source_of, field_of_annotation}
+use Rattle.std.proofs.Common.{arith, rules, sym}
 use Rattle.soc_schema.proofs.TableLemmas.{field_of_annotation-found, field_of_annotation-absent}
 use Rattle.soc_schema.proofs.table.Field.of_annotation.Goals as goal
 

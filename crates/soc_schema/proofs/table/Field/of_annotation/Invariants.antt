@@ -1,4 +1,4 @@
-use Rattle.std.proofs.Common.{◌≡◌, ◌≢◌, ℕ, ◌<◌, Some}
+use Rattle.std.proofs.Common.{◌≢◌, ℕ, ◌<◌, Some}
 use Rattle.soc_schema.specs.Fields.{source_of}
 use Rattle.soc_schema.proofs.table.Field.of_annotation.Given as goal
 

@@ -1,0 +1,31 @@
+-- Who may see what.
+use Rattle.std.specs.Prelude.{ℕ, Bool, true, List, Option, None, Some, IsTrue, Contains, ⊤}
+use Rattle.soc_schema.specs.declared.permit.Permission.{Permission}
+use Rattle.soc_schema.specs.declared.permit.Permission.TheVariants.{Public, ProtectedData, ViewRawdump, ReprocessCrashes, Operate}
+use Rattle.soc_schema.specs.declared.permit.Permissions.{Permissions}
+use Rattle.soc_schema.specs.declared.caller.Products.{Products}
+use Rattle.soc_schema.specs.declared.caller.Products.TheVariants.{All as AllProducts, Some as OnlyProducts}
+use Rattle.soc_schema.specs.declared.caller.Caller.{Caller}
+use Rattle.soc_schema.specs.Fields.{permission_of}
+
+-- whether the set has the permission
+abbrev pub holds : Permissions → Permission → Bool
+holds s Public = true
+holds s ProtectedData = s.protected_data
+holds s ViewRawdump = s.view_rawdump
+holds s ReprocessCrashes = s.reprocess_crashes
+holds s Operate = s.operate
+
+-- the caller may see the field
+abbrev pub Granted : Caller → ℕ → Type 0
+Granted caller f = IsTrue (holds caller.permissions (permission_of f))
+
+-- these products are shown: each of them, or those of the list
+abbrev pub Shows : Products → Option (List ℕ) → Type 0
+Shows AllProducts product = ⊤
+Shows (OnlyProducts names) None = ⊥
+Shows (OnlyProducts names) (Some product) = Contains names product
+
+-- the caller may see the crashes of the product, or those without one
+abbrev pub Visible : Caller → Option (List ℕ) → Type 0
+Visible caller product = Shows caller.products product

@@ -1,0 +1,39 @@
+//! What a caller sees.
+ghost use Rattle.std.specs.Prelude.{◌↔◌, IsTrue, Contains, option_map};
+ghost use Rattle.soc_schema.specs.Permits.{Granted, Visible};
+
+use crate::caller::{Caller, Products};
+use crate::table::Field;
+use soc_raw::TextList;
+
+/// Whether the caller may see the field.
+pub fn granted(caller: &Caller, field: Field) -> bool
+    ensures { IsTrue result ↔ Granted caller.now field }
+{
+    caller.permissions.has(field.permission())
+}
+
+/// Whether the caller may see the crashes of the product, or those without one.
+pub fn visible(caller: &Caller, product: Option<&str>) -> bool
+    ensures { IsTrue result ↔ Visible caller.now (option_map (λ p. p.now) product.entry) }
+{
+    match &caller.products {
+        Products::All => true,
+        Products::Some(names) => match product {
+            Some(product) => contains(names, product),
+            None => false,
+        },
+    }
+}
+
+/// Whether the list has the text.
+fn contains(names: &TextList, text: &str) -> bool
+    ensures { IsTrue result ↔ Contains names.now text.now }
+{
+    for i in 0..names.len() {
+        if names.at(i) == text {
+            return true;
+        }
+    }
+    false
+}
