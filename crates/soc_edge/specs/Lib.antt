@@ -1,3 +1,5 @@
+pub mod Calls
 pub mod Faults
-pub mod Told
+pub mod Memory
 pub mod Moment
+pub mod Told

@@ -1,6 +1,6 @@
 -- What an object outside tells of its content. It is optional: `None` where the object doesn't tell.
 -- A clause on content holds where it is told, and is written `IfSome told (λ bytes. ..)`.
-use Rattle.std.specs.Prelude.{◌≡◌, ℕ, ◌+◌, Option, IfSome, List, [], ◌∷◌}
+use Rattle.std.specs.Prelude.{◌≡◌, ℕ, ◌+◌, ◌<◌, Option, IfSome, List, [], ◌∷◌, length, take}
 use Rattle.std.specs.Io.KnownBytes.{append_known, prepend_known}
 
 -- what was left began with these bytes, and loses them; what wasn't told is not told afterwards
@@ -10,6 +10,12 @@ Gives before after bytes = before ≡ prepend_known bytes after
 -- what is held grows by these bytes at its end; what wasn't told is not told afterwards
 abbrev pub Takes : Option (List ℕ) → Option (List ℕ) → List ℕ → Type 0
 Takes before after bytes = after ≡ append_known before bytes
+
+-- what is held grows by the first of these bytes, and not by all of them
+pub record TakesFront (before after : Option (List ℕ)) (bytes : List ℕ) : Type 0 where
+  pub count : ℕ
+  pub not_all : count < length bytes
+  pub takes : Takes before after (take count bytes)
 
 -- the first of what was to come was handed out, and the rest has moved up by one.
 -- What is to come is told number by number: the k-th call from here gives the k-th of it, where that is told.

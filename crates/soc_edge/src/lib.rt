@@ -8,10 +8,14 @@
 
 mod clock;
 mod failed;
+mod memory;
 mod sink;
 mod source;
+mod whole;
 
 pub use clock::{Clock, Draws};
 pub use failed::Failed;
+pub use memory::{BytesList, Ids16, MemClock, MemDraws, MemSink, MemSource, Numbers};
 pub use sink::Sink;
 pub use source::Source;
+pub use whole::write_all;

@@ -1,0 +1,27 @@
+-- The calls of an object in memory: it fails at the numbers that it was given, counted from 0.
+use Rattle.std.specs.Prelude.{ℕ, ◌+◌, ◌-◌, ◌^◌, min, Bool, List, nat_eq, Result, is_err, if◌then◌else◌}
+use Rattle.std.specs.List.{list_any}
+
+-- how many calls were made, how many of them failed, and the numbers of those that fail
+pub record Calls : Type 0 where
+  pub fails : List ℕ
+  pub made : ℕ
+  pub failed : ℕ
+
+abbrev pub no_calls : List ℕ → Calls
+no_calls fails = record { fails = fails; made = 0; failed = 0 }
+
+-- the next call is one of those that fail
+abbrev pub is_due : Calls → Bool
+is_due calls = list_any (λ n. nat_eq n calls.made) calls.fails
+
+-- one more; a count stands still at its last value
+abbrev pub one_more : ℕ → ℕ
+one_more n = min (n + 1) (2 ^ 64 - 1)
+
+-- after a call that answered this
+abbrev pub after_call : {T E : Type 0} → Calls → Result T E → Calls
+after_call calls answer = record calls {
+  made = one_more calls.made;
+  failed = if is_err answer then one_more calls.failed else calls.failed;
+}

@@ -1,0 +1,23 @@
+-- What the stand-ins in memory are, as contracts see them.
+use Rattle.std.specs.Prelude.{ℕ, ◌-◌, min, Option, List, length, slice_get}
+use Rattle.soc_edge.specs.Calls.{Calls}
+
+-- a source: the bytes that are left, and its calls
+pub record InputState : Type 0 where
+  pub left : List ℕ
+  pub calls : Calls
+
+-- a sink: the bytes that it holds, how many it has room for in all, and its calls
+pub record OutputState : Type 0 where
+  pub held : List ℕ
+  pub room : ℕ
+  pub calls : Calls
+
+-- draws: the numbers and the ids that are still to come
+pub record DrawsState : Type 0 where
+  pub throttles : List ℕ
+  pub ids : List (List ℕ)
+
+-- a list in order, and then its last item again and again
+abbrev pub repeating : {A : Type 0} → List A → ℕ → Option A
+repeating xs k = slice_get xs (min k (length xs - 1))

@@ -1,0 +1,13 @@
+// Stand-ins in memory for what lies outside.
+mod calls;
+mod clock;
+mod draws;
+mod lists;
+mod sink;
+mod source;
+
+pub use clock::MemClock;
+pub use draws::MemDraws;
+pub use lists::{BytesList, Ids16, Numbers};
+pub use sink::MemSink;
+pub use source::MemSource;
