@@ -1,4 +1,5 @@
 pub mod Calls
+pub mod Disk
 pub mod Faults
 pub mod Memory
 pub mod Moment

@@ -6,16 +6,22 @@
 //! causes of its answers all the same.
 #![tactic(auto)]
 
+mod both;
 mod clock;
+mod disk;
 mod failed;
 mod memory;
 mod sink;
 mod source;
+mod tells;
 mod whole;
 
+pub use both::Both;
 pub use clock::{Clock, Draws};
+pub use disk::Disk;
 pub use failed::Failed;
 pub use memory::{BytesList, Ids16, MemClock, MemDraws, MemSink, MemSource, Numbers};
 pub use sink::Sink;
 pub use source::Source;
+pub use tells::Tells;
 pub use whole::write_all;

@@ -1,5 +1,5 @@
 // Writes of a whole piece.
-ghost use Rattle.std.specs.Prelude.{◌≤◌, OnOk, OnErr};
+ghost use Rattle.std.specs.Prelude.{◌≡◌, ◌≤◌, OnOk, OnErr};
 ghost use Rattle.soc_edge.specs.Faults.{Rose};
 ghost use Rattle.soc_edge.specs.Told.{Takes, TakesFront};
 
@@ -11,6 +11,8 @@ pub fn write_all<K: Sink>(sink: &mut K, bytes: &[u8]) -> Result<(), Failed>
     ensures front { OnErr result (TakesFront (K.held sink.old) (K.held sink.new) bytes.now) }
     ensures never_falls { K.write_faults sink.old ≤ K.write_faults sink.new }
     ensures cause { OnErr result (Rose (K.write_faults sink.old) (K.write_faults sink.new)) }
+    ensures left_stays { K.left sink.new ≡ K.left sink.old }
+    ensures read_faults_stay { K.read_faults sink.new ≡ K.read_faults sink.old }
 {
     let mut at = 0;
     while at < bytes.len() {

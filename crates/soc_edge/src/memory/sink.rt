@@ -6,7 +6,7 @@ ghost use Rattle.soc_edge.specs.Told.{Takes};
 
 use super::calls::CallCount;
 use super::lists::Numbers;
-use crate::{Failed, Sink};
+use crate::{Failed, Sink, Tells};
 use soc_raw::NoMemory;
 use std::alloc::Global;
 use std::marker::Model;
@@ -51,11 +51,13 @@ impl MemSink {
     }
 }
 
-impl Sink for MemSink {
+impl Tells for MemSink {
     ghost held = { λ s. Some s.held };
 
     ghost write_faults = { λ s. s.calls.failed };
+}
 
+impl Sink for MemSink {
     /// Takes as much as the room has left.
     fn write(&mut self, bytes: &[u8]) -> Result<usize, Failed>
         ensures count { IfOk result (λ n. n ≤ length bytes.now) }

@@ -7,7 +7,7 @@ ghost use Rattle.soc_edge.specs.Told.{Gives};
 
 use super::calls::CallCount;
 use super::lists::Numbers;
-use crate::{Failed, Source};
+use crate::{Failed, Source, Tells};
 use soc_raw::Bytes;
 use std::marker::Model;
 
@@ -43,11 +43,13 @@ impl MemSource {
     }
 }
 
-impl Source for MemSource {
+impl Tells for MemSource {
     ghost left = { λ s. Some s.left };
 
     ghost read_faults = { λ s. s.calls.failed };
+}
 
+impl Source for MemSource {
     /// Gives as much as there is room for.
     fn read(&mut self, into: &mut [u8]) -> Result<usize, Failed>
         ensures count { IfOk result (λ n. n ≤ length into.new) }

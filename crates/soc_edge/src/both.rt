@@ -1,0 +1,33 @@
+// A source and a sink as one.
+use crate::{Failed, Sink, Source, Tells};
+
+/// Joins a source and a sink, as the two directions of a connection.
+#[derive(Debug, Drop)]
+pub struct Both<S, K> {
+    /// What is read.
+    pub source: S,
+    /// What is written.
+    pub sink: K,
+}
+
+impl<S: Tells, K: Tells> Tells for Both<S, K> {
+    ghost left = { λ b. S.left b.source };
+
+    ghost held = { λ b. K.held b.sink };
+
+    ghost read_faults = { λ b. S.read_faults b.source };
+
+    ghost write_faults = { λ b. K.write_faults b.sink };
+}
+
+impl<S: Source, K: Tells> Source for Both<S, K> {
+    fn read(&mut self, into: &mut [u8]) -> Result<usize, Failed> {
+        self.source.read(into)
+    }
+}
+
+impl<S: Tells, K: Sink> Sink for Both<S, K> {
+    fn write(&mut self, bytes: &[u8]) -> Result<usize, Failed> {
+        self.sink.write(bytes)
+    }
+}
