@@ -1,1 +1,3 @@
+pub mod Calendar
+pub mod Ids
 pub mod Places

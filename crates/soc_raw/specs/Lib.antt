@@ -1,1 +1,4 @@
+pub mod CrashId
+pub mod Day
+pub mod Digit
 pub mod Names

@@ -2,13 +2,21 @@
 #![tactic(auto)]
 
 mod bytes;
+mod crash_id;
+mod day;
+mod digit;
 mod named;
 mod no_memory;
 mod pairs;
+#[cfg(test)]
+mod tests;
 mod text;
 mod text_list;
 
 pub use bytes::Bytes;
+pub use crash_id::CrashId;
+pub use day::{Date, FIRST_MOMENT, LAST_MOMENT, day_of};
+pub use digit::Digit;
 pub use named::{Blobs, Texts};
 pub use no_memory::NoMemory;
 pub use pairs::Pairs;
