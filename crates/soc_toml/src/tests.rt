@@ -1,0 +1,50 @@
+use crate::*;
+use std::test::Fail;
+
+const DOCUMENT: &str =
+    "name = \"rest_1\"\nkey = \"a b\"\nsize = 7\nwords = [\"a\", \"b\"]\nall = \"all\"\n[[rule]]\n[[rule]]\n";
+
+#[test]
+fn reads_each_kind(rt: HostRuntime) -> Result<(), Fail> {
+    let alloc = rt.alloc();
+    let table = toml::table_from_str(alloc, DOCUMENT)?;
+    assert!(rt; value_at(&table, "size").is_some());
+    assert!(rt; value_at(&table, "sizes").is_none());
+    assert_eq!(rt; text_at(&table, "key"), Some("a b"));
+    assert_eq!(rt; text_at(&table, "size"), None);
+    assert_eq!(rt; name_at(&table, "name", 6), Some("rest_1"));
+    assert_eq!(rt; name_at(&table, "name", 5), None);
+    assert_eq!(rt; visible_at(&table, "key", 64), None);
+    assert_eq!(rt; visible_at(&table, "name", 64), Some("rest_1"));
+    assert_eq!(rt; number_or(&table, "size", 1, 0, 7), Some(7));
+    assert_eq!(rt; number_or(&table, "size", 1, 8, 9), None);
+    assert_eq!(rt; number_or(&table, "sizes", 1, 8, 9), Some(1));
+    assert_eq!(rt;
+        first_other_key(&table, &["all", "key", "rule", "words"]),
+        Some("name")
+    );
+    Ok(())
+}
+
+#[test]
+fn reads_arrays(rt: HostRuntime) -> Result<(), Fail> {
+    let alloc = rt.alloc();
+    let table = toml::table_from_str(alloc, DOCUMENT)?;
+    let words = value_at(&table, "words").ok_or("words")?;
+    let two = texts_within(alloc, words, 2)?.ok_or("two")?;
+    assert_eq!(rt; two.len(), 2);
+    assert_eq!(rt; two.at(1), "b");
+    assert!(rt; texts_within(alloc, words, 1)?.is_none());
+    assert_eq!(rt; texts_of(alloc, words)?.ok_or("all")?.len(), 2);
+    let rules = value_at(&table, "rule").ok_or("rule")?;
+    assert!(rt; texts_of(alloc, rules)?.is_none());
+    assert!(rt; is_table_array(rules, 2));
+    assert!(rt; !is_table_array(rules, 1));
+    assert!(rt; !is_table_array(words, 2));
+    assert!(rt; is_text(value_at(&table, "all").ok_or("all")?, "all"));
+    assert_eq!(rt;
+        number_of(value_at(&table, "size").ok_or("size")?, 7, 7),
+        Some(7)
+    );
+    Ok(())
+}
