@@ -38,14 +38,11 @@ pub record Outlook : Type 0 where
   pub throttles : ℕ → Option ℕ
   pub ids : ℕ → Option (List ℕ)
 
--- one moment, one throttle draw and one id draw were handed out, in whatever order, and nothing else
-pub record HandsOne (before after : Outlook) (moment throttle : ℕ) (id : List ℕ) : Type 0 where
-  pub moments : HandsOut before.moments after.moments moment
-  pub throttles : HandsOut before.throttles after.throttles throttle
-  pub ids : HandsOut before.ids after.ids id
+abbrev pub outlook : (ℕ → Option ℕ) → (ℕ → Option ℕ) → (ℕ → Option (List ℕ)) → Outlook
+outlook moments throttles ids = record { moments = moments; throttles = throttles; ids = ids }
 
--- nothing was handed out
-pub record SameOutlook (before after : Outlook) : Type 0 where
-  pub moments : SameAhead before.moments after.moments
-  pub throttles : SameAhead before.throttles after.throttles
-  pub ids : SameAhead before.ids after.ids
+-- these moments, throttle draws and id draws were handed out, each list in its order, and nothing else
+pub record Hands (before after : Outlook) (moments throttles : List ℕ) (ids : List (List ℕ)) : Type 0 where
+  pub by_clock : HandsAll before.moments after.moments moments
+  pub by_throttle : HandsAll before.throttles after.throttles throttles
+  pub by_id : HandsAll before.ids after.ids ids
