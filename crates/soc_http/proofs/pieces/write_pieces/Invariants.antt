@@ -1,0 +1,8 @@
+use Rattle.std.proofs.Common.{take, ◌≤◌}
+use Rattle.soc_http.specs.Pieces.{pieces_text, IsSent}
+use Rattle.soc_http.proofs.pieces.write_pieces.Given as goal
+
+abbrev pub invariant-loop-piece : goal.invariant-loop-piece
+invariant-loop-piece g l =
+    IsSent (g.K.Sink.held l.initial.sink) (g.K.Sink.held l.sink) l.pending (pieces_text (take l.piece-index l.pieces))
+    × (g.K.Sink.write_faults l.initial.sink ≤ g.K.Sink.write_faults l.sink)

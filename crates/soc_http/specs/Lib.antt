@@ -1,0 +1,5 @@
+pub mod Block
+pub mod Request
+pub mod Message
+pub mod Reply
+pub mod Pieces
