@@ -3,10 +3,10 @@
 use Rattle.std.specs.Prelude.{ℕ, ◌<◌, Bool, false, List, [], ◌∷◌, Option, None, Some, slice_index_or, codes, position, nat_eq}
 use Rattle.std.specs.Option.{option_map_or}
 use lib.Pointwise.{pointwise}
-use Rattle.soc_schema.specs.declared.permit.Permission.{Permission}
-use Rattle.soc_schema.specs.declared.permit.Permission.TheVariants.{Public, ProtectedData}
-use Rattle.soc_schema.specs.declared.table.FieldKind.{FieldKind}
-use Rattle.soc_schema.specs.declared.table.FieldKind.TheVariants.{Text, Number, Flag}
+use Rattle.soc_schema.specs.declared.permission.Permission.{Permission}
+use Rattle.soc_schema.specs.declared.permission.Permission.TheVariants.{Public, ProtectedData}
+use Rattle.soc_schema.specs.declared.field.FieldKind.{FieldKind}
+use Rattle.soc_schema.specs.declared.field.FieldKind.TheVariants.{Text, Number, Flag}
 
 -- one line of the table: the source is the annotation that alone makes the field
 pub record FieldEntry : Type 0 where

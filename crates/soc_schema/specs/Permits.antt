@@ -1,8 +1,8 @@
 -- Who may see what.
 use Rattle.std.specs.Prelude.{ℕ, Bool, true, List, Option, None, Some, IsTrue, Contains, ⊤}
-use Rattle.soc_schema.specs.declared.permit.Permission.{Permission}
-use Rattle.soc_schema.specs.declared.permit.Permission.TheVariants.{Public, ProtectedData, ViewRawdump, ReprocessCrashes, Operate}
-use Rattle.soc_schema.specs.declared.permit.Permissions.{Permissions}
+use Rattle.soc_schema.specs.declared.permission.Permission.{Permission}
+use Rattle.soc_schema.specs.declared.permission.Permission.TheVariants.{Public, ProtectedData, ViewRawdump, ReprocessCrashes, Operate}
+use Rattle.soc_schema.specs.declared.permission.Permissions.{Permissions}
 use Rattle.soc_schema.specs.declared.caller.Products.{Products}
 use Rattle.soc_schema.specs.declared.caller.Products.TheVariants.{All as AllProducts, Some as OnlyProducts}
 use Rattle.soc_schema.specs.declared.caller.Caller.{Caller}

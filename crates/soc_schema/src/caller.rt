@@ -1,5 +1,5 @@
 //! Who asks, and what they may see.
-use crate::permit::Permissions;
+use crate::permission::Permissions;
 use soc_raw::TextList;
 
 /// The products whose crashes are shown.

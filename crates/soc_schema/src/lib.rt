@@ -3,11 +3,15 @@
 #![tactic(auto)]
 
 mod caller;
-mod permit;
+mod field;
+mod permission;
+mod row;
 mod sight;
-mod table;
+mod value;
 
 pub use caller::{Caller, Products};
-pub use permit::{Permission, Permissions};
+pub use field::{Field, FieldKind};
+pub use permission::{Permission, Permissions};
+pub use row::Row;
 pub use sight::{granted, visible};
-pub use table::{Field, FieldKind};
+pub use value::{Cell, Value};

@@ -3,7 +3,7 @@ ghost use Rattle.std.specs.Prelude.{◌↔◌, IsTrue, Contains, option_map};
 ghost use Rattle.soc_schema.specs.Permits.{Granted, Visible};
 
 use crate::caller::{Caller, Products};
-use crate::table::Field;
+use crate::field::Field;
 use soc_raw::TextList;
 
 /// Whether the caller may see the field.

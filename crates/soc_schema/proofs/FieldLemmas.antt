@@ -6,8 +6,8 @@ use Rattle.std.specs.Cmp.Lexicographic.{same_text, other_text}
 use Rattle.std.proofs.lemmas.List.{get_or-map as get_or-map_within}
 use Rattle.std.proofs.lemmas.Iterator.Adapters.{position_from-zero}
 use Rattle.std.proofs.Math.ListN.{get_or-map}
-use Rattle.soc_schema.specs.declared.permit.Permission.TheVariants.{Public}
-use Rattle.soc_schema.specs.declared.table.FieldKind.TheVariants.{Text}
+use Rattle.soc_schema.specs.declared.permission.Permission.TheVariants.{Public}
+use Rattle.soc_schema.specs.declared.field.FieldKind.TheVariants.{Text}
 use Rattle.soc_schema.specs.Fields.{FieldEntry, IsField, field_table, field_entry, name_of, source_of, is_text, comes_from, field_named, field_of_annotation, made}
 
 -- two lists that one column cannot tell apart have the same in that column at each place

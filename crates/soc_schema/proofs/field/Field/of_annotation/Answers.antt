@@ -1,6 +1,6 @@
 use Rattle.std.proofs.Common.{arith, rules, sym}
-use Rattle.soc_schema.proofs.TableLemmas.{field_of_annotation-found, field_of_annotation-absent}
-use Rattle.soc_schema.proofs.table.Field.of_annotation.Goals as goal
+use Rattle.soc_schema.proofs.FieldLemmas.{field_of_annotation-found, field_of_annotation-absent}
+use Rattle.soc_schema.proofs.field.Field.of_annotation.Goals as goal
 
 pub returns-then-comes_from-clause-value : goal.returns-then-comes_from-clause-value
 returns-then-comes_from-clause-value c =

@@ -3,7 +3,7 @@
 ghost use Rattle.std.specs.Prelude.{◌≡◌, ◌≢◌, ◌↔◌, ℕ, IsTrue, None, Some, MatchOption, option_map, length, map};
 ghost use Rattle.soc_schema.specs.Fields.{IsField, field_table, name_of, kind_of, permission_of, source_of, field_named, field_of_annotation};
 
-use crate::permit::Permission;
+use crate::permission::Permission;
 use std::marker::Model;
 
 /// What the values of a field are.

@@ -1,7 +1,7 @@
 -- The table in the code and the one of the definitions have the same columns.
 use Rattle.std.proofs.Common.{refl}
 use Rattle.soc_schema.specs.Fields.{field_table}
-use Rattle.soc_schema.proofs.table.table.Goals as goal
+use Rattle.soc_schema.proofs.field.table.Goals as goal
 
 pub returns-clause-names : goal.returns-clause-names
 unfolding field_table

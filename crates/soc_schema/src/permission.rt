@@ -1,6 +1,6 @@
 //! What a caller may do.
 ghost use Rattle.std.specs.Prelude.{◌≡◌, ◌≢◌, false, true};
-ghost use Rattle.soc_schema.specs.declared.permit.Permission.{Permission};
+ghost use Rattle.soc_schema.specs.declared.permission.Permission.{Permission};
 
 /// Something that a caller may do or see.
 #[derive(Clone, Copy, PartialEq, Eq, Debug)]

@@ -1,9 +1,9 @@
 -- Each column of the table is that of the definitions, and so is what it has at the field's place.
 use Rattle.std.proofs.Common.{◌<◌, ◌∙◌, length, option_map, arith}
-use Rattle.soc_schema.specs.declared.table.Entry.{Entry}
+use Rattle.soc_schema.specs.declared.field.Entry.{Entry}
 use Rattle.soc_schema.specs.Fields.{field_table, field_entry, name_of, kind_of, permission_of, source_of}
-use Rattle.soc_schema.proofs.TableLemmas.{column_at}
-use Rattle.soc_schema.proofs.table.Field.entry.Goals as goal
+use Rattle.soc_schema.proofs.FieldLemmas.{column_at}
+use Rattle.soc_schema.proofs.field.Field.entry.Goals as goal
 
 pub returns-clause-name : goal.returns-clause-name
 unfolding name_of field_entry

@@ -1,7 +1,7 @@
 use Rattle.std.proofs.Common.{◌∙◌, arith, sym}
 use Rattle.std.specs.Cmp.Lexicographic.{same_text}
-use Rattle.soc_schema.proofs.TableLemmas.{field_named-found, field_named-absent}
-use Rattle.soc_schema.proofs.table.Field.named.Goals as goal
+use Rattle.soc_schema.proofs.FieldLemmas.{field_named-found, field_named-absent}
+use Rattle.soc_schema.proofs.field.Field.named.Goals as goal
 
 pub returns-then-eq-clause-value : goal.returns-then-eq-clause-value
 returns-then-eq-clause-value c =

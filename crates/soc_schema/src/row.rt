@@ -1,0 +1,133 @@
+//! What a report says: a value for some of the fields.
+ghost use Rattle.std.specs.Prelude.{◌≡◌, ◌≢◌, ◌↔◌, ◌<◌, ◌≤◌, ℕ, [], length, slice_index, slice_get, option_map, IsTrue, OnOk, OnErr, Some, MatchResult};
+ghost use Rattle.soc_schema.specs.Fields.{IsField, kind_of};
+ghost use Rattle.soc_schema.specs.Rows.{HasFieldAt, IsRow, LacksFieldAt, cell, fields, kind_of_value, value_of, with_value};
+
+use crate::field::Field;
+use crate::value::{Cell, Value};
+use soc_raw::NoMemory;
+use std::alloc::Global;
+use std::marker::Model;
+
+/// A list of fields and their values in the order of the table, with at most one value for each field and of its
+/// kind.
+#[derive(Debug, Drop)]
+pub struct Row {
+    cells: Vec<Cell>,
+}
+
+impl Model for Row {
+    ghost use Rattle.std.specs.Prelude.{List};
+    ghost use Rattle.soc_schema.specs.declared.value.Cell.{Cell};
+    ghost use Rattle.soc_schema.specs.Rows.{IsRow};
+
+    ghost Value = { List Cell };
+
+    ghost view = { λ r. r.cells.items };
+
+    ghost invariant = { λ r. IsRow r.cells.items };
+}
+
+impl Row {
+    /// The row with no field.
+    pub fn new(alloc: Global) -> Row
+        ensures { result ≡ [] }
+    {
+        Row {
+            cells: Vec::new(alloc),
+        }
+    }
+
+    /// Gives the field this value, in the place of the one that it had.
+    pub fn set(&mut self, field: Field, value: Value) -> Result<(), NoMemory>
+        requires { kind_of_value value ≡ kind_of field }
+        ensures ok { OnOk result (self.new ≡ with_value self.old field value) }
+        ensures value { OnOk result (value_of self.new field ≡ Some value) }
+        ensures others { OnOk result ((other : ℕ) → other ≢ field → value_of self.new other ≡ value_of self.old other) }
+        ensures err { OnErr result (self.new ≡ self.old) }
+    {
+        match find(&self.cells, field) {
+            Ok(place) => self.cells[place] = Cell { field, value },
+            Err(place) => self.cells.insert(place, Cell { field, value })?,
+        }
+        Ok(())
+    }
+
+    /// The field's value, where the row has one.
+    pub fn get(&self, field: Field) -> Option<&Value>
+        ensures { option_map (λ v. v.now) result ≡ value_of self.now field }
+    {
+        match find(&self.cells, field) {
+            Ok(place) => Some(&self.cells[place].value),
+            Err(_) => None,
+        }
+    }
+
+    /// How many fields have a value.
+    pub fn len(&self) -> usize
+        ensures { result ≡ length self.now }
+    {
+        self.cells.len()
+    }
+
+    /// Whether no field has a value.
+    pub fn is_empty(&self) -> bool
+        ensures { IsTrue result ↔ (self.now ≡ []) }
+    {
+        self.cells.is_empty()
+    }
+
+    /// The field and the value at `i`, from 0.
+    pub fn at(&self, i: usize) -> (Field, &Value)
+        requires { i < length self.now }
+        ensures { slice_get self.now i ≡ Some (cell result.0 result.1.now) }
+    {
+        let cell = &self.cells[i];
+        (cell.field, &cell.value)
+    }
+}
+
+/// The field's place among the cells, or else the place where it would stand.
+fn find(cells: &[Cell], field: Field) -> Result<usize, usize>
+    requires { IsRow cells.now }
+    ensures place { MatchResult result (λ p. HasFieldAt cells.now field p) (λ p. LacksFieldAt cells.now field p) }
+    ensures in_table { IsField field }
+{
+    let target = field.place();
+    let place = place_of(cells, field);
+    if place == cells.len() {
+        return Err(place);
+    }
+    if field_at(cells, place) == target {
+        return Ok(place);
+    }
+    Err(place)
+}
+
+/// The first place whose field isn't before this one.
+fn place_of(cells: &[Cell], field: Field) -> usize
+    requires { IsRow cells.now }
+    ensures within { result ≤ length cells.now }
+    ensures below { (k : ℕ) → k < result → slice_index (fields cells.now) k < field }
+    ensures above { (k : ℕ) → result ≤ k → k < length cells.now → field ≤ slice_index (fields cells.now) k }
+{
+    let mut low = 0;
+    let mut high = cells.len();
+    while low < high {
+        let middle = low + (high - low) / 2;
+        if field_at(cells, middle) < field.place() {
+            low = middle + 1;
+        } else {
+            high = middle;
+        }
+    }
+    low
+}
+
+/// The place in the table of the field at `i`.
+fn field_at(cells: &[Cell], i: usize) -> u8
+    requires { i < length cells.now }
+    ensures { result ≡ slice_index (fields cells.now) i }
+{
+    cells[i].field.place()
+}

@@ -1,0 +1,53 @@
+//! What a field holds.
+ghost use Rattle.std.specs.Prelude.{◌≡◌, IfOk};
+
+use crate::field::{Field, FieldKind};
+use soc_raw::{NoMemory, Text};
+use std::alloc::Global;
+
+/// The value of a field.
+#[derive(Debug, Drop)]
+pub enum Value {
+    /// A text.
+    Text(Text),
+    /// A whole number below 2^64.
+    Number(u64),
+    /// True or false.
+    Flag(bool),
+}
+
+/// A field and its value.
+#[derive(Debug, Drop)]
+pub struct Cell {
+    /// The field.
+    pub field: Field,
+    /// A value of the field's kind.
+    pub value: Value,
+}
+
+impl Value {
+    ghost use Rattle.std.specs.Prelude.{◌≡◌, IfOk};
+    ghost use Rattle.soc_schema.specs.Rows.{kind_of_value};
+
+    /// The kind of the fields that have such values.
+    pub fn kind(&self) -> FieldKind
+        ensures { result ≡ kind_of_value self.now }
+    {
+        match self {
+            Value::Text(_) => FieldKind::Text,
+            Value::Number(_) => FieldKind::Number,
+            Value::Flag(_) => FieldKind::Flag,
+        }
+    }
+
+    /// The same value, in memory of its own.
+    pub fn copy(&self, alloc: Global) -> Result<Value, NoMemory>
+        ensures { IfOk result (λ value. value ≡ self.now) }
+    {
+        Ok(match self {
+            Value::Text(text) => Value::Text(Text::of(alloc, text.as_str())?),
+            Value::Number(number) => Value::Number(*number),
+            Value::Flag(flag) => Value::Flag(*flag),
+        })
+    }
+}
