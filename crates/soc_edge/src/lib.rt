@@ -13,7 +13,9 @@ mod failed;
 mod memory;
 mod sink;
 mod source;
+mod steps;
 mod tells;
+mod tree;
 mod whole;
 
 pub use both::Both;
@@ -23,5 +25,7 @@ pub use failed::Failed;
 pub use memory::{BytesList, Ids16, MemClock, MemDraws, MemSink, MemSource, Numbers};
 pub use sink::Sink;
 pub use source::Source;
+pub use steps::Steps;
 pub use tells::Tells;
+pub use tree::{Tree, TreeError};
 pub use whole::write_all;
