@@ -1,3 +1,4 @@
 pub mod Calendar
 pub mod Ids
+pub mod PairLists
 pub mod Places

@@ -2,3 +2,5 @@ pub mod CrashId
 pub mod Day
 pub mod Digit
 pub mod Names
+pub mod RawCrash
+pub mod Record

@@ -2,12 +2,15 @@
 #![tactic(auto)]
 
 mod bytes;
+mod copies;
 mod crash_id;
 mod day;
 mod digit;
 mod named;
 mod no_memory;
 mod pairs;
+mod raw_crash;
+mod record_error;
 #[cfg(test)]
 mod tests;
 mod text;
@@ -20,5 +23,7 @@ pub use digit::Digit;
 pub use named::{Blobs, Texts};
 pub use no_memory::NoMemory;
 pub use pairs::Pairs;
+pub use raw_crash::RawCrash;
+pub use record_error::RecordError;
 pub use text::Text;
 pub use text_list::TextList;

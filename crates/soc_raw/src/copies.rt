@@ -1,0 +1,66 @@
+//! Copies of maps, and maps that are the same.
+ghost use Rattle.std.specs.Prelude.{◌≡◌, ◌↔◌, IfOk, IsTrue};
+
+use crate::bytes::Bytes;
+use crate::named::{Blobs, Texts};
+use crate::no_memory::NoMemory;
+use crate::text::Text;
+use std::alloc::Global;
+
+/// The same texts by the same names.
+pub fn copy_of_texts(alloc: Global, texts: &Texts) -> Result<Texts, NoMemory>
+    ensures { IfOk result (λ copy. copy ≡ texts.now) }
+{
+    let mut copy = Texts::new(alloc);
+    for i in 0..texts.len() {
+        let (name, value) = texts.at(i);
+        copy.set(Text::of(alloc, name)?, Text::of(alloc, value)?)?;
+    }
+    Ok(copy)
+}
+
+/// The same bytes by the same names.
+pub fn copy_of_blobs(alloc: Global, blobs: &Blobs) -> Result<Blobs, NoMemory>
+    ensures { IfOk result (λ copy. copy ≡ blobs.now) }
+{
+    let mut copy = Blobs::new(alloc);
+    for i in 0..blobs.len() {
+        let (name, value) = blobs.at(i);
+        copy.set(Text::of(alloc, name)?, Bytes::of(alloc, value)?)?;
+    }
+    Ok(copy)
+}
+
+/// Whether two maps have the same names with the same texts.
+pub fn are_same_texts(a: &Texts, b: &Texts) -> bool
+    ensures { IsTrue result ↔ (a.now ≡ b.now) }
+{
+    if a.len() != b.len() {
+        return false;
+    }
+    for i in 0..a.len() {
+        let (name, value) = a.at(i);
+        let (other_name, other_value) = b.at(i);
+        if name != other_name || value != other_value {
+            return false;
+        }
+    }
+    true
+}
+
+/// Whether two maps have the same names with the same bytes.
+pub fn are_same_blobs(a: &Blobs, b: &Blobs) -> bool
+    ensures { IsTrue result ↔ (a.now ≡ b.now) }
+{
+    if a.len() != b.len() {
+        return false;
+    }
+    for i in 0..a.len() {
+        let (name, value) = a.at(i);
+        let (other_name, other_value) = b.at(i);
+        if name != other_name || value != other_value {
+            return false;
+        }
+    }
+    true
+}

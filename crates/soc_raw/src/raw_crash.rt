@@ -1,0 +1,58 @@
+//! Raw crashes.
+ghost use Rattle.std.specs.Prelude.{◌≡◌, ◌≤◌, ◌↔◌, length, IfOk, IsTrue};
+ghost use Rattle.soc_raw.specs.Day.{IsMoment};
+ghost use Rattle.soc_raw.specs.Record.{MAX_RECORD, record_of};
+
+use crate::copies::{are_same_blobs, are_same_texts, copy_of_blobs, copy_of_texts};
+use crate::crash_id::CrashId;
+use crate::named::{Blobs, Texts};
+use crate::no_memory::NoMemory;
+use crate::text::Text;
+use std::alloc::Global;
+
+/// A crash as it was accepted.
+#[derive(Debug, Drop)]
+pub struct RawCrash {
+    pub id: CrashId,
+    /// When it came, in seconds since 1970: a time of a clock.
+    pub moment: u64,
+    /// The number that the throttle rules drew.
+    pub draw: u64,
+    /// The name of the rule that accepted it.
+    pub rule: Text,
+    /// At most 1,024.
+    pub annotations: Texts,
+    /// At most 512.
+    pub dumps: Blobs,
+    pub ghost moment_in: { IsMoment moment },
+    pub ghost few_annotations: { length annotations ≤ 1024 },
+    pub ghost few_dumps: { length dumps ≤ 512 },
+    // The record has at most 67,108,864 bytes.
+    pub ghost fits: { length (record_of (record { id = id; moment = moment; draw = draw; rule = rule; annotations = annotations; dumps = dumps })) ≤ MAX_RECORD },
+}
+
+impl RawCrash {
+    ghost use Rattle.soc_raw.specs.RawCrash.{crash_of, HasSameContent};
+
+    /// The same raw crash, in memory of its own.
+    pub fn copy(&self, alloc: Global) -> Result<RawCrash, NoMemory>
+        ensures { IfOk result (λ copy. crash_of copy ≡ crash_of self.now) }
+    {
+        Ok(RawCrash {
+            id: self.id,
+            moment: self.moment,
+            draw: self.draw,
+            rule: Text::of(alloc, self.rule.as_str())?,
+            annotations: copy_of_texts(alloc, &self.annotations)?,
+            dumps: copy_of_blobs(alloc, &self.dumps)?,
+        })
+    }
+
+    /// Whether annotations and dumps are the same; id, moment, draw and rule aren't looked at.
+    pub fn same_content(&self, other: &RawCrash) -> bool
+        ensures { IsTrue result ↔ HasSameContent self.now other.now }
+    {
+        are_same_texts(&self.annotations, &other.annotations)
+            && are_same_blobs(&self.dumps, &other.dumps)
+    }
+}
