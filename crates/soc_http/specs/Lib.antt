@@ -3,3 +3,5 @@ pub mod Request
 pub mod Message
 pub mod Reply
 pub mod Pieces
+pub mod Query
+pub mod Route

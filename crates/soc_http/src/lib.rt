@@ -3,9 +3,13 @@
 
 mod head;
 mod pieces;
+mod query;
 mod reply;
+mod route;
 mod verb;
 
 pub use head::{Head, HeadError};
+pub use query::pairs_of;
 pub use reply::{Answered, Kind, WriteFault, write_reply};
+pub use route::{Route, RouteError, Routes};
 pub use verb::Verb;

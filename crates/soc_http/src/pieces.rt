@@ -71,6 +71,8 @@ fn flush<K: Sink>(sink: &mut K, pending: &mut Pending) -> Result<(), WriteFault>
     ensures front { OnErr result (TakesFront (K.held sink.old) (K.held sink.new) pending.old) }
     ensures cause { OnErr result (Rose (K.write_faults sink.old) (K.write_faults sink.new)) }
     ensures never_falls { K.write_faults sink.old ≤ K.write_faults sink.new }
+    ensures left_stays { K.left sink.new ≡ K.left sink.old }
+    ensures read_faults_stay { K.read_faults sink.new ≡ K.read_faults sink.old }
 {
     write_all(sink, pending.as_slice())?;
     pending.clear();
@@ -86,6 +88,8 @@ fn put<K: Sink>(sink: &mut K, pending: &mut Pending, piece: &[u8]) -> Result<(),
         → TakesFront start (K.held sink.new) (done ++ piece.now)) }
     ensures cause { OnErr result (Rose (K.write_faults sink.old) (K.write_faults sink.new)) }
     ensures never_falls { K.write_faults sink.old ≤ K.write_faults sink.new }
+    ensures left_stays { K.left sink.new ≡ K.left sink.old }
+    ensures read_faults_stay { K.read_faults sink.new ≡ K.read_faults sink.old }
 {
     if pending.add(piece) {
         return Ok(());
@@ -104,6 +108,8 @@ pub(crate) fn write_pieces<K: Sink>(sink: &mut K, pieces: &[&[u8]]) -> Result<()
     ensures front { OnErr result (TakesFront (K.held sink.old) (K.held sink.new) (pieces_text pieces.now)) }
     ensures cause { OnErr result (Rose (K.write_faults sink.old) (K.write_faults sink.new)) }
     ensures never_falls { K.write_faults sink.old ≤ K.write_faults sink.new }
+    ensures left_stays { K.left sink.new ≡ K.left sink.old }
+    ensures read_faults_stay { K.read_faults sink.new ≡ K.read_faults sink.old }
 {
     let mut pending = Pending::new();
     for piece in pieces {

@@ -96,6 +96,8 @@ pub fn write_reply<K: Sink>(sink: &mut K, answered: &Answered) -> Result<(), Wri
     ensures front { OnErr result (TakesFront (K.held sink.old) (K.held sink.new) (reply_text answered.now)) }
     ensures cause { OnErr result (Rose (K.write_faults sink.old) (K.write_faults sink.new)) }
     ensures never_falls { K.write_faults sink.old ≤ K.write_faults sink.new }
+    ensures left_stays { K.left sink.new ≡ K.left sink.old }
+    ensures read_faults_stay { K.read_faults sink.new ≡ K.read_faults sink.old }
 {
     let mut status_digits = itoa::Buffer::new();
     let mut length_digits = itoa::Buffer::new();
