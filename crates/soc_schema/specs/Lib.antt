@@ -1,3 +1,4 @@
 pub mod Fields
 pub mod Permits
 pub mod Rows
+pub mod TokenFile

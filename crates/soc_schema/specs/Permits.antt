@@ -1,5 +1,5 @@
 -- Who may see what.
-use Rattle.std.specs.Prelude.{ℕ, Bool, true, List, Option, None, Some, IsTrue, Contains, ⊤}
+use Rattle.std.specs.Prelude.{ℕ, Bool, false, true, List, Option, None, Some, IsTrue, Contains, ⊤}
 use Rattle.soc_schema.specs.declared.permission.Permission.{Permission}
 use Rattle.soc_schema.specs.declared.permission.Permission.TheVariants.{Public, ProtectedData, ViewRawdump, ReprocessCrashes, Operate}
 use Rattle.soc_schema.specs.declared.permission.Permissions.{Permissions}
@@ -15,6 +15,19 @@ holds s ProtectedData = s.protected_data
 holds s ViewRawdump = s.view_rawdump
 holds s ReprocessCrashes = s.reprocess_crashes
 holds s Operate = s.operate
+
+-- the set that has `Public` alone
+abbrev pub public_alone : Permissions
+public_alone =
+    record { protected_data = false; view_rawdump = false; reprocess_crashes = false; operate = false }
+
+-- the set with one permission more
+abbrev pub with_permission : Permissions → Permission → Permissions
+with_permission s Public = s
+with_permission s ProtectedData = record s { protected_data = true }
+with_permission s ViewRawdump = record s { view_rawdump = true }
+with_permission s ReprocessCrashes = record s { reprocess_crashes = true }
+with_permission s Operate = record s { operate = true }
 
 -- the caller may see the field
 abbrev pub Granted : Caller → ℕ → Type 0

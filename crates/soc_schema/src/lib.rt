@@ -7,6 +7,7 @@ mod field;
 mod permission;
 mod row;
 mod sight;
+mod token;
 mod value;
 
 pub use caller::{Caller, Products};
@@ -14,4 +15,5 @@ pub use field::{Field, FieldKind};
 pub use permission::{Permission, Permissions};
 pub use row::Row;
 pub use sight::{granted, visible};
+pub use token::{Token, TokenError, Tokens};
 pub use value::{Cell, Value};

@@ -27,11 +27,12 @@ pub struct Permissions {
 }
 
 impl Permissions {
-    ghost use Rattle.soc_schema.specs.Permits.{holds};
+    ghost use Rattle.soc_schema.specs.Permits.{holds, public_alone, with_permission};
 
     /// The set that has `Permission::Public` alone.
     pub fn public() -> Permissions
-        ensures { (q : Permission) → q ≢ Permission.Public → holds result q ≡ false }
+        ensures alone { (q : Permission) → q ≢ Permission.Public → holds result q ≡ false }
+        ensures value { result ≡ public_alone }
     {
         Permissions {
             protected_data: false,
@@ -58,6 +59,7 @@ impl Permissions {
     pub fn add(&mut self, p: Permission)
         ensures added { holds self.new p ≡ true }
         ensures others { (q : Permission) → q ≢ p → holds self.new q ≡ holds self.old q }
+        ensures value { self.new ≡ with_permission self.old p }
     {
         match p {
             Permission::Public => {}

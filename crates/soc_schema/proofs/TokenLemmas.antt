@@ -1,0 +1,59 @@
+-- What holds of the words and the tokens of a token file, along their lists.
+use Rattle.std.proofs.Common.{◌≡◌, ℕ, ◌+◌, ◌<◌, ◌≤◌, List, [], ◌∷◌, ◌++◌, length, get_or, take, drop, None, Some, Result, Ok, Err, option_and_then, refl, sym, ap, ◌∙◌, arith, length-append, ⊎_elim}
+use Rattle.std.specs.List.{slice_get}
+use Rattle.std.specs.Option.{option_map_or}
+use Rattle.std.proofs.lemmas.Bool.{le-ltb, cases_lt}
+use Rattle.std.proofs.lemmas.List.{drop_more, take_more, drop_all}
+use Rattle.std.proofs.lemmas.Option.{get_or_from_slice_get}
+use Rattle.toml.specs.Data.{Data}
+use Rattle.toml.specs.View.{view, items_view}
+use Rattle.toml.proofs.Views.{items_view-drop}
+use Rattle.toml.specs.declared.value.Value.{Value}
+use Rattle.soc_schema.specs.declared.permission.Permission.{Permission}
+use Rattle.soc_schema.specs.declared.permission.Permissions.{Permissions}
+use Rattle.soc_schema.specs.Permits.{with_permission}
+use Rattle.soc_schema.specs.declared.token.Token.{Token}
+use Rattle.soc_schema.specs.TokenFile.{permission_named, with_named, next_token, tokens_from}
+
+-- a list copied as far as i, and one more
+pub copied_more : (copy more texts : List (List ℕ)) (i : ℕ) (text read : List ℕ) → copy ≡ take i texts → i < length texts → slice_get texts i ≡ Some read → text ≡ read → more ≡ copy ++ text ∷ [] → more ≡ take (i + 1) texts
+copied_more copy more texts i text read so_far within here same pushed =
+    pushed ∙ (ap (λ c. c ++ text ∷ []) so_far ∙ (ap (λ t. take i texts ++ t ∷ []) (same ∙ sym (get_or_from_slice_get texts i read [] here)) ∙ sym (take_more texts i [] within)))
+
+-- the word at i is looked at next
+pub with_named-next : (s : Permissions) (words : List (List ℕ)) (i : ℕ) (word : List ℕ) → i < length words → slice_get words i ≡ Some word → with_named s (drop i words) ≡ option_and_then (λ p. with_named (with_permission s p) (drop (i + 1) words)) (permission_named word)
+with_named-next s words i word within here =
+    ap (with_named s) (drop_more words i [] within) ∙ ap (λ w. option_and_then (λ p. with_named (with_permission s p) (drop (i + 1) words)) (permission_named w)) (get_or_from_slice_get words i word [] here)
+
+pub with_named-refused : (s t : Permissions) (words : List (List ℕ)) (i : ℕ) (word : List ℕ) → with_named s words ≡ with_named t (drop i words) → i < length words → slice_get words i ≡ Some word → None ≡ permission_named word → with_named s words ≡ None
+with_named-refused s t words i word so_far within here none =
+    so_far ∙ (with_named-next t words i word within here ∙ ap (option_and_then (λ p. with_named (with_permission t p) (drop (i + 1) words))) (sym none))
+
+pub with_named-taken : (s t u : Permissions) (words : List (List ℕ)) (i : ℕ) (word : List ℕ) (p : Permission) → with_named s words ≡ with_named t (drop i words) → i < length words → slice_get words i ≡ Some word → Some p ≡ permission_named word → u ≡ with_permission t p → with_named s words ≡ with_named u (drop (i + 1) words)
+with_named-taken s t u words i word p so_far within here found added =
+    so_far ∙ (with_named-next t words i word within here ∙ (ap (option_and_then (λ q. with_named (with_permission t q) (drop (i + 1) words))) (sym found) ∙ ap (λ v. with_named v (drop (i + 1) words)) (sym added)))
+
+-- a token stands behind fewer than 256 others
+next_token-few : (earlier : List Token) (value : Data) (t : Token) → Some t ≡ next_token earlier value → length earlier < 256
+next_token-few earlier value t h =
+    ⊎_elim (λ few. few) (λ many. let e : next_token earlier value ≡ None = rw (le-ltb (length earlier) 256 many) refl in let wrong : Some t ≡ None = h ∙ e in cc) (cases_lt (length earlier) 256)
+
+-- what the value at i adds
+tokens_from-next : (values : List Value) (i : ℕ) (value : Value) (tokens : List Token) → i < length values → value ≡ get_or values i value → tokens_from tokens (items_view (drop i values)) ≡ option_map_or (λ t. tokens_from (tokens ++ t ∷ []) (items_view (drop (i + 1) values))) (next_token tokens (view value)) (Err (length tokens))
+tokens_from-next values i value tokens within read =
+    ap (tokens_from tokens) (items_view-drop values i value within) ∙ ap (λ v. option_map_or (λ t. tokens_from (tokens ++ t ∷ []) (items_view (drop (i + 1) values))) (next_token tokens (view v)) (Err (length tokens))) (sym read)
+
+pub tokens_from-taken : (values : List Value) (i : ℕ) (value : Value) (all : Result (List Token) ℕ) (before tokens more : List Token) (t : Token) → all ≡ tokens_from tokens (items_view (drop i values)) → i < length values → value ≡ get_or values i value → before ≡ tokens → Some t ≡ next_token before (view value) → more ≡ tokens ++ t ∷ [] → (all ≡ tokens_from more (items_view (drop (i + 1) values))) × (length more ≤ 256)
+tokens_from-taken values i value all before tokens more t so_far within read same next pushed =
+    let next' : Some t ≡ next_token tokens (view value) = next ∙ ap (λ l. next_token l (view value)) same in
+    let step = so_far ∙ (tokens_from-next values i value tokens within read ∙ (ap (λ o. option_map_or (λ t. tokens_from (tokens ++ t ∷ []) (items_view (drop (i + 1) values))) o (Err (length tokens))) (sym next') ∙ ap (λ l. tokens_from l (items_view (drop (i + 1) values))) (sym pushed))) in
+    let few : length tokens < 256 = next_token-few tokens (view value) t next' in
+    (step, omega (arith, ap length pushed, length-append tokens (t ∷ [])))
+
+pub tokens_from-refused : (values : List Value) (i : ℕ) (value : Value) (all : Result (List Token) ℕ) (before tokens : List Token) (index : ℕ) → all ≡ tokens_from tokens (items_view (drop i values)) → i < length values → value ≡ get_or values i value → before ≡ tokens → None ≡ next_token before (view value) → index ≡ length tokens → all ≡ Err index
+tokens_from-refused values i value all before tokens index so_far within read same next at =
+    let next' : None ≡ next_token tokens (view value) = next ∙ ap (λ l. next_token l (view value)) same in
+    so_far ∙ (tokens_from-next values i value tokens within read ∙ (ap (λ o. option_map_or (λ t. tokens_from (tokens ++ t ∷ []) (items_view (drop (i + 1) values))) o (Err (length tokens))) (sym next') ∙ ap Err (sym at)))
+
+pub tokens_from-end : (values : List Value) (i : ℕ) (all : Result (List Token) ℕ) (tokens : List Token) → all ≡ tokens_from tokens (items_view (drop i values)) → length values ≤ i → all ≡ Ok tokens
+tokens_from-end values i all tokens so_far past = so_far ∙ ap (λ vs. tokens_from tokens (items_view vs)) (drop_all i values past)
