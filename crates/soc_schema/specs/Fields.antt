@@ -100,3 +100,10 @@ field_of_annotation text = position (comes_from text) field_table
 -- what it takes to see an annotation
 abbrev pub permission_of_annotation : List ℕ → Permission
 permission_of_annotation text = option_map_or permission_of (field_of_annotation text) ProtectedData
+
+-- the fields that tell which crash a report is of
+abbrev pub uuid_field : ℕ
+uuid_field = 34
+
+abbrev pub product_field : ℕ
+product_field = 23

@@ -1,4 +1,5 @@
 pub mod Fields
 pub mod Permits
+pub mod Reports
 pub mod Rows
 pub mod TokenFile

@@ -5,6 +5,8 @@
 mod caller;
 mod field;
 mod permission;
+mod processed;
+mod reporter;
 mod row;
 mod sight;
 mod token;
@@ -13,6 +15,8 @@ mod value;
 pub use caller::{Caller, Products};
 pub use field::{Field, FieldKind};
 pub use permission::{Permission, Permissions};
+pub use processed::Processed;
+pub use reporter::Reporter;
 pub use row::Row;
 pub use sight::{granted, visible};
 pub use token::{Token, TokenError, Tokens};

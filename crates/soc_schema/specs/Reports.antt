@@ -1,0 +1,22 @@
+-- What a report tells of its crash.
+use Rattle.std.specs.Prelude.{◌≡◌, List, ℕ, Option, Some, codes, option_map}
+use Rattle.soc_raw.specs.Names.{value_of as text_of}
+use Rattle.soc_raw.specs.Record.{Crash}
+use Rattle.soc_schema.specs.declared.value.Cell.{Cell}
+use Rattle.soc_schema.specs.declared.value.Value.TheVariants.{Text}
+use Rattle.soc_schema.specs.Fields.{uuid_field, product_field}
+use Rattle.soc_schema.specs.Rows.{value_of}
+
+-- a raw crash's product, where it has one
+abbrev pub product_of : Crash → Option (List ℕ)
+product_of crash = text_of crash.annotations (codes "ProductName")
+
+-- the row has the raw crash's id as `uuid`, and its product as `product`, or none where it has none
+pub record Tells (crash : Crash) (row : List Cell) : Type 0 where
+  pub id : value_of row uuid_field ≡ Some (Text crash.id)
+  pub product : value_of row product_field ≡ option_map Text (product_of crash)
+
+-- a raw crash and a reporter's row of it
+pub record Report : Type 0 where
+  pub crash : Crash
+  pub row : List Cell
