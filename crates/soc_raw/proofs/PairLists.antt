@@ -12,7 +12,7 @@ use Rattle.std.specs.BTreeMap.{insert_entry}
 use Rattle.std.specs.declared.cmp.Ordering.TheVariants.{Less, Greater}
 use Rattle.soc_raw.specs.Names.{IsRising, with_value}
 
-some_same : {X : Type 0} (x y : X) → Some x ≡ Some y → x ≡ y
+pub some_same : {X : Type 0} (x y : X) → Some x ≡ Some y → x ≡ y
 some_same x y e = cc
 
 -- what holds of each key holds of the one at a place
@@ -37,7 +37,7 @@ copied ps copy new i n m v w rising at is_name is_value so_far set =
     let e : suc i ≡ i + 1 = omega arith in
     set ∙ ap (λ t. with_value t m w) so_far ∙ ap (λ k. with_value (take i ps) k w) is_name ∙ ap (λ u. with_value (take i ps) n u) is_value ∙ set_next ps i (n, v) rising at ∙ ap (λ k. take k ps) e
 
-take_next : {X : Type 0} (xs : List X) (i : ℕ) (x : X) → slice_get xs i ≡ Some x → take (suc i) xs ≡ take i xs ++ x ∷ []
+pub take_next : {X : Type 0} (xs : List X) (i : ℕ) (x : X) → slice_get xs i ≡ Some x → take (suc i) xs ≡ take i xs ++ x ∷ []
 take_next [] i x at = cc
 take_next (y ∷ xs) zero x at = ap (λ u. u ∷ []) (some_same y x at)
 take_next (y ∷ xs) (suc i) x at = ap (λ t. y ∷ t) (take_next xs i x at)

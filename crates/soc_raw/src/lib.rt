@@ -15,6 +15,7 @@ mod record_error;
 mod tests;
 mod text;
 mod text_list;
+mod writing;
 
 pub use bytes::Bytes;
 pub use crash_id::CrashId;

@@ -1,13 +1,15 @@
 //! Raw crashes.
-ghost use Rattle.std.specs.Prelude.{◌≡◌, ◌≤◌, ◌↔◌, length, IfOk, IsTrue};
+ghost use Rattle.std.specs.Prelude.{◌≡◌, ◌≤◌, ◌↔◌, length, drop, IfOk, IsTrue};
 ghost use Rattle.soc_raw.specs.Day.{IsMoment};
-ghost use Rattle.soc_raw.specs.Record.{MAX_RECORD, record_of};
+ghost use Rattle.soc_raw.specs.Record.{MAX_RECORD, record_of, head_text, content_text};
 
+use crate::bytes::Bytes;
 use crate::copies::{are_same_blobs, are_same_texts, copy_of_blobs, copy_of_texts};
 use crate::crash_id::CrashId;
 use crate::named::{Blobs, Texts};
 use crate::no_memory::NoMemory;
 use crate::text::Text;
+use crate::writing::{put_blobs, put_counted, put_texts};
 use std::alloc::Global;
 
 /// A crash as it was accepted.
@@ -32,7 +34,7 @@ pub struct RawCrash {
 }
 
 impl RawCrash {
-    ghost use Rattle.soc_raw.specs.RawCrash.{crash_of, HasSameContent};
+    ghost use Rattle.soc_raw.specs.RawCrash.{crash_of, record_text, HasSameContent};
 
     /// The same raw crash, in memory of its own.
     pub fn copy(&self, alloc: Global) -> Result<RawCrash, NoMemory>
@@ -54,5 +56,29 @@ impl RawCrash {
     {
         are_same_texts(&self.annotations, &other.annotations)
             && are_same_blobs(&self.dumps, &other.dumps)
+    }
+
+    /// The record.
+    pub fn encode(&self, alloc: Global) -> Result<Bytes, NoMemory>
+        ensures { IfOk result (λ bytes. bytes ≡ record_text self.now) }
+    {
+        let mut out = Vec::new(alloc);
+        out.extend_from_slice(self.id.as_str().as_bytes())?;
+        out.extend_from_slice(&self.moment.to_le_bytes())?;
+        out.extend_from_slice(&self.draw.to_le_bytes())?;
+        put_counted(&mut out, self.rule.as_str().as_bytes())?;
+        put_texts(&mut out, &self.annotations)?;
+        put_blobs(&mut out, &self.dumps)?;
+        Ok(Bytes::from(out))
+    }
+
+    /// Where the content stands in the record: the length of what stands before it.
+    pub fn content_place(&self) -> u64
+        ensures place { result ≡ length (head_text (crash_of self.now)) }
+        ensures content { drop result (record_text self.now) ≡ content_text (crash_of self.now) }
+    {
+        let id = self.id.as_str();
+        let rule = self.rule.as_str();
+        (id.len() + 8 + 8 + 4 + rule.len()) as u64
     }
 }

@@ -1,0 +1,72 @@
+-- How long a record is, and its parts as they are written.
+use Rattle.std.proofs.Common.{◌≡◌, ℕ, zero, suc, ◌+◌, ◌^◌, ◌<◌, ◌≤◌, List, [], ◌∷◌, ◌++◌, length, length-append, take, drop, Some, sym, ap, ◌∙◌, arith, append_assoc}
+use Rattle.std.specs.Prelude.{slice_get, flat_map}
+use Rattle.std.specs.Int.{w64, to_le_bytes}
+use Rattle.std.proofs.lemmas.List.{flat_map_more, drop_at}
+use Rattle.soc_raw.specs.Record.{Crash, counted, pair_text, pairs_text, head_text, content_text, record_of, MAX_RECORD}
+use Rattle.soc_raw.proofs.PairLists.{take_next, some_same}
+
+pub head_length : (c : Crash) → length c.id + 8 + 8 + 4 + length c.rule ≡ length (head_text c)
+unfolding head_text
+head_length c = omega (arith, length-append c.id (to_le_bytes w64 c.moment ++ (to_le_bytes w64 c.draw ++ counted c.rule)))
+
+pub content_length : (c : Crash) → length (content_text c) ≡ 8 + length (flat_map pair_text c.annotations) + length (flat_map pair_text c.dumps)
+unfolding content_text
+content_length c = omega (arith, length-append (pairs_text c.annotations) (pairs_text c.dumps))
+
+pub record_length : (c : Crash) → length (record_of c) ≡ length (head_text c) + length (content_text c)
+unfolding record_of
+record_length c = length-append (head_text c) (content_text c)
+
+pub head_fits : (c : Crash) → length (record_of c) ≤ MAX_RECORD → length c.id + 8 + 8 + 4 + length c.rule ≤ MAX_RECORD
+head_fits c fits = omega (arith, record_length c, head_length c)
+
+pub rule_fits : (c : Crash) → length (record_of c) ≤ MAX_RECORD → length c.rule < 2 ^ 32
+rule_fits c fits = omega (arith, record_length c, head_length c)
+
+pub pairs_fit : (c : Crash) → length (record_of c) ≤ MAX_RECORD → (length (flat_map pair_text c.annotations) < 2 ^ 32) × (length (flat_map pair_text c.dumps) < 2 ^ 32)
+pairs_fit c fits = (omega (arith, record_length c, content_length c), omega (arith, record_length c, content_length c))
+
+pub content_at : (c : Crash) (n : ℕ) → n ≡ length (head_text c) → drop n (record_of c) ≡ content_text c
+unfolding record_of
+content_at c n e = drop_at (head_text c) (content_text c) n (sym e)
+
+-- a pair is no longer than all of them
+pub pair_short : (ps : List (List ℕ × List ℕ)) (i : ℕ) (n v : List ℕ) → slice_get ps i ≡ Some (n, v) → (length n ≤ length (flat_map pair_text ps)) × (length v ≤ length (flat_map pair_text ps))
+pair_short [] i n v at = cc
+pair_short (p ∷ ps) zero n v at =
+    let name : p.0 ≡ n = ap (λ u. u.0) (some_same p (n, v) at) in
+    let value : p.1 ≡ v = ap (λ u. u.1) (some_same p (n, v) at) in
+    let long = length-append (pair_text p) (flat_map pair_text ps) in
+    let pair = length-append (counted p.0) (counted p.1) in
+    (rw (← name) (omega arith), rw (← value) (omega arith))
+pair_short (p ∷ ps) (suc i) n v at =
+    let more = pair_short ps i n v at in
+    let long = length-append (pair_text p) (flat_map pair_text ps) in
+    (omega arith, omega arith)
+
+-- one pair more is written
+pub pairs_more : (ps : List (List ℕ × List ℕ)) (i : ℕ) (n v name value base old mid new : List ℕ) → slice_get ps i ≡ Some (n, v) → name ≡ n → value ≡ v → old ≡ base ++ flat_map pair_text (take i ps) → mid ≡ old ++ counted name → new ≡ mid ++ counted value → new ≡ base ++ flat_map pair_text (take (i + 1) ps)
+pairs_more ps i n v name value base old mid new at is_name is_value so_far first second =
+    let e : suc i ≡ i + 1 = omega arith in
+    second ∙ ap (λ t. t ++ counted value) (first ∙ ap (λ t. t ++ counted name) so_far)
+    ∙ append_assoc (base ++ flat_map pair_text (take i ps)) (counted name) (counted value)
+    ∙ ap (λ t. (base ++ flat_map pair_text (take i ps)) ++ (counted t ++ counted value)) is_name
+    ∙ ap (λ t. (base ++ flat_map pair_text (take i ps)) ++ (counted n ++ counted t)) is_value
+    ∙ flat_map_more pair_text base (take i ps) (n, v)
+    ∙ ap (λ t. base ++ flat_map pair_text t) (sym (take_next ps i (n, v) at))
+    ∙ ap (λ k. base ++ flat_map pair_text (take k ps)) e
+
+regrouped : (a b c d e f : List ℕ) → ((((a ++ b) ++ c) ++ d) ++ e) ++ f ≡ (a ++ (b ++ (c ++ d))) ++ (e ++ f)
+regrouped a b c d e f = simp append_assoc
+
+-- the parts one after the other are the record
+pub encoded : (c : Crash) (start a b d e f g mb db : List ℕ) (id rule : List ℕ) → id ≡ c.id → rule ≡ c.rule → start ≡ [] → a ≡ start ++ id → mb ≡ to_le_bytes w64 c.moment → b ≡ a ++ mb → db ≡ to_le_bytes w64 c.draw → d ≡ b ++ db → e ≡ d ++ counted rule → f ≡ e ++ pairs_text c.annotations → g ≡ f ++ pairs_text c.dumps → g ≡ record_of c
+unfolding record_of head_text content_text
+encoded c start a b d e f g mb db id rule is_id is_rule empty pa m pb w pd pe pf pg =
+    let first : a ≡ c.id = pa ∙ ap (λ t. t ++ id) empty ∙ is_id in
+    let second : b ≡ c.id ++ to_le_bytes w64 c.moment = pb ∙ ap (λ t. t ++ mb) first ∙ ap (λ t. c.id ++ t) m in
+    let third : d ≡ (c.id ++ to_le_bytes w64 c.moment) ++ to_le_bytes w64 c.draw = pd ∙ ap (λ t. t ++ db) second ∙ ap (λ t. (c.id ++ to_le_bytes w64 c.moment) ++ t) w in
+    let fourth : e ≡ ((c.id ++ to_le_bytes w64 c.moment) ++ to_le_bytes w64 c.draw) ++ counted c.rule = pe ∙ ap (λ t. t ++ counted rule) third ∙ ap (λ t. ((c.id ++ to_le_bytes w64 c.moment) ++ to_le_bytes w64 c.draw) ++ counted t) is_rule in
+    pg ∙ ap (λ t. t ++ pairs_text c.dumps) (pf ∙ ap (λ t. t ++ pairs_text c.annotations) fourth)
+    ∙ regrouped c.id (to_le_bytes w64 c.moment) (to_le_bytes w64 c.draw) (counted c.rule) (pairs_text c.annotations) (pairs_text c.dumps)

@@ -1,0 +1,46 @@
+//! The parts of a record, written.
+ghost use Rattle.std.specs.Prelude.{◌≡◌, ◌<◌, ◌^◌, ◌++◌, length, flat_map, OnOk};
+ghost use Rattle.soc_raw.specs.Record.{counted, pair_text, pairs_text};
+
+use crate::named::{Blobs, Texts};
+use crate::no_memory::NoMemory;
+
+/// Writes a text or a blob: its length, and its bytes.
+pub fn put_counted(out: &mut Vec<u8>, bytes: &[u8]) -> Result<(), NoMemory>
+    requires { length bytes.now < 2 ^ 32 }
+    ensures { OnOk result (out.new.items ≡ out.old.items ++ counted bytes.now) }
+{
+    out.extend_from_slice(&(bytes.len() as u32).to_le_bytes())?;
+    out.extend_from_slice(bytes)?;
+    Ok(())
+}
+
+/// Writes how many annotations there are, and each of them.
+pub fn put_texts(out: &mut Vec<u8>, texts: &Texts) -> Result<(), NoMemory>
+    requires few { length texts.now < 2 ^ 32 }
+    requires fits { length (flat_map pair_text texts.now) < 2 ^ 32 }
+    ensures { OnOk result (out.new.items ≡ out.old.items ++ pairs_text texts.now) }
+{
+    out.extend_from_slice(&(texts.len() as u32).to_le_bytes())?;
+    for i in 0..texts.len() {
+        let (name, value) = texts.at(i);
+        put_counted(out, name.as_bytes())?;
+        put_counted(out, value.as_bytes())?;
+    }
+    Ok(())
+}
+
+/// Writes how many dumps there are, and each of them.
+pub fn put_blobs(out: &mut Vec<u8>, blobs: &Blobs) -> Result<(), NoMemory>
+    requires few { length blobs.now < 2 ^ 32 }
+    requires fits { length (flat_map pair_text blobs.now) < 2 ^ 32 }
+    ensures { OnOk result (out.new.items ≡ out.old.items ++ pairs_text blobs.now) }
+{
+    out.extend_from_slice(&(blobs.len() as u32).to_le_bytes())?;
+    for i in 0..blobs.len() {
+        let (name, value) = blobs.at(i);
+        put_counted(out, name.as_bytes())?;
+        put_counted(out, value)?;
+    }
+    Ok(())
+}
