@@ -1,6 +1,7 @@
 -- What follows from the model of a disk: contents after a write, images of a torn write, and calls one after another.
-use Rattle.std.proofs.Common.{◌≡◌, inl, inr, ℕ, ◌+◌, ◌-◌, ◌≤◌, min, max, List, [], ◌∷◌, ◌++◌, length, take, drop, replicate, refl, sym, ◌∙◌, ap, subst, arith, add-zero, append_assoc}
-use Rattle.std.proofs.lemmas.List.{append-nil, take-append-drop, length-append, length-take, length-drop, length-replicate, take_all, drop_all, take-take, drop-drop, take_min, take_at, drop_at}
+use Rattle.std.proofs.Common.{◌≡◌, inl, inr, ℕ, ◌+◌, ◌-◌, ◌≤◌, min, max, List, [], ◌∷◌, ◌++◌, length, take, drop, replicate, sym, ◌∙◌, ap, subst, arith, add-zero}
+use Rattle.std.proofs.lemmas.List.{append-nil, take-append-drop, length-append, length-take, length-drop, take_all, drop_all, take-take, drop-drop}
+pub use Rattle.soc_edge.specs.DiskLaws.{Tears-same, Tears-written}
 use Rattle.soc_edge.specs.Disk.{written, Tears, Only, Follows, Elapses, LeavesOnly}
 
 -- a write that begins within the content
@@ -26,43 +27,6 @@ pub length-written : (content : List ℕ) (place : ℕ) (bytes : List ℕ) → p
 length-written content place bytes within =
     ap (λ (x : List ℕ). length x) (written-within content place bytes within)
     ∙ simp (length-append, length-take, length-drop) (omega arith)
-
--- a content that stays is one that a torn write may leave
-pub Tears-same : (place count : ℕ) (content : List ℕ) → Tears place count content content
-Tears-same place count content = record {
-  front = take_min place content;
-  back = refl;
-  no_shorter = omega arith;
-  no_longer = omega arith;
-}
-
-length-front : (content : List ℕ) (place : ℕ) → length (take place content ++ replicate (place - length content) 0) ≡ place
-length-front content place = simp (length-append, length-take, length-replicate) (omega arith)
-
--- and so is what the whole write makes of it
-pub Tears-written : (content : List ℕ) (place : ℕ) (bytes : List ℕ) → Tears place (length bytes) content (written content place bytes)
-Tears-written content place [] = Tears-same place 0 content
-Tears-written content place (byte ∷ bytes) =
-    let piece = byte ∷ bytes in
-    let zeros = replicate (place - length content) 0 in
-    let front = take place content ++ zeros in
-    let back = drop (place + length piece) content in
-    let regroup : (front ++ piece) ++ back ≡ front ++ (piece ++ back) = append_assoc front piece back in
-    let count : length (front ++ piece) ≡ place + length piece =
-    length-append front piece ∙ ap (λ (n : ℕ). n + length piece) (length-front content place) in
-    let whole : length (front ++ (piece ++ back)) ≡ (place + length piece) + (length content - (place + length piece)) =
-    ap (λ (x : List ℕ). length x) (sym regroup)
-    ∙ (length-append (front ++ piece) back
-    ∙ (ap (λ (n : ℕ). n + length back) count
-    ∙ ap (λ (n : ℕ). (place + length piece) + n) (length-drop (place + length piece) content))) in
-    record {
-      front = ap (λ (x : List ℕ). take (min place (length content)) x) (append_assoc (take place content) zeros (piece ++ back))
-          ∙ take_at (take place content) (zeros ++ (piece ++ back)) (min place (length content)) (length-take place content);
-      back = ap (λ (x : List ℕ). drop (place + length piece) x) (sym regroup)
-          ∙ drop_at (front ++ piece) back (place + length piece) count;
-      no_shorter = omega (arith, whole);
-      no_longer = omega (arith, whole);
-    }
 
 -- what stands before the place stays
 pub take-Tears : (place count k : ℕ) (before after : List ℕ) → Tears place count before after → k ≤ place → k ≤ length before → take k after ≡ take k before

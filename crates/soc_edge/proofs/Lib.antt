@@ -1,3 +1,4 @@
 pub mod Ahead
+pub mod DiskKept
 pub mod Disks
 pub mod Told

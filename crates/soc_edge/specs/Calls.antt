@@ -19,9 +19,14 @@ is_due calls = list_any (λ n. nat_eq n calls.made) calls.fails
 abbrev pub one_more : ℕ → ℕ
 one_more n = min (n + 1) (2 ^ 64 - 1)
 
+-- after a call that succeeded
+abbrev pub passed : Calls → Calls
+passed calls = record calls { made = one_more calls.made }
+
+-- after a call that failed
+abbrev pub failed : Calls → Calls
+failed calls = record calls { made = one_more calls.made; failed = one_more calls.failed }
+
 -- after a call that answered this
 abbrev pub after_call : {T E : Type 0} → Calls → Result T E → Calls
-after_call calls answer = record calls {
-  made = one_more calls.made;
-  failed = if is_err answer then one_more calls.failed else calls.failed;
-}
+after_call calls answer = if is_err answer then failed calls else passed calls

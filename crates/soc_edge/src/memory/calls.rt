@@ -1,6 +1,6 @@
 // Which calls of a stand-in fail.
 ghost use Rattle.std.specs.Prelude.{◌≡◌, ◌≤◌};
-ghost use Rattle.soc_edge.specs.Calls.{no_calls, is_due, one_more};
+ghost use Rattle.soc_edge.specs.Calls.{no_calls, is_due, passed, failed};
 ghost use Rattle.soc_edge.specs.Faults.{Rose};
 
 use super::lists::Numbers;
@@ -43,14 +43,14 @@ impl CallCount {
 
     /// A call was made, and succeeded.
     pub fn pass(&mut self)
-        ensures { self.new ≡ record self.old { made = one_more self.old.made } }
+        ensures { self.new ≡ passed self.old }
     {
         self.made = self.made.saturating_add(1);
     }
 
     /// A call was made, and failed.
     pub fn fail(&mut self) -> Failed
-        ensures counted { self.new ≡ record self.old { made = one_more self.old.made; failed = one_more self.old.failed } }
+        ensures counted { self.new ≡ failed self.old }
         ensures rose { Rose self.old.failed self.new.failed }
         ensures never_falls { self.old.failed ≤ self.new.failed }
     {

@@ -1,0 +1,94 @@
+-- A disk in memory, by what it began with and the writes and syncs that it has made since, the latest first.
+use Rattle.std.specs.Prelude.{◌≡◌, ◌⊎◌, ℕ, ◌+◌, ◌-◌, ◌/◌, ◌%◌, ◌≤◌, Bool, ◌||◌, nat_lt, nat_le, ◌==◌, if◌then◌else◌, List, [], ◌∷◌, length, take, map}
+use Rattle.soc_edge.specs.Calls.{Calls, is_due}
+use Rattle.soc_edge.specs.Disk.{written, Tears}
+
+-- a write at a place, or a sync
+pub data Made : Type 0 where
+  Wrote : ℕ → List ℕ → Made
+  Synced : Made
+
+-- what a read gives
+abbrev pub reads_as : List ℕ → List Made → List ℕ
+reads_as first [] = first
+reads_as first (Wrote place bytes ∷ log) = written (reads_as first log) place bytes
+reads_as first (Synced ∷ log) = reads_as first log
+
+-- a stop may leave this image: what the last sync left, and then each later write, whole, torn or lost
+abbrev pub IsImage : List ℕ → List Made → List ℕ → Type 0
+IsImage first [] image = image ≡ first
+IsImage first (Wrote place bytes ∷ log) image = (earlier : List ℕ) × IsImage first log earlier × Tears place (length bytes) earlier image
+IsImage first (Synced ∷ log) image = image ≡ reads_as first log
+
+-- A stop at a moment since t might have left this image. The moment is how many writes and syncs were made.
+abbrev pub WasImageSince : List ℕ → List Made → ℕ → List ℕ → Type 0
+WasImageSince first [] t image = (t ≤ 0) × (image ≡ first)
+WasImageSince first (made ∷ log) t image = ((t ≤ length (made ∷ log)) × IsImage first (made ∷ log) image) ⊎ WasImageSince first log t image
+
+-- how many bytes were written in all
+abbrev pub bytes_written : List Made → ℕ
+bytes_written [] = 0
+bytes_written (Wrote place bytes ∷ log) = bytes_written log + length bytes
+bytes_written (Synced ∷ log) = bytes_written log
+
+-- a disk in memory: the content that it began with, what it made since, how many bytes and how many writes and syncs
+-- it has room for, and its calls
+pub record DiskState : Type 0 where
+  pub first : List ℕ
+  pub log : List Made
+  pub room : ℕ
+  pub limit : ℕ
+  pub calls : Calls
+
+-- what a read gives
+abbrev pub content_of : DiskState → List ℕ
+content_of disk = reads_as disk.first disk.log
+
+-- a sync is refused: it is one of the calls that fail, or there is no room for one more
+abbrev pub refuses_sync : DiskState → Bool
+refuses_sync disk = is_due disk.calls || nat_le disk.limit (length disk.log)
+
+-- a write of so many bytes is refused: for these reasons, or where it ends past the room, or where the writes so far
+-- and it hold more bytes than there is room for
+abbrev pub refuses_write : DiskState → ℕ → ℕ → Bool
+refuses_write disk place count =
+    refuses_sync disk || (nat_lt disk.room (place + count) || nat_lt disk.room (bytes_written disk.log + count))
+
+-- a byte that differs in each bit
+abbrev pub flipped : ℕ → ℕ
+flipped byte = 255 - byte
+
+-- A stop does one of four things to a write that no sync has settled: it loses it, keeps it, keeps the first half of
+-- its bytes, or leaves each of them flipped.
+abbrev pub torn : ℕ → ℕ → List ℕ → List ℕ → List ℕ
+torn choice place bytes content =
+    if choice == 0 then content
+    else if choice == 1 then written content place bytes
+    else if choice == 2 then written content place (take (length bytes / 2) bytes)
+    else written content place (map flipped bytes)
+
+-- the image that a stop leaves by a choice, and what is left of the choice: its last digit of base 4 is for the first
+-- unsettled write, the next one for the second, and so on
+pub record Stopped : Type 0 where
+  pub image : List ℕ
+  pub choice : ℕ
+
+abbrev pub stopped : List ℕ → List Made → ℕ → Stopped
+stopped first [] choice = record { image = first; choice = choice }
+stopped first (Wrote place bytes ∷ log) choice = record {
+  image = torn ((stopped first log choice).choice % 4) place bytes (stopped first log choice).image;
+  choice = (stopped first log choice).choice / 4;
+}
+stopped first (Synced ∷ log) choice = record { image = reads_as first log; choice = choice }
+
+-- what a stop may leave now
+abbrev pub may_leave_of : DiskState → List ℕ → Type 0
+may_leave_of disk = IsImage disk.first disk.log
+
+-- how many writes and syncs were made
+abbrev pub moment_of : DiskState → ℕ
+moment_of disk = length disk.log
+
+-- what a stop since a moment might have left
+abbrev pub left_since_of : DiskState → ℕ → List ℕ → Type 0
+left_since_of disk = WasImageSince disk.first disk.log
