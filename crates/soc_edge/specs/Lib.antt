@@ -6,5 +6,4 @@ pub mod DiskLog
 pub mod DiskState
 pub mod Faults
 pub mod Memory
-pub mod Moment
 pub mod Told

@@ -18,6 +18,11 @@ pub record DrawsState : Type 0 where
   pub throttles : List ℕ
   pub ids : List (List ℕ)
 
+-- a tree: its files by name, and its calls
+pub record TreeState : Type 0 where
+  pub files : List (List ℕ × List ℕ)
+  pub calls : Calls
+
 -- a list in order, and then its last item again and again
 abbrev pub repeating : {A : Type 0} → List A → ℕ → Option A
 repeating xs k = slice_get xs (min k (length xs - 1))

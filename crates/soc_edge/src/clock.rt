@@ -1,6 +1,6 @@
 // The clock and random draws. They don't fail.
 ghost use Rattle.std.specs.Prelude.{ℕ, List, Option};
-ghost use Rattle.soc_edge.specs.Moment.{IsMoment};
+ghost use Rattle.soc_raw.specs.Day.{IsMoment};
 ghost use Rattle.soc_edge.specs.Told.{HandsOut, SameAhead};
 
 /// What the moment is.

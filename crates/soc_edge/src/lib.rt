@@ -22,7 +22,9 @@ pub use both::Both;
 pub use clock::{Clock, Draws};
 pub use disk::Disk;
 pub use failed::Failed;
-pub use memory::{BytesList, Ids16, MemClock, MemDisk, MemDraws, MemSink, MemSource, Numbers};
+pub use memory::{
+    BytesList, Ids16, MemClock, MemDisk, MemDraws, MemSink, MemSource, MemTree, Numbers,
+};
 pub use sink::Sink;
 pub use source::Source;
 pub use steps::Steps;

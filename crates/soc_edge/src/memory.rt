@@ -7,6 +7,7 @@ mod lists;
 mod put;
 mod sink;
 mod source;
+mod tree;
 
 pub use clock::MemClock;
 pub use disk::MemDisk;
@@ -14,3 +15,4 @@ pub use draws::MemDraws;
 pub use lists::{BytesList, Ids16, Numbers};
 pub use sink::MemSink;
 pub use source::MemSource;
+pub use tree::MemTree;

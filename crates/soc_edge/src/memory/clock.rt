@@ -2,7 +2,7 @@
 ghost use Rattle.std.specs.Prelude.{◌≡◌, ◌<◌, length};
 ghost use Rattle.std.specs.List.{All};
 ghost use Rattle.soc_edge.specs.Memory.{repeating};
-ghost use Rattle.soc_edge.specs.Moment.{IsMoment};
+ghost use Rattle.soc_raw.specs.Day.{IsMoment};
 
 use super::lists::Numbers;
 use crate::Clock;
@@ -18,7 +18,7 @@ pub struct MemClock {
 impl Model for MemClock {
     ghost use Rattle.std.specs.Prelude.{List, ℕ, ◌<◌, length, drop};
     ghost use Rattle.std.specs.List.{All};
-    ghost use Rattle.soc_edge.specs.Moment.{IsMoment};
+    ghost use Rattle.soc_raw.specs.Day.{IsMoment};
 
     ghost Value = { List ℕ };
 
