@@ -1,0 +1,4 @@
+pub mod NumberLemmas
+pub mod CheckLemmas
+pub mod DirectoryLemmas
+pub mod ListLemmas

@@ -1,0 +1,9 @@
+pub mod Number
+pub mod Layout
+pub mod Part
+pub mod Checks
+pub mod Directory
+pub mod Entries
+pub mod Dump
+pub mod Views
+pub mod Memory

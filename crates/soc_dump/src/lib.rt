@@ -1,0 +1,25 @@
+// Minidumps: what a crashed process left of its memory, read without trust in one byte of it.
+#![tactic(auto)]
+
+mod directory;
+mod dump;
+mod error;
+mod exception;
+mod field;
+mod layout;
+mod list;
+mod memory;
+mod modules;
+mod part;
+mod streams;
+mod system;
+mod thread;
+mod word;
+
+pub use dump::Dump;
+pub use error::DumpError;
+pub use exception::Exception;
+pub use field::Field;
+pub use modules::Module;
+pub use system::System;
+pub use thread::Thread;
