@@ -25,7 +25,7 @@ const DAY_PLACE: usize = 34;
 
 /// The id of a crash: a UUID of version 4 (RFC 9562, 5.4) in lower case, whose last seven characters are the digit
 /// and the day as YYMMDD. Contracts see its 36 characters.
-#[derive(Clone, Copy, Debug, PartialEq, Eq)]
+#[derive(Clone, Copy, Debug, PartialEq, Eq, PartialOrd, Ord)]
 pub struct CrashId {
     text: [u8; 36],
 }
