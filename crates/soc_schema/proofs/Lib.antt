@@ -1,3 +1,4 @@
 pub mod FieldLemmas
 pub mod RowLemmas
 pub mod TokenLemmas
+pub mod SightLemmas
