@@ -1,4 +1,5 @@
 pub mod Ahead
 pub mod DiskKept
+pub mod DiskStop
 pub mod Disks
 pub mod Told

@@ -14,7 +14,8 @@ Tears-same place count content = record {
   no_longer = omega arith;
 }
 
-length-front : (content : List ℕ) (place : ℕ) → length (take place content ++ replicate (place - length content) 0) ≡ place
+-- what stands before a write
+pub length-front : (content : List ℕ) (place : ℕ) → length (take place content ++ replicate (place - length content) 0) ≡ place
 length-front content place = simp (length-append, length-take, length-replicate) (omega arith)
 
 -- and so is what the whole write makes of it

@@ -7,6 +7,7 @@ mod lists;
 mod put;
 mod sink;
 mod source;
+mod stop;
 mod tree;
 
 pub use clock::MemClock;

@@ -1,5 +1,5 @@
 // Which calls of a stand-in fail.
-ghost use Rattle.std.specs.Prelude.{◌≡◌, ◌≤◌};
+ghost use Rattle.std.specs.Prelude.{◌≡◌, ◌≤◌, []};
 ghost use Rattle.soc_edge.specs.Calls.{no_calls, is_due, passed, failed};
 ghost use Rattle.soc_edge.specs.Faults.{Rose};
 
@@ -57,5 +57,14 @@ impl CallCount {
         self.made = self.made.saturating_add(1);
         self.failed = self.failed.saturating_add(1);
         Failed
+    }
+
+    /// With no call made, and none that fails.
+    pub fn afresh(self) -> CallCount
+        ensures { result ≡ no_calls [] }
+    {
+        let mut fails = self.fails;
+        fails.clear();
+        CallCount::new(fails)
     }
 }

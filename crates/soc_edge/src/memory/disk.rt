@@ -3,12 +3,13 @@ ghost use Rattle.std.specs.Prelude.{◌≡◌, ◌≤◌, ◌<◌, ◌+◌, ◌�
 ghost use Rattle.soc_edge.specs.Calls.{no_calls, is_due, passed, failed, after_call};
 ghost use Rattle.soc_edge.specs.Disk.{written, Tears, ReadsAt, WhereTold, Follows, NoMore, Only, Elapses};
 ghost use Rattle.soc_edge.specs.DiskLaws.{IsImage-told, WasImageSince-now, WasImageSince-only};
-ghost use Rattle.soc_edge.specs.DiskLog.{Made, Wrote, Synced, content_of, reads_as, IsImage, WasImageSince, may_leave_of, moment_of, left_since_of, bytes_written, refuses_sync, refuses_write};
+ghost use Rattle.soc_edge.specs.DiskLog.{Made, Wrote, Synced, content_of, reads_as, IsImage, WasImageSince, stopped, may_leave_of, moment_of, left_since_of, bytes_written, refuses_sync, refuses_write};
 ghost use Rattle.soc_edge.specs.Faults.{Rose};
 
 use super::calls::CallCount;
 use super::lists::Numbers;
 use super::put::{append, put};
+use super::stop::play;
 use crate::{Disk, Failed};
 use soc_raw::NoMemory;
 use std::alloc::Global;
@@ -70,6 +71,46 @@ impl MemDisk {
         ensures { result.now ≡ content_of self.now }
     {
         self.bytes.as_slice()
+    }
+
+    /// One of the images that a stop may leave now, by a choice, with room and calls anew and none that fails.
+    ///
+    /// Each digit of the choice, in base 4 and from the last one on, is for one of the writes since the last sync,
+    /// from the first one on: 0 loses the write, 1 keeps it, 2 keeps the first half of its bytes, 3 flips each bit of
+    /// them.
+    pub fn stop(self, choice: u64) -> MemDisk
+        ensures image { IsImage self.first self.log result.first }
+        ensures chosen { result ≡ record {
+          first = (stopped self.first self.log choice).image;
+          log = [];
+          room = self.room;
+          limit = self.limit;
+          calls = no_calls [];
+        } }
+    {
+        let MemDisk {
+            first: mut image,
+            mut bytes,
+            mut written,
+            mut log,
+            room,
+            limit,
+            calls,
+        } = self;
+        play(&mut image, &log, &written, choice);
+        bytes.clear();
+        append(&mut bytes, &image);
+        written.clear();
+        log.clear();
+        MemDisk {
+            first: image,
+            bytes,
+            written,
+            log,
+            room,
+            limit,
+            calls: calls.afresh(),
+        }
     }
 
     // Whether the next call is one of those that fail.

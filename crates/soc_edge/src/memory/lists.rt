@@ -1,5 +1,5 @@
 // The lists that stand-ins are made of.
-ghost use Rattle.std.specs.Prelude.{◌≡◌};
+ghost use Rattle.std.specs.Prelude.{◌≡◌, []};
 
 use soc_raw::Bytes;
 use std::marker::Model;
@@ -24,6 +24,13 @@ impl Numbers {
         ensures { result ≡ items.items }
     {
         Numbers { items }
+    }
+
+    /// Takes all of them out.
+    pub fn clear(&mut self)
+        ensures { self.new ≡ [] }
+    {
+        self.items.clear();
     }
 
     /// The numbers.
