@@ -1,5 +1,6 @@
 pub mod Fields
 pub mod Permits
 pub mod Reports
+pub mod RowText
 pub mod Rows
 pub mod TokenFile

@@ -12,7 +12,7 @@ abbrev pub product_of : Crash → Option (List ℕ)
 product_of crash = text_of crash.annotations (codes "ProductName")
 
 -- the row has the raw crash's id as `uuid`, and its product as `product`, or none where it has none
-pub record Tells (crash : Crash) (row : List Cell) : Type 0 where
+pub record TellsCrash (crash : Crash) (row : List Cell) : Type 0 where
   pub id : value_of row uuid_field ≡ Some (Text crash.id)
   pub product : value_of row product_field ≡ option_map Text (product_of crash)
 

@@ -8,6 +8,7 @@ mod permission;
 mod processed;
 mod reporter;
 mod row;
+mod row_text;
 mod sight;
 mod token;
 mod value;

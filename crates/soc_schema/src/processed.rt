@@ -16,7 +16,7 @@ pub struct Processed {
 }
 
 impl Model for Processed {
-    ghost use Rattle.soc_schema.specs.Reports.{Report, Tells};
+    ghost use Rattle.soc_schema.specs.Reports.{Report, TellsCrash};
 
     ghost Value = { Report };
 
@@ -24,13 +24,13 @@ impl Model for Processed {
 
     ghost view = { λ p. record { crash = crash_of p.raw; row = p.row } };
 
-    ghost invariant = { λ p. Tells (crash_of p.raw) p.row };
+    ghost invariant = { λ p. TellsCrash (crash_of p.raw) p.row };
 }
 
 impl Processed {
     ghost use Rattle.std.specs.Prelude.{◌≡◌, IfOk, IfErr};
     ghost use Rattle.soc_raw.specs.RawCrash.{crash_of};
-    ghost use Rattle.soc_schema.specs.Reports.{Report, Tells};
+    ghost use Rattle.soc_schema.specs.Reports.{Report, TellsCrash};
 
     /// Has the reporter make the raw crash's row. Where memory is wanting, the raw crash comes back.
     pub fn make<R: Reporter>(
@@ -57,7 +57,7 @@ impl Processed {
     /// The row.
     pub fn into_row(self) -> Row
         ensures value { result ≡ self.row }
-        ensures tells { Tells self.crash result }
+        ensures tells { TellsCrash self.crash result }
     {
         let Processed { raw: _, row } = self;
         row

@@ -9,7 +9,7 @@ pub trait Reporter {
     ghost use Rattle.soc_raw.specs.Record.{Crash};
     ghost use Rattle.soc_raw.specs.RawCrash.{crash_of};
     ghost use Rattle.soc_schema.specs.declared.value.Cell.{Cell};
-    ghost use Rattle.soc_schema.specs.Reports.{Tells};
+    ghost use Rattle.soc_schema.specs.Reports.{TellsCrash};
 
     // The row of each raw crash.
     ghost row_of: { Self → Crash → List Cell };
@@ -26,5 +26,5 @@ pub trait Reporter {
         ensures { result ≡ digest_of self.now };
 
     // Each row tells of its crash.
-    ghost tells: { (reporter : Self) (crash : Crash) → Tells crash (row_of reporter crash) };
+    ghost tells: { (reporter : Self) (crash : Crash) → TellsCrash crash (row_of reporter crash) };
 }

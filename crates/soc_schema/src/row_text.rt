@@ -1,0 +1,265 @@
+//! The text of a row, as reports kept on disk have it.
+ghost use Rattle.std.specs.Prelude.{◌≡◌, ◌≢◌, ◌+◌, ◌^◌, ◌<◌, ◌≤◌, ◌↔◌, ◌++◌, ◌∷◌, if◌then◌else◌, ℕ, List, [], length, IsTrue, IfOk, IfErr, OnOk, MatchOption, MatchResult};
+ghost use Rattle.std.specs.Int.{to_le_bytes, w32, w64};
+ghost use Rattle.std.specs.List.{AllByRecursion};
+ghost use Rattle.std.specs.Str.{IsUtf8};
+ghost use Rattle.soc_raw.specs.Record.{counted};
+ghost use Rattle.soc_schema.specs.declared.value.Cell.{Cell};
+ghost use Rattle.soc_schema.specs.declared.value.Value.{Value};
+ghost use Rattle.soc_schema.specs.RowText.{HasText, IsShort, IsValue, ReadsCell, ReadsCells, ReadsValue, Refuses, cell_text, row_text};
+
+use crate::field::Field;
+use crate::row::Row;
+use crate::value::{Cell, Value};
+use soc_raw::{Bytes, NoMemory, RecordError, Text};
+use std::alloc::Global;
+
+/// The tags of the three kinds.
+const TEXT: u8 = 0;
+
+const NUMBER: u8 = 1;
+
+const FLAG: u8 = 2;
+
+impl Row {
+    /// The row's text: its number of fields, and each field's place in the table, tag and value.
+    pub fn encode(&self, alloc: Global) -> Result<Bytes, NoMemory>
+        requires { AllByRecursion (λ c. IsShort c.value) self.now }
+        ensures { IfOk result (λ text. HasText self.now text) }
+    {
+        let cells = self.cells();
+        let mut bytes = Vec::new(alloc);
+        bytes.extend_from_slice(&(cells.len() as u32).to_le_bytes())?;
+        for cell in cells {
+            push_cell(&mut bytes, cell)?;
+        }
+        Ok(Bytes::from(bytes))
+    }
+
+    /// Whether the row's text has at most so many bytes. One of fewer than 2^32 bytes has short texts alone.
+    pub fn fits(&self, most: u64) -> bool
+        ensures fits { IsTrue result ↔ (length (row_text self.now) ≤ most) }
+        ensures short { IsTrue result → most < 2 ^ 32 → AllByRecursion (λ c. IsShort c.value) self.now }
+    {
+        if most < 4 {
+            return false;
+        }
+        let mut left = most - 4;
+        let cells = self.cells();
+        for cell in cells {
+            let size = size_of(cell);
+            if left < size {
+                return false;
+            }
+            left -= size;
+        }
+        true
+    }
+
+    /// The row of a text. `BadRecord` exactly where no row has it.
+    pub fn decode(alloc: Global, b: &[u8]) -> Result<Row, RecordError>
+        ensures ok { IfOk result (λ row. HasText row b.now) }
+        ensures only { IfOk result (λ row. (cells : List Cell) → HasText cells b.now → cells ≡ row) }
+        ensures bad { IfErr result (λ e. Refuses e ((cells : List Cell) → ¬ (HasText cells b.now))) }
+    {
+        let mut reader = Reader { rest: b };
+        let Some(count) = reader.number_32() else {
+            return Err(RecordError::BadRecord);
+        };
+        let cells = reader.cells(alloc, count)?;
+        if !reader.rest.is_empty() {
+            return Err(RecordError::BadRecord);
+        }
+        Ok(Row::of_cells(cells))
+    }
+}
+
+fn push_cell(bytes: &mut Vec<u8>, cell: &Cell) -> Result<(), NoMemory>
+    requires { IsShort cell.now.value }
+    ensures text { OnOk result (bytes.new.items ≡ bytes.old.items ++ cell_text cell.now) }
+    ensures sound { OnOk result (IsValue cell.now.value) }
+{
+    bytes.push(cell.field.place())?;
+    match &cell.value {
+        Value::Text(text) => push_text(bytes, text.as_str()),
+        Value::Number(number) => push_number(bytes, *number),
+        Value::Flag(flag) => push_flag(bytes, *flag),
+    }
+}
+
+/// How many bytes the text of the cell has.
+fn size_of(cell: &Cell) -> u64
+    ensures { result ≡ length (cell_text cell.now) }
+{
+    match &cell.value {
+        Value::Text(text) => text.as_str().len() as u64 + 6,
+        Value::Number(_) => 10,
+        Value::Flag(_) => 3,
+    }
+}
+
+fn push_text(bytes: &mut Vec<u8>, text: &str) -> Result<(), NoMemory>
+    requires { length text.now < 2 ^ 32 }
+    ensures { OnOk result (bytes.new.items ≡ bytes.old.items ++ TEXT ∷ counted text.now) }
+{
+    bytes.push(TEXT)?;
+    bytes.extend_from_slice(&(text.len() as u32).to_le_bytes())?;
+    bytes.extend_from_slice(text.as_bytes())?;
+    Ok(())
+}
+
+fn push_number(bytes: &mut Vec<u8>, number: u64) -> Result<(), NoMemory>
+    ensures { OnOk result (bytes.new.items ≡ bytes.old.items ++ NUMBER ∷ to_le_bytes w64 number) }
+{
+    bytes.push(NUMBER)?;
+    bytes.extend_from_slice(&number.to_le_bytes())?;
+    Ok(())
+}
+
+fn push_flag(bytes: &mut Vec<u8>, flag: bool) -> Result<(), NoMemory>
+    ensures { OnOk result (bytes.new.items ≡ bytes.old.items ++ FLAG ∷ (if flag then 1 else 0) ∷ []) }
+{
+    bytes.push(FLAG)?;
+    bytes.push(u8::from(flag))?;
+    Ok(())
+}
+
+/// What is left of a text.
+#[derive(Drop)]
+struct Reader<'a> {
+    rest: &'a [u8],
+}
+
+impl<'a> Reader<'a> {
+    fn byte(&mut self) -> Option<u8>
+        ensures { MatchOption result (self.old.rest.now ≡ []) (λ b. self.old.rest.now ≡ b ∷ self.new.rest.now) }
+    {
+        let (first, rest) = self.rest.split_first()?;
+        self.rest = rest;
+        Some(*first)
+    }
+
+    fn number_32(&mut self) -> Option<u32>
+        ensures { MatchOption result (length self.old.rest.now < 4) (λ n. self.old.rest.now ≡ to_le_bytes w32 n ++ self.new.rest.now) }
+    {
+        let (bytes, rest) = self.rest.split_first_chunk::<4>()?;
+        self.rest = rest;
+        Some(number_32_of(*bytes))
+    }
+
+    fn number_64(&mut self) -> Option<u64>
+        ensures { MatchOption result (length self.old.rest.now < 8) (λ n. self.old.rest.now ≡ to_le_bytes w64 n ++ self.new.rest.now) }
+    {
+        let (bytes, rest) = self.rest.split_first_chunk::<8>()?;
+        self.rest = rest;
+        Some(number_64_of(*bytes))
+    }
+
+    fn text(&mut self) -> Option<&'a str>
+        ensures { MatchOption result ((t s : List ℕ) → IsUtf8 t → length t < 2 ^ 32 → self.old.rest.now ≢ counted t ++ s) (λ t. (length t.now < 2 ^ 32) × (self.old.rest.now ≡ counted t.now ++ self.new.rest.now)) }
+    {
+        let length = self.number_32()? as usize;
+        if self.rest.len() < length {
+            return None;
+        }
+        let (bytes, rest) = self.rest.split_at(length);
+        self.rest = rest;
+        match std::str::from_utf8(bytes) {
+            Ok(text) => Some(text),
+            Err(_) => None,
+        }
+    }
+
+    fn value(&mut self, alloc: Global) -> Result<Value, RecordError>
+        ensures { MatchResult result (λ v. ReadsValue self.old.rest.now v self.new.rest.now) (λ e. Refuses e ((v : Value) (s : List ℕ) → ¬ (ReadsValue self.old.rest.now v s))) }
+    {
+        let Some(tag) = self.byte() else {
+            return Err(RecordError::BadRecord);
+        };
+        match tag {
+            TEXT => self.text_value(alloc),
+            NUMBER => self.number_value(),
+            FLAG => self.flag_value(),
+            _ => Err(RecordError::BadRecord),
+        }
+    }
+
+    fn text_value(&mut self, alloc: Global) -> Result<Value, RecordError>
+        ensures { MatchResult result (λ v. ReadsValue (TEXT ∷ self.old.rest.now) v self.new.rest.now) (λ e. Refuses e ((v : Value) (s : List ℕ) → ¬ (ReadsValue (TEXT ∷ self.old.rest.now) v s))) }
+    {
+        match self.text() {
+            Some(text) => Ok(Value::Text(Text::of(alloc, text)?)),
+            None => Err(RecordError::BadRecord),
+        }
+    }
+
+    fn number_value(&mut self) -> Result<Value, RecordError>
+        ensures { MatchResult result (λ v. ReadsValue (NUMBER ∷ self.old.rest.now) v self.new.rest.now) (λ e. Refuses e ((v : Value) (s : List ℕ) → ¬ (ReadsValue (NUMBER ∷ self.old.rest.now) v s))) }
+    {
+        match self.number_64() {
+            Some(number) => Ok(Value::Number(number)),
+            None => Err(RecordError::BadRecord),
+        }
+    }
+
+    fn flag_value(&mut self) -> Result<Value, RecordError>
+        ensures { MatchResult result (λ v. ReadsValue (FLAG ∷ self.old.rest.now) v self.new.rest.now) (λ e. Refuses e ((v : Value) (s : List ℕ) → ¬ (ReadsValue (FLAG ∷ self.old.rest.now) v s))) }
+    {
+        let Some(byte) = self.byte() else {
+            return Err(RecordError::BadRecord);
+        };
+        if byte > 1 {
+            return Err(RecordError::BadRecord);
+        }
+        Ok(Value::Flag(byte == 1))
+    }
+
+    fn cell(&mut self, alloc: Global, low: u8) -> Result<Cell, RecordError>
+        ensures { MatchResult result (λ c. ReadsCell low self.old.rest.now c self.new.rest.now) (λ e. Refuses e ((c : Cell) (s : List ℕ) → ¬ (ReadsCell low self.old.rest.now c s))) }
+    {
+        let Some(place) = self.byte() else {
+            return Err(RecordError::BadRecord);
+        };
+        if place < low || Field::COUNT <= place {
+            return Err(RecordError::BadRecord);
+        }
+        let field = Field::at(place);
+        let value = self.value(alloc)?;
+        if value.kind() != field.kind() {
+            return Err(RecordError::BadRecord);
+        }
+        Ok(Cell { field, value })
+    }
+
+    fn cells(&mut self, alloc: Global, count: u32) -> Result<Vec<Cell>, RecordError>
+        ensures { MatchResult result (λ cells. ReadsCells 0 count self.old.rest.now cells.items self.new.rest.now) (λ e. Refuses e ((cells : List Cell) (s : List ℕ) → ¬ (ReadsCells 0 count self.old.rest.now cells s))) }
+    {
+        let mut cells = Vec::new(alloc);
+        let mut low = 0;
+        for _ in 0..count {
+            let cell = self.cell(alloc, low)?;
+            low = cell.field.place() + 1;
+            push(&mut cells, cell)?;
+        }
+        Ok(cells)
+    }
+}
+
+fn number_32_of(bytes: [u8; 4]) -> u32
+    ensures { to_le_bytes w32 result ≡ bytes }
+{
+    u32::from_le_bytes(bytes)
+}
+
+fn number_64_of(bytes: [u8; 8]) -> u64
+    ensures { to_le_bytes w64 result ≡ bytes }
+{
+    u64::from_le_bytes(bytes)
+}
+
+fn push(cells: &mut Vec<Cell>, cell: Cell) -> Result<(), NoMemory>
+    ensures { OnOk result (cells.new.items ≡ cells.old.items ++ cell ∷ []) }
+{
+    cells.push(cell)?;
+    Ok(())
+}
