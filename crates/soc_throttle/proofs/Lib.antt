@@ -1,1 +1,3 @@
+pub mod AcceptAll
 pub mod Lists
+pub mod Names

@@ -1,7 +1,7 @@
 -- What becomes of a crash, by its annotations and a draw: the first rule that decides it (this project's profile).
-use Rattle.std.specs.Prelude.{ℕ, ◌%◌, nat_lt, nat_eq, Bool, true, false, ◌&&◌, List, [], ◌∷◌, Option, Some, None, is_some, find, codes}
+use Rattle.std.specs.Prelude.{ℕ, ◌%◌, nat_lt, nat_le, nat_eq, Bool, true, false, ◌&&◌, List, [], ◌∷◌, Option, Some, None, is_some, find, length, codes}
 use Rattle.std.specs.Option.{option_map_or}
-use Rattle.std.specs.List.{list_any, starts_with}
+use Rattle.std.specs.List.{list_any, list_all, starts_with}
 use Rattle.std.specs.Str.{bytes_eq}
 use Rattle.soc_raw.specs.Names.{value_of}
 use Rattle.soc_throttle.specs.declared.rule.Outcome.{Outcome}
@@ -42,3 +42,10 @@ verdict_of rules annotations draw = verdict_by (find (decides annotations draw) 
 -- the rules that stand where a settings file has none: each crash is kept
 abbrev pub accept_all : List Rule
 accept_all = record { name = codes "accept_all"; condition = Always; percent = 100; outcome = Accept } ∷ []
+
+-- at most 40 bytes name the rule
+abbrev pub has_short_name : Rule → Bool
+has_short_name rule = nat_le (length rule.name) 40
+
+abbrev pub are_short : List Rule → Bool
+are_short rules = list_all has_short_name rules

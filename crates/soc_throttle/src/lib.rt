@@ -7,3 +7,6 @@ mod rule_set;
 
 pub use rule::{Condition, Outcome, Rule};
 pub use rule_set::{RuleError, RuleSet, Verdict};
+
+#[cfg(test)]
+mod tests;

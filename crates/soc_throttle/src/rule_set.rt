@@ -1,5 +1,5 @@
 // The rules of a settings file, and the verdict on a crash.
-ghost use Rattle.std.specs.Prelude.{◌≡◌, None, IfOk, OnOk, IfErr, find, option_copied};
+ghost use Rattle.std.specs.Prelude.{◌≡◌, ◌≤◌, length, None, IfOk, OnOk, IfErr, find, option_copied};
 ghost use Rattle.toml.specs.View.{view, array_view};
 ghost use Rattle.soc_throttle.specs.Refusals.{IsNamed};
 ghost use Rattle.soc_throttle.specs.Rules as spec;
@@ -64,12 +64,16 @@ pub struct RuleSet {
 }
 
 impl Model for RuleSet {
-    ghost use Rattle.std.specs.Prelude.{List};
+    ghost use Rattle.std.specs.Prelude.{List, ◌≡◌, true};
     ghost use Rattle.soc_throttle.specs.declared.rule.Rule.{Rule};
 
     ghost Value = { List Rule };
 
     ghost view = { λ s. s.rules.items };
+
+    ghost use Rattle.soc_throttle.specs.Verdicts.{are_short};
+
+    ghost invariant = { λ s. are_short s.rules.items ≡ true };
 }
 
 impl RuleSet {
@@ -103,7 +107,8 @@ impl RuleSet {
 
     /// What becomes of a crash with these annotations. All rules use one draw.
     pub fn verdict<'a>(&'a self, annotations: &Texts, draw: u64) -> Verdict<'a>
-        ensures { (result.rule.now, result.outcome) ≡ verdicts.verdict_of self.now annotations.now draw }
+        ensures verdict { (result.rule.now, result.outcome) ≡ verdicts.verdict_of self.now annotations.now draw }
+        ensures short { length result.rule.now ≤ 40 }
     {
         match first_deciding(self.rules.as_slice(), annotations, draw) {
             Some(rule) => Verdict {

@@ -1,0 +1,267 @@
+use crate::*;
+use soc_raw::{Text, Texts};
+use std::alloc::Global;
+use std::test::Fail;
+
+// A settings file's rules, as an operator may write them.
+const EXAMPLE: &str = "
+[[rule]]
+name = 'has_comments'
+form = 'present'
+key = 'Comments'
+result = 'accept'
+
+[[rule]]
+name = 'release_tenth'
+form = 'equals'
+key = 'ReleaseChannel'
+value = 'release'
+percent = 10
+result = 'accept'
+
+[[rule]]
+name = 'release_rest'
+form = 'equals'
+key = 'ReleaseChannel'
+value = 'release'
+result = 'defer'
+
+[[rule]]
+name = 'esr'
+form = 'prefix'
+key = 'Version'
+value = '128.'
+result = 'defer'
+
+[[rule]]
+name = 'known_products'
+form = 'one_of'
+key = 'ProductName'
+value = ['Firefox', 'Fenix']
+result = 'accept'
+";
+
+fn rules_of(alloc: Global, text: &str) -> Result<RuleSet, Fail> {
+    let table = toml::table_from_str(alloc, text)?;
+    let rules = soc_toml::value_at(&table, "rule").ok_or("no rules")?;
+    Ok(RuleSet::read(alloc, rules)?)
+}
+
+fn bad_place(alloc: Global, text: &str) -> Result<Option<u32>, Fail> {
+    let table = toml::table_from_str(alloc, text)?;
+    let rules = soc_toml::value_at(&table, "rule").ok_or("no rules")?;
+    match RuleSet::read(alloc, rules) {
+        Ok(_) => Ok(None),
+        Err(RuleError::BadRule { index }) => Ok(Some(index)),
+        Err(RuleError::NoMemory) => Err("out of memory".into()),
+    }
+}
+
+fn annotations(alloc: Global, pairs: &[(&str, &str)]) -> Result<Texts, Fail> {
+    let mut texts = Texts::new(alloc);
+    for (name, value) in pairs {
+        texts.set(Text::of(alloc, *name)?, Text::of(alloc, *value)?)?;
+    }
+    Ok(texts)
+}
+
+#[test]
+fn names_the_first_bad_rule(rt: HostRuntime) -> Result<(), Fail> {
+    let alloc = rt.alloc();
+    let rows = [
+        ("rule = []", None),
+        ("rule = 1", Some(0)),
+        ("rule = [1]", Some(0)),
+        (
+            "rule = [{name = 'a', form = 'always', result = 'accept'}]",
+            None,
+        ),
+        (
+            "rule = [{name = 'a', form = 'always', result = 'accept'}, {name = 'a', form = 'always'}]",
+            Some(1),
+        ),
+        (
+            "rule = [{name = 'a', form = 'never', result = 'accept'}]",
+            Some(0),
+        ),
+        (
+            "rule = [{name = 'a', form = 'always', result = 'Accept'}]",
+            Some(0),
+        ),
+        (
+            "rule = [{name = 'a', form = 'always', result = 'accept', key = 'k'}]",
+            Some(0),
+        ),
+        (
+            "rule = [{name = 'a', form = 'always', result = 'accept', colour = 1}]",
+            Some(0),
+        ),
+        (
+            "rule = [{name = '', form = 'always', result = 'accept'}]",
+            Some(0),
+        ),
+        (
+            "rule = [{name = 'A', form = 'always', result = 'accept'}]",
+            Some(0),
+        ),
+        (
+            "rule = [{name = 'abcdefghij_123456789_abcdefghij_12345678', form = 'always', result = 'accept'}]",
+            None,
+        ),
+        (
+            "rule = [{name = 'abcdefghij_123456789_abcdefghij_123456789', form = 'always', result = 'accept'}]",
+            Some(0),
+        ),
+        (
+            "rule = [{name = 'a', form = 'always', result = 'accept', percent = 0}]",
+            None,
+        ),
+        (
+            "rule = [{name = 'a', form = 'always', result = 'accept', percent = 100}]",
+            None,
+        ),
+        (
+            "rule = [{name = 'a', form = 'always', result = 'accept', percent = 101}]",
+            Some(0),
+        ),
+        (
+            "rule = [{name = 'a', form = 'always', result = 'accept', percent = -1}]",
+            Some(0),
+        ),
+        (
+            "rule = [{name = 'a', form = 'present', result = 'accept'}]",
+            Some(0),
+        ),
+        (
+            "rule = [{name = 'a', form = 'present', result = 'accept', key = 'k', value = 'v'}]",
+            Some(0),
+        ),
+        (
+            "rule = [{name = 'a', form = 'equals', result = 'accept', key = 'k', value = ['v']}]",
+            Some(0),
+        ),
+        (
+            "rule = [{name = 'a', form = 'one_of', result = 'accept', key = 'k', value = 'v'}]",
+            Some(0),
+        ),
+        (
+            "rule = [{name = 'a', form = 'one_of', result = 'accept', key = 'k', value = ['v', 1]}]",
+            Some(0),
+        ),
+        (
+            "rule = [{name = 'a', form = 'one_of', result = 'accept', key = 'k', value = []}]",
+            None,
+        ),
+    ];
+    for (text, bad) in &rows {
+        assert_eq!(rt; bad_place(alloc, *text)?, *bad, "{text}");
+    }
+    Ok(())
+}
+
+#[test]
+fn takes_256_rules(rt: HostRuntime) -> Result<(), Fail> {
+    let alloc = rt.alloc();
+    let mut text = String::new(alloc);
+    for _ in 0..256 {
+        text.push_str("[[rule]]\nname = 'a'\nform = 'always'\nresult = 'accept'\n")?;
+    }
+    assert_eq!(rt; bad_place(alloc, text.as_str())?, None);
+    text.push_str("[[rule]]\nname = 'a'\nform = 'always'\nresult = 'accept'\n")?;
+    assert_eq!(rt; bad_place(alloc, text.as_str())?, Some(256));
+    Ok(())
+}
+
+#[test]
+fn first_rule_decides(rt: HostRuntime) -> Result<(), Fail> {
+    let alloc = rt.alloc();
+    let rules = rules_of(alloc, EXAMPLE)?;
+    let rows = [
+        (
+            [("Comments", ""), ("ReleaseChannel", "release")],
+            99,
+            "has_comments",
+            Outcome::Accept,
+        ),
+        (
+            [("ProductName", "Firefox"), ("ReleaseChannel", "release")],
+            0,
+            "release_tenth",
+            Outcome::Accept,
+        ),
+        (
+            [("ProductName", "Firefox"), ("ReleaseChannel", "release")],
+            9,
+            "release_tenth",
+            Outcome::Accept,
+        ),
+        (
+            [("ProductName", "Firefox"), ("ReleaseChannel", "release")],
+            10,
+            "release_rest",
+            Outcome::Defer,
+        ),
+        (
+            [("ProductName", "Firefox"), ("ReleaseChannel", "release")],
+            99,
+            "release_rest",
+            Outcome::Defer,
+        ),
+        (
+            [("ProductName", "Firefox"), ("ReleaseChannel", "release")],
+            100,
+            "release_tenth",
+            Outcome::Accept,
+        ),
+        (
+            [("ProductName", "Firefox"), ("ReleaseChannel", "release")],
+            u64::MAX,
+            "release_rest",
+            Outcome::Defer,
+        ),
+        (
+            [("ProductName", "Firefox"), ("ReleaseChannel", "released")],
+            0,
+            "known_products",
+            Outcome::Accept,
+        ),
+        (
+            [("ProductName", "Firefox"), ("Version", "128.3.1")],
+            0,
+            "esr",
+            Outcome::Defer,
+        ),
+        (
+            [("ProductName", "Fenix"), ("Version", "1.128.")],
+            0,
+            "known_products",
+            Outcome::Accept,
+        ),
+        (
+            [("ProductName", "Firefo"), ("Version", "")],
+            0,
+            "no_match",
+            Outcome::Reject,
+        ),
+    ];
+    for (pairs, draw, rule, outcome) in &rows {
+        let texts = annotations(alloc, pairs)?;
+        let verdict = rules.verdict(&texts, *draw);
+        assert_eq!(rt; verdict.rule, *rule);
+        assert_eq!(rt; verdict.outcome, *outcome);
+    }
+    Ok(())
+}
+
+#[test]
+fn accepts_all(rt: HostRuntime) -> Result<(), Fail> {
+    let alloc = rt.alloc();
+    let rules = RuleSet::accept_all(alloc)?;
+    let none = Texts::new(alloc);
+    for draw in [0, 99, u64::MAX] {
+        let verdict = rules.verdict(&none, draw);
+        assert_eq!(rt; verdict.rule, "accept_all");
+        assert_eq!(rt; verdict.outcome, Outcome::Accept);
+    }
+    Ok(())
+}
