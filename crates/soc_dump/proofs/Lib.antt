@@ -2,3 +2,4 @@ pub mod NumberLemmas
 pub mod CheckLemmas
 pub mod DirectoryLemmas
 pub mod ListLemmas
+pub mod WordLemmas

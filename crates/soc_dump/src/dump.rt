@@ -1,9 +1,10 @@
 // A whole dump.
-ghost use Rattle.std.specs.Prelude.{◌≡◌, map, option_map};
+ghost use Rattle.std.specs.Prelude.{◌≡◌, ◌≤◌, map, option_map};
 ghost use Rattle.soc_dump.specs.Checks.{IsRead};
 ghost use Rattle.soc_dump.specs.Dump.{dump_checks, contents_of, contents_checks, contents_in};
 ghost use Rattle.soc_dump.specs.Directory.{AllInside};
 ghost use Rattle.soc_dump.specs.Views.{thread_entry, module_entry, exception_entry};
+ghost use Rattle.soc_dump.specs.Memory.{word_in, regions_of};
 
 use crate::directory::{Stream, read_header, read_streams};
 use crate::error::DumpError;
@@ -13,6 +14,7 @@ use crate::modules::Module;
 use crate::streams::{find_exception, find_memory, find_modules, find_system, find_threads};
 use crate::system::System;
 use crate::thread::Thread;
+use crate::word::find_word;
 use std::alloc::Global;
 use std::marker::Model;
 
@@ -101,5 +103,20 @@ impl<'a> Dump<'a> {
         ensures { option_map (λ s. s.now) result ≡ self.now.system }
     {
         self.system.as_ref()
+    }
+
+    /// The word of `width` bytes at an address, the lowest byte first. It comes from the first
+    /// region that holds it whole: the memory list's, in its order, then the threads' stacks.
+    pub fn word_at(&self, address: u64, width: u8) -> Option<u64>
+        requires some { 1 ≤ width }
+        requires fits { width ≤ 8 }
+        ensures { result ≡ word_in (regions_of self.now) address width }
+    {
+        find_word(
+            self.memory.as_slice(),
+            self.threads.as_slice(),
+            address,
+            width as usize,
+        )
     }
 }

@@ -1,6 +1,6 @@
 // Words of the process's memory.
-ghost use Rattle.std.specs.Prelude.{◌≡◌, ◌≤◌, IsTrue, find};
-ghost use Rattle.soc_dump.specs.Memory.{holds_word, word_of, stack_of};
+ghost use Rattle.std.specs.Prelude.{◌≡◌, ◌≤◌, ◌++◌, IsTrue, find, map};
+ghost use Rattle.soc_dump.specs.Memory.{holds_word, word_of, word_in, stack_of};
 ghost use Rattle.soc_dump.specs.Views.{memory_entry, thread_entry};
 
 use crate::memory::Region;
@@ -20,7 +20,7 @@ fn holds(region: Region<'_>, address: u64, width: usize) -> bool
 }
 
 /// A word of a region.
-pub fn word_of_region(region: Region<'_>, address: u64, width: usize) -> u64
+fn word_of_region(region: Region<'_>, address: u64, width: usize) -> u64
     requires some { 1 ≤ width }
     requires fits { width ≤ 8 }
     requires held { IsTrue (holds_word address width (memory_entry region)) }
@@ -31,7 +31,7 @@ pub fn word_of_region(region: Region<'_>, address: u64, width: usize) -> u64
 }
 
 /// The stack of a thread.
-pub fn stack_region<'a>(thread: Thread<'a>) -> Region<'a>
+fn stack_region<'a>(thread: Thread<'a>) -> Region<'a>
     ensures { memory_entry result ≡ stack_of (thread_entry thread.entry) }
 {
     Region {
@@ -41,7 +41,7 @@ pub fn stack_region<'a>(thread: Thread<'a>) -> Region<'a>
 }
 
 /// The first region that holds a word whole.
-pub fn find_region<'a>(regions: &[Region<'a>], address: u64, width: usize) -> Option<Region<'a>>
+fn find_region<'a>(regions: &[Region<'a>], address: u64, width: usize) -> Option<Region<'a>>
     ensures { result ≡ find (λ region. holds_word address width (memory_entry region)) regions.now }
 {
     regions
@@ -51,11 +51,25 @@ pub fn find_region<'a>(regions: &[Region<'a>], address: u64, width: usize) -> Op
 }
 
 /// The first thread whose stack holds a word whole.
-pub fn find_stack<'a>(threads: &[Thread<'a>], address: u64, width: usize) -> Option<Thread<'a>>
+fn find_stack<'a>(threads: &[Thread<'a>], address: u64, width: usize) -> Option<Thread<'a>>
     ensures { result ≡ find (λ thread. holds_word address width (stack_of (thread_entry thread))) threads.now }
 {
     threads
         .iter()
         .copied()
         .find(|thread| holds(stack_region(*thread), address, width))
+}
+
+/// The word of `width` bytes at an address, from the first region that holds it whole, or from the
+/// first such stack.
+pub fn find_word(regions: &[Region<'_>], threads: &[Thread<'_>], address: u64, width: usize) -> Option<u64>
+    requires some { 1 ≤ width }
+    requires fits { width ≤ 8 }
+    ensures { result ≡ word_in (map memory_entry regions.now ++ map stack_of (map thread_entry threads.now)) address width }
+{
+    if let Some(region) = find_region(regions, address, width) {
+        return Some(word_of_region(region, address, width));
+    }
+    let thread = find_stack(threads, address, width)?;
+    Some(word_of_region(stack_region(thread), address, width))
 }
