@@ -3,3 +3,4 @@ pub mod CheckLemmas
 pub mod DirectoryLemmas
 pub mod ListLemmas
 pub mod WordLemmas
+pub mod IdentityLemmas

@@ -7,3 +7,4 @@ pub mod Entries
 pub mod Dump
 pub mod Views
 pub mod Memory
+pub mod Identity

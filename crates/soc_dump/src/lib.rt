@@ -1,11 +1,13 @@
 // Minidumps: what a crashed process left of its memory, read without trust in one byte of it.
 #![tactic(auto)]
 
+mod base_name;
 mod directory;
 mod dump;
 mod error;
 mod exception;
 mod field;
+mod identity;
 mod layout;
 mod list;
 mod memory;
@@ -20,6 +22,7 @@ pub use dump::Dump;
 pub use error::DumpError;
 pub use exception::Exception;
 pub use field::Field;
+pub use identity::{debug_file, debug_id};
 pub use modules::Module;
 pub use system::System;
 pub use thread::Thread;

@@ -1,0 +1,56 @@
+-- How a module names its debug file: a code view record of a PDB file (`RSDS`), or an ELF build id.
+use Rattle.std.specs.Prelude.{ℕ, ◌==◌, ◌&&◌, ◌||◌, nat_le, not, Bool, if◌then◌else◌, List, [], ◌∷◌, ◌++◌, length, drop, map, slice_index, codes, true}
+use Rattle.std.specs.List.{before_first, after_last}
+use Rattle.std.specs.Str.Lossy.{utf8_lossy}
+use Rattle.std.specs.Fmt.{digits}
+use Rattle.hex.specs.Hex.{encode_upper}
+use Rattle.soc_dump.specs.Layout.{code_view_kind, code_view_id, pdb_kind, pdb_age, pdb_file, build_id_kind}
+use Rattle.soc_dump.specs.Number.{number_of}
+use Rattle.soc_dump.specs.Entries.{ModuleEntry}
+
+abbrev pub is_pdb : List ℕ → Bool
+is_pdb bytes = nat_le pdb_file (length bytes) && (number_of bytes code_view_kind == pdb_kind)
+
+abbrev pub is_build_id : List ℕ → Bool
+is_build_id bytes = nat_le code_view_id (length bytes) && (number_of bytes code_view_kind == build_id_kind)
+
+-- a GUID prints as a number of four bytes and two of two bytes, each with its highest byte first, and eight bytes
+abbrev pub guid_order : List ℕ
+guid_order = 3 ∷ 2 ∷ 1 ∷ 0 ∷ 5 ∷ 4 ∷ 7 ∷ 6 ∷ 8 ∷ 9 ∷ 10 ∷ 11 ∷ 12 ∷ 13 ∷ 14 ∷ 15 ∷ []
+
+-- bytes past the end count as zeros
+unfoldable pub guid_bytes_of : List ℕ → List ℕ
+guid_bytes_of guid = map (λ at. slice_index guid at) guid_order
+
+abbrev pub guid_text : List ℕ → List ℕ
+guid_text guid = encode_upper (guid_bytes_of guid)
+
+-- the id of a PDB file: the GUID, and the age in hexadecimal
+abbrev pub pdb_id_of : List ℕ → List ℕ
+pdb_id_of bytes = guid_text (drop code_view_id bytes) ++ digits 16 true (number_of bytes pdb_age)
+
+-- the first sixteen bytes of a build id as a GUID, and an age of 0
+abbrev pub build_id_of : List ℕ → List ℕ
+build_id_of bytes = guid_text (drop code_view_id bytes) ++ codes "0"
+
+-- nothing for any other record
+unfoldable pub debug_id_of : List ℕ → List ℕ
+debug_id_of bytes = if is_pdb bytes then pdb_id_of bytes else if is_build_id bytes then build_id_of bytes else []
+
+abbrev pub is_separator : ℕ → Bool
+is_separator byte = (byte == slice_index (codes "/") 0) || (byte == slice_index (codes "\\") 0)
+
+-- what follows the last `/` or `\`, or all where there is none
+abbrev pub base_name_of : List ℕ → List ℕ
+base_name_of path = after_last is_separator path
+
+-- the file name of the record of a PDB file, up to a NUL or the end
+abbrev pub pdb_path_of : List ℕ → List ℕ
+pdb_path_of bytes = utf8_lossy (before_first (λ byte. byte == 0) (drop pdb_file bytes))
+
+-- a PDB file's name, or the module's own for a build id; nothing for any other record
+unfoldable pub debug_file_of : ModuleEntry → List ℕ
+debug_file_of loaded =
+    if is_pdb loaded.code_view then base_name_of (pdb_path_of loaded.code_view)
+    else if is_build_id loaded.code_view then base_name_of loaded.name
+    else []

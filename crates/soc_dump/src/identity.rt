@@ -1,0 +1,124 @@
+// How a module names its debug file.
+ghost use Rattle.std.specs.Prelude.{◌≡◌, ◌==◌, IfOk, IsTrue, map, slice_index, string_bytes};
+ghost use Rattle.std.specs.List.{before_first, position_or_len};
+ghost use Rattle.soc_dump.specs.Identity.{is_pdb, is_build_id, guid_text, pdb_id_of, build_id_of, pdb_path_of, debug_id_of, debug_file_of};
+ghost use Rattle.soc_dump.specs.Views.{module_entry};
+
+use crate::base_name::base_name;
+use crate::field::narrow;
+use crate::layout::*;
+use crate::modules::Module;
+use soc_raw::{NoMemory, Text};
+use std::alloc::Global;
+
+// The places of a GUID's bytes in the order in which they are printed.
+const GUID_ORDER: [usize; 16] = [3, 2, 1, 0, 5, 4, 7, 6, 8, 9, 10, 11, 12, 13, 14, 15];
+
+/// Whether a code view record names a PDB file.
+fn names_pdb(bytes: &[u8]) -> bool
+    ensures { result ≡ is_pdb bytes.now }
+{
+    PDB_FILE <= bytes.len() && narrow(bytes, CODE_VIEW_KIND) == PDB_KIND
+}
+
+/// Whether a code view record holds an ELF build id.
+fn holds_build_id(bytes: &[u8]) -> bool
+    ensures { result ≡ is_build_id bytes.now }
+{
+    CODE_VIEW_ID <= bytes.len() && narrow(bytes, CODE_VIEW_KIND) == BUILD_ID_KIND
+}
+
+/// A byte of an id; a byte past its end is 0.
+fn byte_at(id: &[u8], at: usize) -> u8
+    ensures { result ≡ slice_index id.now at }
+{
+    if at < id.len() { id[at] } else { 0 }
+}
+
+/// The bytes of an id at some places, in the places' order.
+fn bytes_at(alloc: Global, id: &[u8], places: &[usize]) -> Result<Vec<u8>, NoMemory>
+    ensures { IfOk result (λ bytes. bytes.items ≡ map (λ at. slice_index id.now at) places.now) }
+{
+    let bytes: Vec<u8> = places.iter().map(|at| byte_at(id, *at)).collect(alloc)?;
+    Ok(bytes)
+}
+
+/// The digits of a GUID. Bytes past the end count as zeros.
+fn guid_digits(alloc: Global, guid: &[u8]) -> Result<String, NoMemory>
+    ensures { IfOk result (λ text. string_bytes text ≡ guid_text guid.now) }
+{
+    let bytes = bytes_at(alloc, guid, &GUID_ORDER)?;
+    Ok(hex::encode_upper(alloc, bytes.as_slice())?)
+}
+
+/// The id of a PDB file.
+fn pdb_id(alloc: Global, bytes: &[u8]) -> Result<Text, NoMemory>
+    requires { IsTrue (is_pdb bytes.now) }
+    ensures { IfOk result (λ text. text ≡ pdb_id_of bytes.now) }
+{
+    let guid = guid_digits(alloc, &bytes[CODE_VIEW_ID..])?;
+    let age = narrow(bytes, PDB_AGE);
+    Ok(Text::from(format!(in alloc; "{guid}{age:X}")?))
+}
+
+/// The id that stands for a build id.
+fn build_id(alloc: Global, bytes: &[u8]) -> Result<Text, NoMemory>
+    requires { IsTrue (is_build_id bytes.now) }
+    ensures { IfOk result (λ text. text ≡ build_id_of bytes.now) }
+{
+    let guid = guid_digits(alloc, &bytes[CODE_VIEW_ID..])?;
+    Ok(Text::from(format!(in alloc; "{guid}0")?))
+}
+
+/// The id that a module's debug file has: the GUID and the age of a PDB file, or the first sixteen
+/// bytes of a build id as a GUID and `0`. It is empty where no such record stands.
+pub fn debug_id(alloc: Global, module: &Module<'_>) -> Result<Text, NoMemory>
+    ensures { IfOk result (λ text. text ≡ debug_id_of «module».now.code_view.now) }
+{
+    let bytes = module.code_view;
+    if names_pdb(bytes) {
+        return pdb_id(alloc, bytes);
+    }
+    if holds_build_id(bytes) {
+        return build_id(alloc, bytes);
+    }
+    Text::of(alloc, "")
+}
+
+/// Where the first NUL stands, or the length.
+fn nul_place(bytes: &[u8]) -> usize
+    ensures { result ≡ position_or_len (λ byte. byte == 0) bytes.now }
+{
+    for (at, byte) in bytes.iter().enumerate() {
+        if *byte == 0 {
+            return at;
+        }
+    }
+    bytes.len()
+}
+
+/// The path that the record of a PDB file names.
+fn pdb_path(alloc: Global, bytes: &[u8]) -> Result<String, NoMemory>
+    requires { IsTrue (is_pdb bytes.now) }
+    ensures { IfOk result (λ path. string_bytes path ≡ pdb_path_of bytes.now) }
+{
+    let rest = &bytes[PDB_FILE..];
+    let name = &rest[..nul_place(rest)];
+    Ok(String::from_utf8_lossy(alloc, name)?)
+}
+
+/// The name of a module's debug file: the base name of a PDB file's path, or of the module's own
+/// for a build id. It is empty where no such record stands.
+pub fn debug_file(alloc: Global, module: &Module<'_>) -> Result<Text, NoMemory>
+    ensures { IfOk result (λ text. text ≡ debug_file_of (module_entry «module».now)) }
+{
+    let bytes = module.code_view;
+    if names_pdb(bytes) {
+        let path = pdb_path(alloc, bytes)?;
+        return Text::of(alloc, base_name(path.as_str()));
+    }
+    if holds_build_id(bytes) {
+        return Text::of(alloc, base_name(module.name.as_str()));
+    }
+    Text::of(alloc, "")
+}
