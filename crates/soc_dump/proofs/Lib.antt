@@ -4,3 +4,4 @@ pub mod DirectoryLemmas
 pub mod ListLemmas
 pub mod WordLemmas
 pub mod IdentityLemmas
+pub mod RegisterLemmas

@@ -1,5 +1,5 @@
 -- Words of regions, found among the program's values.
-use Rattle.std.proofs.Common.{◌≡◌, ℕ, Bool, true, false, List, [], ◌∷◌, ◌++◌, Option, None, Some, refl, sym, ◌∙◌, ap, cond, IsTrue}
+use Rattle.std.proofs.Common.{◌≡◌, ℕ, Bool, true, false, List, [], ◌∷◌, ◌++◌, None, Some, refl, sym, ◌∙◌, ap, cond, IsTrue}
 use Rattle.std.specs.Prelude.{map, find, option_map}
 use Rattle.soc_dump.specs.declared.memory.Region.{Region}
 use Rattle.soc_dump.specs.declared.thread.Thread.{Thread}
@@ -11,24 +11,24 @@ find-map : {A B : Type 0} (f : A → B) (test : B → Bool) (xs : List A) → fi
 find-map f test [] = refl
 find-map f test (x ∷ xs) =
     elim (test (f x)) as (λ here. cond here (Some (f x)) (find test (map f xs)) ≡ option_map f (cond here (Some x) (find (λ y. test (f y)) xs))) [
-      true ↦ refl
-    | false ↦ find-map f test xs
+      | true ↦ refl
+      | false ↦ find-map f test xs
     ]
 
 find-append_some : {A : Type 0} (test : A → Bool) (xs ys : List A) (x : A) → find test xs ≡ Some x → find test (xs ++ ys) ≡ Some x
 find-append_some test [] ys x found = cc
 find-append_some test (y ∷ xs) ys x found =
     elim (test y) as (λ here. cond here (Some y) (find test xs) ≡ Some x → cond here (Some y) (find test (xs ++ ys)) ≡ Some x) [
-      true ↦ λ is. is
-    | false ↦ λ is. find-append_some test xs ys x is
+      | true ↦ λ is. is
+      | false ↦ λ is. find-append_some test xs ys x is
     ] found
 
 find-append_none : {A : Type 0} (test : A → Bool) (xs ys : List A) → find test xs ≡ None → find test (xs ++ ys) ≡ find test ys
 find-append_none test [] ys found = refl
 find-append_none test (y ∷ xs) ys found =
     elim (test y) as (λ here. cond here (Some y) (find test xs) ≡ None → cond here (Some y) (find test (xs ++ ys)) ≡ find test ys) [
-      true ↦ λ is. absurd (cc)
-    | false ↦ λ is. find-append_none test xs ys is
+      | true ↦ λ is. absurd (cc)
+      | false ↦ λ is. find-append_none test xs ys is
     ] found
 
 -- what is found passes

@@ -1,5 +1,5 @@
 -- How a module names its debug file: a code view record of a PDB file (`RSDS`), or an ELF build id.
-use Rattle.std.specs.Prelude.{ℕ, ◌==◌, ◌&&◌, ◌||◌, nat_le, not, Bool, if◌then◌else◌, List, [], ◌∷◌, ◌++◌, length, drop, map, slice_index, codes, true}
+use Rattle.std.specs.Prelude.{ℕ, ◌==◌, ◌&&◌, ◌||◌, nat_le, Bool, if◌then◌else◌, List, [], ◌∷◌, ◌++◌, length, drop, map, slice_index, codes, true}
 use Rattle.std.specs.List.{before_first, after_last}
 use Rattle.std.specs.Str.Lossy.{utf8_lossy}
 use Rattle.std.specs.Fmt.{digits}

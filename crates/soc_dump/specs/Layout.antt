@@ -173,13 +173,18 @@ system_platform = field 20 4
 -- a code view record: its kind, and a GUID, an age and a file name, or a build id
 abbrev pub code_view_kind : Field
 code_view_kind = field 0 4
+
 abbrev pub code_view_id : ℕ
 code_view_id = 4
+
 abbrev pub pdb_kind : ℕ
 pdb_kind = 0x53445352
+
 abbrev pub pdb_age : Field
 pdb_age = field 20 4
+
 abbrev pub pdb_file : ℕ
 pdb_file = 24
+
 abbrev pub build_id_kind : ℕ
 build_id_kind = 0x4270454C

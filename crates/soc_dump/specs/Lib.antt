@@ -8,3 +8,5 @@ pub mod Dump
 pub mod Views
 pub mod Memory
 pub mod Identity
+pub mod Registers
+pub mod Names

@@ -213,12 +213,16 @@ pub const CODE_VIEW_KIND: Field = Field {
     offset: 0,
     width: 4,
 };
+
 pub const CODE_VIEW_ID: usize = 4;
 // `RSDS`.
 pub const PDB_KIND: u32 = 0x53445352;
+
 pub const PDB_AGE: Field = Field {
     offset: 20,
     width: 4,
 };
+
 pub const PDB_FILE: usize = 24;
+
 pub const BUILD_ID_KIND: u32 = 0x4270454C;

@@ -31,6 +31,10 @@ pub struct Module<'a> {
     pub code_view: &'a [u8],
 }
 
+// How many bytes of names are copied in all. Entries may share a name, so a small file could ask
+// for far more memory than its own size; past this, memory is wanting.
+const NAME_ROOM: usize = 67_108_864;
+
 /// The units of UTF-16 that some bytes hold, the lower byte of each first.
 fn units_of(alloc: Global, bytes: &[u8]) -> Result<Vec<u16>, NoMemory>
     ensures { IfOk result (λ found. found.items ≡ units bytes.now) }
@@ -74,13 +78,29 @@ fn name_bytes(file: &[u8], place: u64) -> Result<&[u8], DumpError>
     Ok(&rest[..size as usize])
 }
 
-fn read_module<'a>(alloc: Global, file: &'a [u8], entry: &[u8]) -> Result<Module<'a>, DumpError>
+/// Takes some bytes from the room that is left for names.
+fn take_room(room: &mut usize, size: usize) -> Result<(), NoMemory> {
+    if *room < size {
+        return Err(NoMemory);
+    }
+    *room -= size;
+    Ok(())
+}
+
+fn read_module<'a>(
+    alloc: Global,
+    file: &'a [u8],
+    entry: &[u8],
+    room: &mut usize,
+) -> Result<Module<'a>, DumpError>
     requires { module_size ≤ length entry.now }
-    ensures { IsRead result (module_checks file.now entry.now) (λ loaded. module_entry loaded ≡ module_of file.now entry.now) }
+    ensures { IsRead result (module_checks file.now entry.now)
+        (λ loaded. module_entry loaded ≡ module_of file.now entry.now) }
 {
     let name = name_bytes(file, narrow(entry, MODULE_NAME_PLACE) as u64)?;
     let place = narrow(entry, MODULE_CODE_VIEW_PLACE) as u64;
     let code_view = part_of(file, place, narrow(entry, MODULE_CODE_VIEW_SIZE) as u64)?;
+    take_room(room, name.len())?;
     Ok(Module {
         base: wide(entry, MODULE_BASE),
         size: narrow(entry, MODULE_LENGTH),
@@ -101,8 +121,10 @@ pub fn read_modules<'a>(
 {
     let list = read_list(file, stream, MODULE_SIZE)?;
     let mut modules = Vec::with_capacity(alloc, list.count)?;
+    let mut room = NAME_ROOM;
     for index in 0..list.count {
-        let loaded = read_module(alloc, file, &file[list.first + index * MODULE_SIZE..])?;
+        let entry = &file[list.first + index * MODULE_SIZE..];
+        let loaded = read_module(alloc, file, entry, &mut room)?;
         modules.push(loaded)?;
     }
     Ok(modules)

@@ -62,7 +62,12 @@ fn find_stack<'a>(threads: &[Thread<'a>], address: u64, width: usize) -> Option<
 
 /// The word of `width` bytes at an address, from the first region that holds it whole, or from the
 /// first such stack.
-pub fn find_word(regions: &[Region<'_>], threads: &[Thread<'_>], address: u64, width: usize) -> Option<u64>
+pub fn find_word(
+    regions: &[Region<'_>],
+    threads: &[Thread<'_>],
+    address: u64,
+    width: usize,
+) -> Option<u64>
     requires some { 1 ≤ width }
     requires fits { width ≤ 8 }
     ensures { result ≡ word_in (map memory_entry regions.now ++ map stack_of (map thread_entry threads.now)) address width }

@@ -1,4 +1,4 @@
-use Rattle.std.proofs.Common.{◌≡◌, ◌∙◌, sym}
+use Rattle.std.proofs.Common.{◌∙◌, sym}
 use Rattle.soc_dump.proofs.IdentityLemmas.{debug_id_of-pdb, debug_id_of-build, debug_id_of-other}
 use Rattle.soc_dump.proofs.identity.debug_id.Goals as goal
 

@@ -1,4 +1,4 @@
-use Rattle.std.proofs.Common.{◌≡◌, sym, ◌∙◌, ap, Some}
+use Rattle.std.proofs.Common.{◌∙◌, ap, Some}
 use Rattle.soc_dump.specs.Memory.{holds_word, word_of, stack_of}
 use Rattle.soc_dump.specs.Views.{memory_entry, thread_entry}
 use Rattle.soc_dump.proofs.WordLemmas.{find-passes, holds_word-same, word_in-memory, word_in-stack, word_in-none}
