@@ -1,6 +1,6 @@
 -- What a draw, a digit and a day make is an id, and an id is ASCII.
 use Rattle.std.proofs.Common.{drop, eq-eqb, pos, ◌≡◌, ℕ, zero, suc, ◌+◌, ◌-◌, ◌/◌, ◌%◌, ◌<◌, List, [], ◌∷◌, ◌++◌, length, length-append, take, get_or, Bool, true, false, ◌==◌, ◌&&◌, ◌||◌, nat_lt, if◌then◌else◌, refl, sym, ◌∙◌, ap, subst, arith, inl, inr}
-use Rattle.std.proofs.lemmas.Bool.{cases_lt}
+use Rattle.std.proofs.lemmas.Bool.{cases_lt, eqb-true}
 use Rattle.std.proofs.lemmas.Bool.Decides.{nat_tests}
 use Rattle.std.proofs.lemmas.List.{get_or_past, get_or-append_right, length-take-le, get_or-take, length-drop, append-nil}
 use Rattle.std.proofs.lemmas.Str.{IsUtf8-from_ascii}
@@ -66,6 +66,12 @@ id_ascii text h i =
       | inl inside ↦ small (0 + i) (get_or text i 0) (stands_at 0 text all i inside)
       | inr past ↦ rw (get_or_past text i 0 past) (omega arith)
     ]
+
+pub id_len : (text : List ℕ) → is_id text ≡ true → length text ≡ 36
+unfolding is_id
+id_len text h =
+    let len : (length text == 36) ≡ true = and_left (length text == 36) (each_stands 0 text) (and_left (has_form text) _ h) in
+    eqb-true _ _ len
 
 pub id_utf8 : (text : List ℕ) → is_id text ≡ true → IsUtf8 text
 id_utf8 text h = IsUtf8-from_ascii text (id_ascii text h)

@@ -3,3 +3,5 @@ pub mod Ids
 pub mod Lengths
 pub mod PairLists
 pub mod Places
+pub mod Readers
+pub mod Records

@@ -1,6 +1,8 @@
 -- What contracts see of a raw crash.
 use Rattle.std.specs.Prelude.{◌≡◌, ℕ, List}
-use Rattle.soc_raw.specs.Record.{Crash, record_of}
+use Rattle.soc_raw.specs.Record.{Crash, IsNoRecord, record_of}
+use Rattle.soc_raw.specs.declared.record_error.RecordError.{RecordError}
+use Rattle.soc_raw.specs.declared.record_error.RecordError.TheVariants.{BadRecord, NoMemory}
 use Rattle.soc_raw.specs.declared.raw_crash.RawCrash.{RawCrash}
 
 -- the raw crash without where it lies in memory
@@ -14,3 +16,8 @@ record_text r = record_of (crash_of r)
 -- two raw crashes have the same annotations and the same dumps
 abbrev pub HasSameContent : RawCrash → RawCrash → Type 0
 HasSameContent a b = (a.annotations ≡ b.annotations) × (a.dumps ≡ b.dumps)
+
+-- bytes are refused exactly where they are no record; want of memory is free
+abbrev pub IsRefusal : RecordError → List ℕ → Type 0
+IsRefusal BadRecord bytes = IsNoRecord bytes
+IsRefusal NoMemory bytes = Unit {0}

@@ -1,5 +1,5 @@
 -- The record of a raw crash, by concatenation: this project's profile. Numbers are little-endian.
-use Rattle.std.specs.Prelude.{ℕ, ◌^◌, ◌<◌, ◌≤◌, List, ◌++◌, length, flat_map}
+use Rattle.std.specs.Prelude.{◌≡◌, ℕ, ◌^◌, ◌<◌, ◌≤◌, List, ◌++◌, length, flat_map}
 use Rattle.std.specs.Int.{to_le_bytes, w32, w64}
 use Rattle.std.specs.Str.{IsUtf8}
 use Rattle.std.specs.List.{AllByRecursion}
@@ -41,11 +41,17 @@ record_of c = head_text c ++ content_text c
 abbrev pub MAX_RECORD : ℕ
 MAX_RECORD = 67_108_864
 
+abbrev pub MAX_ANNOTATIONS : ℕ
+MAX_ANNOTATIONS = 1024
+
+abbrev pub MAX_DUMPS : ℕ
+MAX_DUMPS = 512
+
 abbrev pub IsText : List ℕ × List ℕ → Type 0
 IsText p = IsUtf8 p.0 × IsUtf8 p.1
 
-abbrev pub IsBlob : List ℕ × List ℕ → Type 0
-IsBlob p = IsUtf8 p.0 × AllByRecursion (λ b. b < 256) p.1
+abbrev pub HasTextName : List ℕ × List ℕ → Type 0
+HasTextName p = IsUtf8 p.0
 
 -- the raw crashes that there are
 pub record IsCrash (c : Crash) : Type 0 where
@@ -55,8 +61,12 @@ pub record IsCrash (c : Crash) : Type 0 where
   pub rule : IsUtf8 c.rule
   pub annotations : AllByRecursion IsText c.annotations
   pub annotations_rise : IsRising c.annotations
-  pub few_annotations : length c.annotations ≤ 1024
-  pub dumps : AllByRecursion IsBlob c.dumps
+  pub few_annotations : length c.annotations ≤ MAX_ANNOTATIONS
+  pub dumps : AllByRecursion HasTextName c.dumps
   pub dumps_rise : IsRising c.dumps
-  pub few_dumps : length c.dumps ≤ 512
+  pub few_dumps : length c.dumps ≤ MAX_DUMPS
   pub fits : length (record_of c) ≤ MAX_RECORD
+
+-- the bytes are no record
+abbrev pub IsNoRecord : List ℕ → Type 0
+IsNoRecord bytes = (c : Crash) → IsCrash c → ¬ (record_of c ≡ bytes)

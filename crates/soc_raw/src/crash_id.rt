@@ -62,7 +62,13 @@ impl CrashId {
     pub fn parse(s: &str) -> Option<CrashId>
         ensures { MatchOption result (¬ (IsId s.now)) (λ id. IsId s.now × (id ≡ s.now)) }
     {
-        let bytes = s.as_bytes();
+        CrashId::of_bytes(s.as_bytes())
+    }
+
+    /// The id that the bytes are.
+    pub fn of_bytes(bytes: &[u8]) -> Option<CrashId>
+        ensures { MatchOption result (¬ (IsId bytes.now)) (λ id. IsId bytes.now × (id ≡ bytes.now)) }
+    {
         if !is_id(bytes) {
             return None;
         }

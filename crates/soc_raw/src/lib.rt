@@ -5,11 +5,13 @@ mod bytes;
 mod copies;
 mod crash_id;
 mod day;
+mod decoding;
 mod digit;
 mod named;
 mod no_memory;
 mod pairs;
 mod raw_crash;
+mod reading;
 mod record_error;
 #[cfg(test)]
 mod tests;

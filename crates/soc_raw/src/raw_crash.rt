@@ -1,16 +1,21 @@
 //! Raw crashes.
-ghost use Rattle.std.specs.Prelude.{◌≡◌, ◌≤◌, ◌↔◌, length, drop, IfOk, IsTrue};
+ghost use Rattle.std.specs.Prelude.{◌≡◌, ◌≤◌, ◌↔◌, length, drop, IfOk, IfErr, IsTrue};
 ghost use Rattle.soc_raw.specs.Day.{IsMoment};
-ghost use Rattle.soc_raw.specs.Record.{MAX_RECORD, record_of, head_text, content_text};
+ghost use Rattle.soc_raw.specs.Record.{MAX_RECORD as max_record, IsCrash, record_of, head_text, content_text};
 
 use crate::bytes::Bytes;
 use crate::copies::{are_same_blobs, are_same_texts, copy_of_blobs, copy_of_texts};
 use crate::crash_id::CrashId;
+use crate::decoding::parts_of;
 use crate::named::{Blobs, Texts};
 use crate::no_memory::NoMemory;
+use crate::record_error::RecordError;
 use crate::text::Text;
 use crate::writing::{put_blobs, put_counted, put_texts};
 use std::alloc::Global;
+
+/// The greatest length of a record, in bytes.
+const MAX_RECORD: usize = 67_108_864;
 
 /// A crash as it was accepted.
 #[derive(Debug, Drop)]
@@ -30,11 +35,11 @@ pub struct RawCrash {
     pub ghost few_annotations: { length annotations ≤ 1024 },
     pub ghost few_dumps: { length dumps ≤ 512 },
     // The record has at most 67,108,864 bytes.
-    pub ghost fits: { length (record_of (record { id = id; moment = moment; draw = draw; rule = rule; annotations = annotations; dumps = dumps })) ≤ MAX_RECORD },
+    pub ghost fits: { length (record_of (record { id = id; moment = moment; draw = draw; rule = rule; annotations = annotations; dumps = dumps })) ≤ max_record },
 }
 
 impl RawCrash {
-    ghost use Rattle.soc_raw.specs.RawCrash.{crash_of, record_text, HasSameContent};
+    ghost use Rattle.soc_raw.specs.RawCrash.{crash_of, record_text, HasSameContent, IsRefusal};
 
     /// The same raw crash, in memory of its own.
     pub fn copy(&self, alloc: Global) -> Result<RawCrash, NoMemory>
@@ -80,5 +85,28 @@ impl RawCrash {
         let id = self.id.as_str();
         let rule = self.rule.as_str();
         (id.len() + 8 + 8 + 4 + rule.len()) as u64
+    }
+
+    /// The raw crash of which the bytes are the record.
+    ///
+    /// # Errors
+    /// `BadRecord` exactly where the bytes are no record.
+    pub fn decode(alloc: Global, b: &[u8]) -> Result<RawCrash, RecordError>
+        ensures ok { IfOk result (λ raw. record_text raw ≡ b.now) }
+        ensures whole { IfOk result (λ raw. IsCrash (crash_of raw)) }
+        ensures bad { IfErr result (λ e. IsRefusal e b.now) }
+    {
+        if b.len() > MAX_RECORD {
+            return Err(RecordError::BadRecord);
+        }
+        let parts = parts_of(alloc, b)?;
+        Ok(RawCrash {
+            id: parts.id,
+            moment: parts.moment,
+            draw: parts.draw,
+            rule: parts.rule,
+            annotations: parts.annotations,
+            dumps: parts.dumps,
+        })
     }
 }

@@ -1,4 +1,5 @@
-use crate::{CrashId, Date, Digit, day_of};
+use crate::{CrashId, Date, Digit, RawCrash, RecordError, day_of};
+use std::test::Fail;
 
 const DRAW: [u8; 16] = [
     0xde, 0x1b, 0xb2, 0x58, 0xcb, 0xbf, 0x45, 0x89, 0xa6, 0x73, 0x34, 0xf8, 0, 0, 0, 0,
@@ -52,5 +53,35 @@ fn days_of_moments(rt: HostRuntime) {
         (4_102_444_799, 2099, 12, 31),
     ] {
         assert_eq!(rt; day_of(moment), Date { year, month, day });
+    }
+}
+
+const RECORD: &[u8] =
+    b"de1bb258-cbbf-4589-a673-34f800160918\x00\xd9\xdd\x57\0\0\0\0\x07\0\0\0\0\0\0\0\x0a\0\0\0accept_all\x01\0\0\0\x0b\0\0\0ProductName\x07\0\0\0Firefox\x01\0\0\0\x14\0\0\0upload_file_minidump\x04\0\0\0MDMP";
+
+#[test]
+fn a_record(rt: HostRuntime) -> Result<(), Fail> {
+    let raw = RawCrash::decode(rt.alloc(), RECORD)?;
+    assert_eq!(rt; raw.id.as_str(), "de1bb258-cbbf-4589-a673-34f800160918");
+    assert_eq!(rt; raw.moment, 1_474_156_800);
+    assert_eq!(rt; raw.draw, 7);
+    assert_eq!(rt; raw.rule.as_str(), "accept_all");
+    assert_eq!(rt; raw.annotations.get("ProductName"), Some("Firefox"));
+    assert_eq!(rt;
+        raw.dumps.get("upload_file_minidump"),
+        Some(b"MDMP".as_slice())
+    );
+    assert_eq!(rt; raw.content_place(), 66);
+    assert_eq!(rt; raw.encode(rt.alloc())?.as_slice(), RECORD);
+    let copy = raw.copy(rt.alloc())?;
+    assert!(rt; copy.same_content(&raw));
+    Ok(())
+}
+
+#[test]
+fn fronts_of_a_record(rt: HostRuntime) {
+    for end in 0..RECORD.len() {
+        let read = RawCrash::decode(rt.alloc(), &RECORD[..end]);
+        assert!(rt; matches!(read, Err(RecordError::BadRecord)));
     }
 }

@@ -1,0 +1,403 @@
+-- What is read stands at the front as it is written, and what was written is read again.
+use Rattle.std.proofs.Common.{◌≡◌, ℕ, zero, suc, ◌+◌, ◌^◌, ◌<◌, ◌≤◌, Bool, true, false, cond, ltb, ◌==◌, List, [], ◌∷◌, ◌++◌, length, length-append, get_or, take, drop, Option, Some, None, refl, sym, ap, subst, ◌∙◌, append_assoc, arith, inl, inr, lit<}
+use Rattle.std.specs.Prelude.{flat_map}
+use Rattle.std.specs.Int.{Width, w32, w64, byte_len, from_le_bytes, to_le_bytes}
+use Rattle.std.specs.List.{AllByRecursion}
+use Rattle.std.specs.List.Sorted.{IsStrictlySortedBy}
+use Rattle.std.specs.Ordering.{nat_cmp, is_lt}
+use Rattle.std.specs.Cmp.Lexicographic.{slice_cmp, nat_list_cmp_total}
+use Rattle.std.specs.Map.{keys_of}
+use Rattle.std.specs.Str.{IsUtf8, is_utf8}
+use Rattle.std.specs.declared.cmp.Ordering.TheVariants.{Less, Equal, Greater}
+use Rattle.std.proofs.lemmas.Bool.{cases_lt, ltb-false, le-ltb, eqb-true}
+use Rattle.std.proofs.lemmas.Bool.Decides.{nat_tests}
+use Rattle.std.proofs.lemmas.List.{take_at, drop_at, take-append-drop, length-take-le, get_or-drop, get_or-take, get_or_past, append-nil, nil_from_length}
+use Rattle.std.proofs.lemmas.Nat.{le_bytes_4, le_bytes_8, from_le_bytes-to_le_bytes_4, from_le_bytes-to_le_bytes_8}
+use Rattle.std.proofs.lemmas.Str.{IsUtf8-from_is_utf8, is_utf8-from_IsUtf8}
+use Rattle.soc_raw.specs.CrashId.{is_id, IsId}
+use Rattle.soc_raw.specs.Day.{IsMoment}
+use Rattle.soc_raw.specs.Names.{IsRising}
+use Rattle.soc_raw.specs.Record.{Crash, counted, pair_text, pairs_text, head_text, content_text, record_of, MAX_RECORD, MAX_ANNOTATIONS, MAX_DUMPS, IsText, HasTextName, IsCrash}
+use Rattle.soc_raw.specs.declared.record_error.RecordError.{RecordError}
+use Rattle.soc_raw.specs.declared.record_error.RecordError.TheVariants.{BadRecord, NoMemory}
+use Rattle.soc_raw.specs.RawCrash.{IsRefusal}
+use Rattle.soc_raw.specs.Reading.{Refuses, ◌>>=◌, number_at, bytes_at, blob_at, text_at, id_at, is_moment, moment_at, text_pair_at, blob_pair_at, is_above, pairs_at, counted_pairs_at, crash_at}
+use Rattle.soc_raw.proofs.PairLists.{some_same}
+use Rattle.soc_raw.proofs.Readers.{Item, Pairs}
+use Rattle.soc_raw.proofs.Ids.{id_len}
+use Rattle.soc_raw.proofs.Lengths.{pairs_fit, rule_fits}
+
+abbrev pub IsBytes : List ℕ → Type 0
+IsBytes bytes = (i : ℕ) → get_or bytes i 0 < 256
+
+bytes_behind : (n : ℕ) (bytes : List ℕ) → IsBytes bytes → IsBytes (drop n bytes)
+bytes_behind n bytes h i = rw get_or-drop (h (n + i))
+
+bytes_before : (n : ℕ) (bytes : List ℕ) → n ≤ length bytes → IsBytes bytes → IsBytes (take n bytes)
+bytes_before n bytes inside h i =
+    elim (cases_lt i n) [
+      | inl lt ↦ rw (get_or-take n bytes i 0 lt) (h i)
+      | inr le ↦ (let len = length-take-le n bytes inside in rw (get_or_past (take n bytes) i 0 (omega arith)) (omega arith))
+    ]
+
+-- steps that read something
+bound : {A B : Type 0} (r : Option A) (f : A → Option B) (y : B) → (r >>= f) ≡ Some y → (x : A) × (r ≡ Some x) × (f x ≡ Some y)
+bound None f y e = absurd cc
+bound (Some x) f y e = (x, refl, e)
+
+passed : {A : Type 0} (b : Bool) (x y : A) → cond b (Some x) None ≡ Some y → (b ≡ true) × (x ≡ y)
+passed true x y e = (refl, some_same x y e)
+passed false x y e = absurd cc
+
+unbarred : {A : Type 0} (b : Bool) (x : Option A) (y : A) → cond b None x ≡ Some y → (b ≡ false) × (x ≡ Some y)
+unbarred true x y e = absurd cc
+unbarred false x y e = (refl, e)
+
+-- the bytes are the text and then the rest
+pub record Splits (bytes text rest : List ℕ) : Type 0 where
+  pub whole : bytes ≡ text ++ rest
+  pub fits : IsBytes rest
+
+joined : (a x b y c : List ℕ) → Splits a x b → Splits b y c → Splits a (x ++ y) c
+joined a x b y c p q = record { whole = p.whole ∙ ap (λ t. x ++ t) q.whole ∙ sym (append_assoc x y c); fits = q.fits }
+
+-- ---- numbers
+
+pub record IsWidth (w : Width) (limit : ℕ) : Type 0 where
+  pub len : (n : ℕ) → length (to_le_bytes w n) ≡ byte_len w
+  pub back : (bytes : List ℕ) → length bytes ≡ byte_len w → IsBytes bytes → to_le_bytes w (from_le_bytes w bytes) ≡ bytes
+  pub again : (n : ℕ) → n < limit → from_le_bytes w (to_le_bytes w n) ≡ n
+  pub below : (bytes : List ℕ) → IsBytes bytes → from_le_bytes w bytes < limit
+
+four : IsWidth w32 (2 ^ 32)
+four = record {
+  len = λ n. refl;
+  back = λ bytes len fits. le_bytes_4 bytes _ len fits refl;
+  again = λ n lt. from_le_bytes-to_le_bytes_4 n lt;
+  below = λ bytes fits. omega (arith, fits 0, fits 1, fits 2, fits 3);
+}
+
+eight : IsWidth w64 (2 ^ 64)
+eight = record {
+  len = λ n. refl;
+  back = λ bytes len fits. le_bytes_8 bytes _ len fits refl;
+  again = λ n lt. from_le_bytes-to_le_bytes_8 n lt;
+  below = λ bytes fits. omega (arith, fits 0, fits 1, fits 2, fits 3, fits 4, fits 5, fits 6, fits 7);
+}
+
+number_splits : (w : Width) (limit : ℕ) (width : IsWidth w limit) (bytes : List ℕ) (x : ℕ × List ℕ) → IsBytes bytes → number_at w bytes ≡ Some x → Splits bytes (to_le_bytes w x.0) x.1 × (x.0 < limit)
+number_splits w limit width bytes x fits e =
+    let g = unbarred (ltb (length bytes) (byte_len w)) (Some (from_le_bytes w (take (byte_len w) bytes), drop (byte_len w) bytes)) x e in
+    let long : byte_len w ≤ length bytes = ltb-false _ _ g.0 in
+    let front_fits = bytes_before (byte_len w) bytes long fits in
+    let front : to_le_bytes w (from_le_bytes w (take (byte_len w) bytes)) ≡ take (byte_len w) bytes = width.back (take (byte_len w) bytes) (length-take-le (byte_len w) bytes long) front_fits in
+    let P : ℕ × List ℕ → Type 0 = λ y. Splits bytes (to_le_bytes w y.0) y.1 × (y.0 < limit) in
+    subst P (some_same (from_le_bytes w (take (byte_len w) bytes), drop (byte_len w) bytes) x g.1)
+    (record { whole = sym (take-append-drop (byte_len w) bytes) ∙ ap (λ t. t ++ drop (byte_len w) bytes) (sym front); fits = bytes_behind (byte_len w) bytes fits }, width.below (take (byte_len w) bytes) front_fits)
+
+number_again : (w : Width) (limit : ℕ) (width : IsWidth w limit) (n : ℕ) (rest : List ℕ) → n < limit → number_at w (to_le_bytes w n ++ rest) ≡ Some (n, rest)
+number_again w limit width n rest lt =
+    let len = width.len n in
+    let long : ltb (length (to_le_bytes w n ++ rest)) (byte_len w) ≡ false = le-ltb _ _ (omega (arith, length-append (to_le_bytes w n) rest)) in
+    rw (long, take_at (to_le_bytes w n) rest (byte_len w) len, drop_at (to_le_bytes w n) rest (byte_len w) len, width.again n lt) refl
+
+-- ---- bytes, blobs, texts
+
+bytes_split : (n : ℕ) (bytes : List ℕ) (x : List ℕ × List ℕ) → IsBytes bytes → bytes_at n bytes ≡ Some x → Splits bytes x.0 x.1 × (length x.0 ≡ n)
+bytes_split n bytes x fits e =
+    let g = unbarred (ltb (length bytes) n) (Some (take n bytes, drop n bytes)) x e in
+    let long : n ≤ length bytes = ltb-false _ _ g.0 in
+    let P : List ℕ × List ℕ → Type 0 = λ y. Splits bytes y.0 y.1 × (length y.0 ≡ n) in
+    subst P (some_same (take n bytes, drop n bytes) x g.1)
+    (record { whole = sym (take-append-drop n bytes); fits = bytes_behind n bytes fits }, length-take-le n bytes long)
+
+bytes_again : (n : ℕ) (x rest : List ℕ) → length x ≡ n → bytes_at n (x ++ rest) ≡ Some (x, rest)
+bytes_again n x rest len =
+    let long : ltb (length (x ++ rest)) n ≡ false = le-ltb _ _ (omega (arith, length-append x rest)) in
+    rw (long, take_at x rest n len, drop_at x rest n len) refl
+
+blob_splits : (bytes : List ℕ) (x : List ℕ × List ℕ) → IsBytes bytes → blob_at bytes ≡ Some x → Splits bytes (counted x.0) x.1
+unfolding blob_at
+blob_splits bytes x fits e =
+    let b = bound (number_at w32 bytes) (λ n. bytes_at n.0 n.1) x e in
+    let n = number_splits w32 (2 ^ 32) four bytes b.0 fits b.1 in
+    let t = bytes_split b.0.0 b.0.1 x n.0.fits b.2 in
+    let both = joined bytes (to_le_bytes w32 b.0.0) b.0.1 x.0 x.1 n.0 t.0 in
+    let P : ℕ → Type 0 = λ k. Splits bytes (to_le_bytes w32 k ++ x.0) x.1 in
+    subst P (sym t.1) both
+
+blob_again : (x rest : List ℕ) → length x < 2 ^ 32 → blob_at (counted x ++ rest) ≡ Some (x, rest)
+unfolding blob_at
+blob_again x rest short =
+    rw (number_again w32 (2 ^ 32) four (length x) (x ++ rest) short) (bytes_again (length x) x rest refl)
+
+text_splits : (bytes : List ℕ) (x : List ℕ × List ℕ) → IsBytes bytes → text_at bytes ≡ Some x → Splits bytes (counted x.0) x.1 × IsUtf8 x.0
+unfolding text_at
+text_splits bytes x fits e =
+    let b = bound (blob_at bytes) (λ blob. cond (is_utf8 blob.0) (Some blob) None) x e in
+    let t = passed (is_utf8 b.0.0) b.0 x b.2 in
+    let P : List ℕ × List ℕ → Type 0 = λ y. Splits bytes (counted y.0) y.1 × IsUtf8 y.0 in
+    subst P t.1 (blob_splits bytes b.0 fits b.1, IsUtf8-from_is_utf8 b.0.0 t.0)
+
+text_again : (x rest : List ℕ) → length x < 2 ^ 32 → IsUtf8 x → text_at (counted x ++ rest) ≡ Some (x, rest)
+unfolding text_at
+text_again x rest short text = rw (blob_again x rest short, is_utf8-from_IsUtf8 x text) refl
+
+-- ---- ids and moments
+
+id_splits : (bytes : List ℕ) (x : List ℕ × List ℕ) → IsBytes bytes → id_at bytes ≡ Some x → Splits bytes x.0 x.1 × IsId x.0
+unfolding id_at
+id_splits bytes x fits e =
+    let b = bound (bytes_at 36 bytes) (λ id. cond (is_id id.0) (Some id) None) x e in
+    let t = passed (is_id b.0.0) b.0 x b.2 in
+    let P : List ℕ × List ℕ → Type 0 = λ y. Splits bytes y.0 y.1 × IsId y.0 in
+    subst P t.1 ((bytes_split 36 bytes b.0 fits b.1).0, t.0)
+
+id_again : (x rest : List ℕ) → IsId x → id_at (x ++ rest) ≡ Some (x, rest)
+unfolding id_at
+id_again x rest id = rw (bytes_again 36 x rest (id_len x id), id) refl
+
+moment_is : (n : ℕ) → is_moment n ≡ true → IsMoment n
+moment_is n h = (grind (arith, nat_tests), grind (arith, nat_tests))
+
+moment_test : (n : ℕ) → IsMoment n → is_moment n ≡ true
+moment_test n h = (let low = h.0 in let high = h.1 in grind (arith, nat_tests))
+
+moment_splits : (bytes : List ℕ) (x : ℕ × List ℕ) → IsBytes bytes → moment_at bytes ≡ Some x → Splits bytes (to_le_bytes w64 x.0) x.1 × IsMoment x.0
+unfolding moment_at
+moment_splits bytes x fits e =
+    let b = bound (number_at w64 bytes) (λ n. cond (is_moment n.0) (Some n) None) x e in
+    let t = passed (is_moment b.0.0) b.0 x b.2 in
+    let P : ℕ × List ℕ → Type 0 = λ y. Splits bytes (to_le_bytes w64 y.0) y.1 × IsMoment y.0 in
+    subst P t.1 ((number_splits w64 (2 ^ 64) eight bytes b.0 fits b.1).0, moment_is b.0.0 t.0)
+
+moment_again : (n : ℕ) (rest : List ℕ) → IsMoment n → moment_at (to_le_bytes w64 n ++ rest) ≡ Some (n, rest)
+unfolding moment_at
+moment_again n rest h = rw (number_again w64 (2 ^ 64) eight n rest (let high = h.1 in omega arith), moment_test n h) refl
+
+-- ---- pairs
+
+-- a reader of pairs of a kind
+pub record ReadsPairs (item : Item) (Is : List ℕ × List ℕ → Type 0) : Type 0 where
+  pub splits : (bytes : List ℕ) (x : (List ℕ × List ℕ) × List ℕ) → IsBytes bytes → item bytes ≡ Some x → Splits bytes (pair_text x.0) x.1 × Is x.0
+  pub again : (p : List ℕ × List ℕ) (rest : List ℕ) → length p.0 < 2 ^ 32 → length p.1 < 2 ^ 32 → Is p → item (pair_text p ++ rest) ≡ Some (p, rest)
+
+texts_read : ReadsPairs text_pair_at IsText
+unfolding text_pair_at
+texts_read = record {
+  splits = λ bytes x fits e.
+      let a = bound (text_at bytes) (λ name. text_at name.1 >>= λ value. Some ((name.0, value.0), value.1)) x e in
+      let b = bound (text_at a.0.1) (λ value. Some ((a.0.0, value.0), value.1)) x a.2 in
+      let first = text_splits bytes a.0 fits a.1 in
+      let second = text_splits a.0.1 b.0 first.0.fits b.1 in
+      let P : (List ℕ × List ℕ) × List ℕ → Type 0 = λ y. Splits bytes (pair_text y.0) y.1 × IsText y.0 in
+      subst P (some_same ((a.0.0, b.0.0), b.0.1) x b.2)
+      (joined bytes (counted a.0.0) a.0.1 (counted b.0.0) b.0.1 first.0 second.0, (first.1, second.1));
+  again = λ p rest name value is.
+      ap text_pair_at (append_assoc (counted p.0) (counted p.1) rest)
+      ∙ rw (text_again p.0 (counted p.1 ++ rest) name is.0, text_again p.1 rest value is.1) refl;
+}
+
+blobs_read : ReadsPairs blob_pair_at HasTextName
+unfolding blob_pair_at
+blobs_read = record {
+  splits = λ bytes x fits e.
+      let a = bound (text_at bytes) (λ name. blob_at name.1 >>= λ value. Some ((name.0, value.0), value.1)) x e in
+      let b = bound (blob_at a.0.1) (λ value. Some ((a.0.0, value.0), value.1)) x a.2 in
+      let first = text_splits bytes a.0 fits a.1 in
+      let second = blob_splits a.0.1 b.0 first.0.fits b.1 in
+      let P : (List ℕ × List ℕ) × List ℕ → Type 0 = λ y. Splits bytes (pair_text y.0) y.1 × HasTextName y.0 in
+      subst P (some_same ((a.0.0, b.0.0), b.0.1) x b.2)
+      (joined bytes (counted a.0.0) a.0.1 (counted b.0.0) b.0.1 first.0 second, first.1);
+  again = λ p rest name value is.
+      ap blob_pair_at (append_assoc (counted p.0) (counted p.1) rest)
+      ∙ rw (text_again p.0 (counted p.1 ++ rest) name is, blob_again p.1 rest value) refl;
+}
+
+-- the names rise from the last one on
+behind : Option (List ℕ) → List (List ℕ) → List (List ℕ)
+behind None names = names
+behind (Some last) names = last ∷ names
+
+abbrev RisesFrom : Option (List ℕ) → Pairs → Type 0
+RisesFrom last ps = IsStrictlySortedBy (slice_cmp nat_cmp) (behind last (keys_of ps))
+
+less_is : (last name : List ℕ) → is_lt (slice_cmp nat_cmp last name) ≡ true → slice_cmp nat_cmp last name ≡ Less
+less_is last name e =
+    elim (slice_cmp nat_cmp last name) as (λ o. is_lt o ≡ true → o ≡ Less) [
+      | Less ↦ λ e. refl
+      | Equal ↦ λ e. cc
+      | Greater ↦ λ e. cc
+    ] e
+
+all_below : (last name : List ℕ) (names : List (List ℕ)) → slice_cmp nat_cmp last name ≡ Less → AllByRecursion (λ y. slice_cmp nat_cmp name y ≡ Less) names → AllByRecursion (λ y. slice_cmp nat_cmp last y ≡ Less) names
+all_below last name [] less all = tt
+all_below last name (y ∷ names) less all = (nat_list_cmp_total.trans last name y less all.0, all_below last name names less all.1)
+
+rises_more : (last : Option (List ℕ)) (p : List ℕ × List ℕ) (ps : Pairs) → is_above last p.0 ≡ true → RisesFrom (Some p.0) ps → RisesFrom last (p ∷ ps)
+unfolding IsStrictlySortedBy behind
+rises_more None p ps above rising = rising
+rises_more (Some last) p ps above rising =
+    let less = less_is last p.0 above in
+    ((less, all_below last p.0 (keys_of ps) less rising.0), rising)
+
+rises_less : (last : Option (List ℕ)) (p : List ℕ × List ℕ) (ps : Pairs) → RisesFrom last (p ∷ ps) → (is_above last p.0 ≡ true) × RisesFrom (Some p.0) ps
+unfolding IsStrictlySortedBy behind
+rises_less None p ps rising = (refl, rising)
+rises_less (Some last) p ps rising = (ap is_lt rising.0.0, rising.1)
+
+allowed : {A : Type 0} (b : Bool) (x : Option A) (y : A) → cond b x None ≡ Some y → (b ≡ true) × (x ≡ Some y)
+allowed true x y e = (refl, e)
+allowed false x y e = absurd cc
+
+rises_none : (last : Option (List ℕ)) → RisesFrom last []
+unfolding IsStrictlySortedBy behind
+rises_none None = tt
+rises_none (Some last) = (tt, tt)
+
+module _ (item : Item) (Is : List ℕ × List ℕ → Type 0) (reads : ReadsPairs item Is) where
+  abbrev Read : ℕ → Option (List ℕ) → List ℕ → Pairs × List ℕ → Type 0
+  Read n last bytes y = Splits bytes (flat_map pair_text y.0) y.1 × (length y.0 ≡ n) × AllByRecursion Is y.0 × RisesFrom last y.0
+
+  pairs_splits : (n : ℕ) (last : Option (List ℕ)) (bytes : List ℕ) (x : Pairs × List ℕ) → IsBytes bytes → pairs_at item last n bytes ≡ Some x → Read n last bytes x
+  unfolding pairs_at behind IsStrictlySortedBy
+  pairs_splits zero last bytes x fits e =
+      subst (Read zero last bytes) (some_same ([], bytes) x e) (record { whole = refl; fits = fits }, refl, tt, rises_none last)
+  pairs_splits (suc n) last bytes x fits e =
+      let a = bound (item bytes) (λ p. cond (is_above last p.0.0) (pairs_at item (Some p.0.0) n p.1 >>= λ others. Some (p.0 ∷ others.0, others.1)) None) x e in
+      let g = allowed (is_above last a.0.0.0) (pairs_at item (Some a.0.0.0) n a.0.1 >>= λ others. Some (a.0.0 ∷ others.0, others.1)) x a.2 in
+      let b = bound (pairs_at item (Some a.0.0.0) n a.0.1) (λ others. Some (a.0.0 ∷ others.0, others.1)) x g.1 in
+      let first = reads.splits bytes a.0 fits a.1 in
+      let others = pairs_splits n (Some a.0.0.0) a.0.1 b.0 first.0.fits b.1 in
+      subst (Read (suc n) last bytes) (some_same (a.0.0 ∷ b.0.0, b.0.1) x b.2)
+      (joined bytes (pair_text a.0.0) a.0.1 (flat_map pair_text b.0.0) b.0.1 first.0 others.0, omega (arith, others.1), (first.1, others.2), rises_more last a.0.0 b.0.0 g.0 others.3)
+
+  pairs_again : (ps : Pairs) (last : Option (List ℕ)) (rest : List ℕ) → length (flat_map pair_text ps) < 2 ^ 32 → AllByRecursion Is ps → RisesFrom last ps → pairs_at item last (length ps) (flat_map pair_text ps ++ rest) ≡ Some (ps, rest)
+  unfolding pairs_at
+  pairs_again [] last rest short all rising = refl
+  pairs_again (p ∷ ps) last rest short all rising =
+      let long = length-append (pair_text p) (flat_map pair_text ps) in
+      let pair = length-append (counted p.0) (counted p.1) in
+      let regroup : flat_map pair_text (p ∷ ps) ++ rest ≡ pair_text p ++ (flat_map pair_text ps ++ rest) = append_assoc (pair_text p) (flat_map pair_text ps) rest in
+      let parts = rises_less last p ps rising in
+      let above = parts.0 in
+      ap (pairs_at item last (suc (length ps))) regroup
+      ∙ rw (reads.again p (flat_map pair_text ps ++ rest) (omega arith) (omega arith) all.0, above, pairs_again ps (Some p.0) rest (omega arith) all.1 parts.1) refl
+
+  counted_splits : (most : ℕ) (bytes : List ℕ) (x : Pairs × List ℕ) → IsBytes bytes → counted_pairs_at item most bytes ≡ Some x → Splits bytes (pairs_text x.0) x.1 × (length x.0 ≤ most) × AllByRecursion Is x.0 × IsRising x.0
+  unfolding counted_pairs_at behind
+  counted_splits most bytes x fits e =
+      let a = bound (number_at w32 bytes) (λ n. cond (ltb most n.0) None (pairs_at item None n.0 n.1)) x e in
+      let g = unbarred (ltb most a.0.0) (pairs_at item None a.0.0 a.0.1) x a.2 in
+      let few : a.0.0 ≤ most = ltb-false _ _ g.0 in
+      let count = number_splits w32 (2 ^ 32) four bytes a.0 fits a.1 in
+      let pairs = pairs_splits a.0.0 None a.0.1 x count.0.fits g.1 in
+      let both = joined bytes (to_le_bytes w32 a.0.0) a.0.1 (flat_map pair_text x.0) x.1 count.0 pairs.0 in
+      let P : ℕ → Type 0 = λ k. Splits bytes (to_le_bytes w32 k ++ flat_map pair_text x.0) x.1 in
+      (subst P (sym pairs.1) both, omega (arith, pairs.1), pairs.2, pairs.3)
+
+  counted_again : (most : ℕ) (ps : Pairs) (rest : List ℕ) → length ps ≤ most → most < 2 ^ 32 → length (flat_map pair_text ps) < 2 ^ 32 → AllByRecursion Is ps → IsRising ps → counted_pairs_at item most (pairs_text ps ++ rest) ≡ Some (ps, rest)
+  unfolding counted_pairs_at behind
+  counted_again most ps rest few most_few short all rising =
+      let in_most : ltb most (length ps) ≡ false = le-ltb _ _ few in
+      rw (number_again w32 (2 ^ 32) four (length ps) (flat_map pair_text ps ++ rest) (omega arith), in_most) (pairs_again ps None rest short all rising)
+
+-- ---- records
+
+in_one_row : (a b c d e f : List ℕ) → (a ++ (b ++ (c ++ d))) ++ (e ++ f) ≡ a ++ (b ++ (c ++ (d ++ (e ++ (f ++ [])))))
+in_one_row a b c d e f = simp (append_assoc, append-nil)
+
+abbrev made : List ℕ → ℕ → ℕ → List ℕ → Pairs → Pairs → Crash
+made id moment draw rule annotations dumps = record { id = id; moment = moment; draw = draw; rule = rule; annotations = annotations; dumps = dumps }
+
+-- the parts of a record that was read
+record Parts (bytes : List ℕ) (c : Crash) : Type 0 where
+  whole : record_of c ≡ bytes
+  id : IsId c.id
+  moment : IsMoment c.moment
+  draw : c.draw < 2 ^ 64
+  rule : IsUtf8 c.rule
+  annotations : (length c.annotations ≤ MAX_ANNOTATIONS) × AllByRecursion IsText c.annotations × IsRising c.annotations
+  dumps : (length c.dumps ≤ MAX_DUMPS) × AllByRecursion HasTextName c.dumps × IsRising c.dumps
+
+parts_read : (bytes : List ℕ) (c : Crash) → IsBytes bytes → crash_at bytes ≡ Some c → Parts bytes c
+unfolding crash_at record_of head_text content_text
+parts_read bytes c fits e =
+    let b1 = bound (id_at bytes) (λ id. moment_at id.1 >>= λ moment. number_at w64 moment.1 >>= λ draw. text_at draw.1 >>= λ rule. counted_pairs_at text_pair_at MAX_ANNOTATIONS rule.1 >>= λ annotations. counted_pairs_at blob_pair_at MAX_DUMPS annotations.1 >>= λ dumps. cond (length dumps.1 == 0) (Some (made id.0 moment.0 draw.0 rule.0 annotations.0 dumps.0)) None) c e in
+    let id = b1.0 in
+    let b2 = bound (moment_at id.1) (λ moment. number_at w64 moment.1 >>= λ draw. text_at draw.1 >>= λ rule. counted_pairs_at text_pair_at MAX_ANNOTATIONS rule.1 >>= λ annotations. counted_pairs_at blob_pair_at MAX_DUMPS annotations.1 >>= λ dumps. cond (length dumps.1 == 0) (Some (made id.0 moment.0 draw.0 rule.0 annotations.0 dumps.0)) None) c b1.2 in
+    let moment = b2.0 in
+    let b3 = bound (number_at w64 moment.1) (λ draw. text_at draw.1 >>= λ rule. counted_pairs_at text_pair_at MAX_ANNOTATIONS rule.1 >>= λ annotations. counted_pairs_at blob_pair_at MAX_DUMPS annotations.1 >>= λ dumps. cond (length dumps.1 == 0) (Some (made id.0 moment.0 draw.0 rule.0 annotations.0 dumps.0)) None) c b2.2 in
+    let draw = b3.0 in
+    let b4 = bound (text_at draw.1) (λ rule. counted_pairs_at text_pair_at MAX_ANNOTATIONS rule.1 >>= λ annotations. counted_pairs_at blob_pair_at MAX_DUMPS annotations.1 >>= λ dumps. cond (length dumps.1 == 0) (Some (made id.0 moment.0 draw.0 rule.0 annotations.0 dumps.0)) None) c b3.2 in
+    let rule = b4.0 in
+    let b5 = bound (counted_pairs_at text_pair_at MAX_ANNOTATIONS rule.1) (λ annotations. counted_pairs_at blob_pair_at MAX_DUMPS annotations.1 >>= λ dumps. cond (length dumps.1 == 0) (Some (made id.0 moment.0 draw.0 rule.0 annotations.0 dumps.0)) None) c b4.2 in
+    let annotations = b5.0 in
+    let b6 = bound (counted_pairs_at blob_pair_at MAX_DUMPS annotations.1) (λ dumps. cond (length dumps.1 == 0) (Some (made id.0 moment.0 draw.0 rule.0 annotations.0 dumps.0)) None) c b5.2 in
+    let dumps = b6.0 in
+    let end = passed (length dumps.1 == 0) (made id.0 moment.0 draw.0 rule.0 annotations.0 dumps.0) c b6.2 in
+    let s1 = id_splits bytes id fits b1.1 in
+    let s2 = moment_splits id.1 moment s1.0.fits b2.1 in
+    let s3 = number_splits w64 (2 ^ 64) eight moment.1 draw s2.0.fits b3.1 in
+    let s4 = text_splits draw.1 rule s3.0.fits b4.1 in
+    let s5 = counted_splits text_pair_at IsText texts_read MAX_ANNOTATIONS rule.1 annotations s4.0.fits b5.1 in
+    let s6 = counted_splits blob_pair_at HasTextName blobs_read MAX_DUMPS annotations.1 dumps s5.0.fits b6.1 in
+    let nothing : dumps.1 ≡ [] = nil_from_length dumps.1 (eqb-true _ _ end.0) in
+    let row : bytes ≡ id.0 ++ (to_le_bytes w64 moment.0 ++ (to_le_bytes w64 draw.0 ++ (counted rule.0 ++ (pairs_text annotations.0 ++ (pairs_text dumps.0 ++ []))))) =
+    s1.0.whole ∙ ap (λ t. id.0 ++ t) (s2.0.whole ∙ ap (λ t. to_le_bytes w64 moment.0 ++ t) (s3.0.whole ∙ ap (λ t. to_le_bytes w64 draw.0 ++ t) (s4.0.whole ∙ ap (λ t. counted rule.0 ++ t) (s5.0.whole ∙ ap (λ t. pairs_text annotations.0 ++ t) (s6.0.whole ∙ ap (λ t. pairs_text dumps.0 ++ t) nothing))))) in
+    subst (Parts bytes) end.1 (record {
+      whole = in_one_row id.0 (to_le_bytes w64 moment.0) (to_le_bytes w64 draw.0) (counted rule.0) (pairs_text annotations.0) (pairs_text dumps.0) ∙ sym row;
+      id = s1.1;
+      moment = s2.1;
+      draw = s3.1;
+      rule = s4.1;
+      annotations = (s5.1, s5.2, s5.3);
+      dumps = (s6.1, s6.2, s6.3);
+    })
+
+-- what is read is a raw crash, and the bytes are its record
+pub read_is : (bytes : List ℕ) (c : Crash) → IsBytes bytes → length bytes ≤ MAX_RECORD → crash_at bytes ≡ Some c → (record_of c ≡ bytes) × IsCrash c
+read_is bytes c fits short e =
+    let p = parts_read bytes c fits e in (
+      p.whole,
+      record {
+        id = p.id;
+        moment = p.moment;
+        draw = p.draw;
+        rule = p.rule;
+        annotations = p.annotations.1;
+        annotations_rise = p.annotations.2;
+        few_annotations = p.annotations.0;
+        dumps = p.dumps.1;
+        dumps_rise = p.dumps.2;
+        few_dumps = p.dumps.0;
+        fits = (let len = ap length p.whole in omega arith);
+      },
+    )
+
+-- the record of a raw crash is read as that crash
+pub read_again : (c : Crash) → IsCrash c → crash_at (record_of c) ≡ Some c
+unfolding crash_at record_of head_text content_text
+read_again c is =
+    let short = pairs_fit c is.fits in
+    let rule_short = rule_fits c is.fits in
+    let dumps_row = pairs_text c.dumps ++ [] in
+    let annotations_row = pairs_text c.annotations ++ dumps_row in
+    let rule_row = counted c.rule ++ annotations_row in
+    let draw_row = to_le_bytes w64 c.draw ++ rule_row in
+    let moment_row = to_le_bytes w64 c.moment ++ draw_row in
+    let one = id_again c.id moment_row is.id in
+    let two = moment_again c.moment draw_row is.moment in
+    let three = number_again w64 (2 ^ 64) eight c.draw rule_row is.draw in
+    let four_ = text_again c.rule annotations_row rule_short is.rule in
+    let five = counted_again text_pair_at IsText texts_read MAX_ANNOTATIONS c.annotations dumps_row is.few_annotations (lit< tt) short.0 is.annotations is.annotations_rise in
+    let six = counted_again blob_pair_at HasTextName blobs_read MAX_DUMPS c.dumps [] is.few_dumps (lit< tt) short.1 is.dumps is.dumps_rise in
+    ap crash_at (in_one_row c.id (to_le_bytes w64 c.moment) (to_le_bytes w64 c.draw) (counted c.rule) (pairs_text c.annotations) (pairs_text c.dumps))
+    ∙ rw (one, two, three, four_, five, six) refl
+
+pub refused : (e : RecordError) (bytes : List ℕ) → Refuses e (crash_at bytes) → IsRefusal e bytes
+refused BadRecord bytes none = λ c is whole.
+    let read : crash_at bytes ≡ Some c = ap crash_at (sym whole) ∙ read_again c is in
+    let clash : None ≡ Some c = sym none ∙ read in
+    cc
+refused NoMemory bytes none = tt

@@ -1,0 +1,107 @@
+-- Reading a record from its front: a value and the bytes that stand behind it, or nothing where they have no such front.
+use Rattle.std.specs.Prelude.{◌≡◌, ℕ, zero, suc, List, [], ◌∷◌, length, take, drop, Option, Some, None, Result, Ok, Err, Bool, true, nat_lt, nat_le, ◌&&◌, ◌==◌, if◌then◌else◌}
+use Rattle.std.specs.Int.{Width, w32, w64, byte_len, from_le_bytes}
+use Rattle.std.specs.Ordering.{is_lt}
+use Rattle.std.specs.Str.{is_utf8}
+use Rattle.soc_raw.specs.declared.record_error.RecordError.{RecordError}
+use Rattle.soc_raw.specs.declared.record_error.RecordError.TheVariants.{BadRecord, NoMemory}
+use Rattle.soc_raw.specs.CrashId.{is_id}
+use Rattle.soc_raw.specs.Names.{byte_cmp}
+use Rattle.soc_raw.specs.Record.{Crash, MAX_ANNOTATIONS, MAX_DUMPS}
+
+infixl 10 ◌>>=◌
+abbrev pub ◌>>=◌ : {A B : Type 0} → Option A → (A → Option B) → Option B
+None >>= f = None
+(Some x) >>= f = f x
+
+-- a refusal other than for want of memory comes exactly where nothing is read
+abbrev pub Refuses : {Y : Type 0} → RecordError → Option Y → Type 0
+Refuses BadRecord read = read ≡ None
+Refuses NoMemory read = Unit {0}
+
+-- what was answered, seen by view, is what is read, unless memory ran out
+abbrev pub Gives : {X Y : Type 0} → (X → Y) → Result X RecordError → Option Y → Type 0
+Gives view (Ok x) read = read ≡ Some (view x)
+Gives view (Err e) read = Refuses e read
+
+abbrev pub number_at : Width → List ℕ → Option (ℕ × List ℕ)
+number_at w bytes =
+    if nat_lt (length bytes) (byte_len w) then None
+    else Some (from_le_bytes w (take (byte_len w) bytes), drop (byte_len w) bytes)
+
+abbrev pub bytes_at : ℕ → List ℕ → Option (List ℕ × List ℕ)
+bytes_at n bytes = if nat_lt (length bytes) n then None else Some (take n bytes, drop n bytes)
+
+unfoldable pub blob_at : List ℕ → Option (List ℕ × List ℕ)
+blob_at bytes = do
+  n ← number_at w32 bytes
+  bytes_at n.0 n.1
+
+unfoldable pub text_at : List ℕ → Option (List ℕ × List ℕ)
+text_at bytes = do
+  blob ← blob_at bytes
+  if is_utf8 blob.0 then Some blob else None
+
+unfoldable pub id_at : List ℕ → Option (List ℕ × List ℕ)
+id_at bytes = do
+  id ← bytes_at 36 bytes
+  if is_id id.0 then Some id else None
+
+abbrev pub is_moment : ℕ → Bool
+is_moment n = nat_le 946_684_800 n && nat_le n 4_102_444_799
+
+unfoldable pub moment_at : List ℕ → Option (ℕ × List ℕ)
+moment_at bytes = do
+  n ← number_at w64 bytes
+  if is_moment n.0 then Some n else None
+
+-- an annotation
+unfoldable pub text_pair_at : List ℕ → Option ((List ℕ × List ℕ) × List ℕ)
+text_pair_at bytes = do
+  name ← text_at bytes
+  value ← text_at name.1
+  Some ((name.0, value.0), value.1)
+
+-- a dump
+unfoldable pub blob_pair_at : List ℕ → Option ((List ℕ × List ℕ) × List ℕ)
+blob_pair_at bytes = do
+  name ← text_at bytes
+  value ← blob_at name.1
+  Some ((name.0, value.0), value.1)
+
+-- a name may stand behind the last one
+abbrev pub is_above : Option (List ℕ) → List ℕ → Bool
+is_above None name = true
+is_above (Some last) name = is_lt (byte_cmp last name)
+
+unfoldable pub last_name : {V : Type 0} → List (List ℕ × V) → Option (List ℕ)
+last_name [] = None
+last_name (p ∷ []) = Some p.0
+last_name (p ∷ q ∷ ps) = last_name (q ∷ ps)
+
+-- n pairs with rising names, all above the last one
+unfoldable pub pairs_at : (List ℕ → Option ((List ℕ × List ℕ) × List ℕ)) → Option (List ℕ) → ℕ → List ℕ → Option (List (List ℕ × List ℕ) × List ℕ)
+pairs_at item last zero bytes = Some ([], bytes)
+pairs_at item last (suc n) bytes =
+    item bytes >>= λ p. if is_above last p.0.0
+    then (pairs_at item (Some p.0.0) n p.1 >>= λ others. Some (p.0 ∷ others.0, others.1))
+    else None
+
+-- their number first, at most so many
+unfoldable pub counted_pairs_at : (List ℕ → Option ((List ℕ × List ℕ) × List ℕ)) → ℕ → List ℕ → Option (List (List ℕ × List ℕ) × List ℕ)
+counted_pairs_at item most bytes = do
+  n ← number_at w32 bytes
+  if nat_lt most n.0 then None else pairs_at item None n.0 n.1
+
+-- the crash of which the bytes are the record
+unfoldable pub crash_at : List ℕ → Option Crash
+crash_at bytes = do
+  id ← id_at bytes
+  moment ← moment_at id.1
+  draw ← number_at w64 moment.1
+  rule ← text_at draw.1
+  annotations ← counted_pairs_at text_pair_at MAX_ANNOTATIONS rule.1
+  dumps ← counted_pairs_at blob_pair_at MAX_DUMPS annotations.1
+  if length dumps.1 == 0
+      then Some (record { id = id.0; moment = moment.0; draw = draw.0; rule = rule.0; annotations = annotations.0; dumps = dumps.0 })
+      else None
