@@ -1,2 +1,4 @@
 pub mod SendLemmas
 pub mod RouteLemmas
+pub mod LengthLemmas
+pub mod CountLemmas

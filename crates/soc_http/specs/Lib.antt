@@ -1,5 +1,6 @@
 pub mod Block
 pub mod Request
+pub mod Framing
 pub mod Message
 pub mod Reply
 pub mod Pieces

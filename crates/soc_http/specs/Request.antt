@@ -83,9 +83,9 @@ is_close line = is_named (codes "connection") line && str_eq_ignore_ascii_case l
 abbrev pub is_last : RequestHead → Bool
 is_last request = request.minor == 0 || list_any is_close (lines_of request)
 
--- the value's bytes that aren't UTF-8 become U+FFFD
+-- bytes that aren't UTF-8 become U+FFFD; a name has none
 abbrev pub lossy_line : Line → Line
-lossy_line line = (line.0, utf8_lossy line.1)
+lossy_line line = (utf8_lossy line.0, utf8_lossy line.1)
 
 -- the head of a request that takes so many bytes, with a body of this length
 abbrev pub head_of : ℕ → RequestHead → ℕ → Head

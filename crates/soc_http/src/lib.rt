@@ -1,6 +1,8 @@
 //! Messages of HTTP/1.1: the heads and bodies of requests from any source, and replies to any sink.
 #![tactic(auto)]
 
+mod block;
+mod framing;
 mod head;
 mod pieces;
 mod query;
