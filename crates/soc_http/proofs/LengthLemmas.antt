@@ -1,5 +1,5 @@
 -- Digits that are read one by one, and lines that are gathered one by one.
-use Rattle.std.proofs.Common.{◌≡◌, ℕ, ◌+◌, ◌-◌, ◌*◌, ◌^◌, ◌<◌, ◌≤◌, ◌&&◌, ◌||◌, Bool, true, false, List, [], ◌∷◌, ◌++◌, length, take, get_or, map, filter, Option, Some, Result, Ok, Err, refl, sym, ap, subst, ◌∙◌, arith, lit<, if◌then◌else◌, append-nil, codes}
+use Rattle.std.proofs.Common.{◌≡◌, ℕ, ◌+◌, ◌-◌, ◌*◌, ◌^◌, ◌<◌, ◌≤◌, ◌&&◌, ◌||◌, Bool, true, false, List, [], ◌∷◌, ◌++◌, length, take, get_or, map, filter, refl, sym, ap, subst, ◌∙◌, arith, lit<, if◌then◌else◌, append-nil, codes}
 use Rattle.std.proofs.lemmas.List.{length-take-le, map-append}
 use Rattle.std.proofs.lemmas.List.Elements.{filter-append}
 use Rattle.std.proofs.lemmas.List.Folds.{list_all_more, list_any-append}
@@ -10,8 +10,8 @@ use Rattle.std.specs.List.{list_all, list_any}
 use Rattle.std.specs.Char.{digit_value, is_ascii_digit}
 use Rattle.std.specs.Str.Parse.{digits_value, AllDigits}
 use Rattle.soc_http.specs.declared.framing.Framing.{Framing}
-use Rattle.soc_http.specs.declared.head.HeadError.{HeadError}
-use Rattle.soc_http.specs.declared.head.HeadError.TheVariants.{BadHead}
+use Rattle.soc_http.specs.declared.framing.Stated.{Stated}
+use Rattle.soc_http.specs.declared.framing.Stated.TheVariants.{Length, Bad}
 use Rattle.soc_http.specs.Request.{Line, is_named, values_of, stated, is_length, is_coding, is_close}
 use Rattle.soc_http.specs.Framing.{framing_of, stated_more, stated_by_line}
 
@@ -52,7 +52,7 @@ IsReadTo-more bytes i value digit inside test is so_far =
 stated-snoc : (values : List (List ℕ)) (value : List ℕ) → stated (values ++ value ∷ []) ≡ stated_more (stated values) value
 stated-snoc [] value = refl
 stated-snoc (one ∷ []) value =
-    elim (is_length one) as (λ b. Err BadHead ≡ stated_more (if b then Ok (Some (digits_value 10 one)) else Err BadHead) value)
+    elim (is_length one) as (λ b. Bad ≡ stated_more (if b then Length (digits_value 10 one) else Bad) value)
     [ true ↦ refl | false ↦ refl ]
 stated-snoc (one ∷ two ∷ more) value = refl
 
@@ -86,10 +86,10 @@ or_last false = refl
 list_any-snoc : (p : Line → Bool) (lines : List Line) (line : Line) → list_any p (lines ++ line ∷ []) ≡ (list_any p lines || p line)
 list_any-snoc p lines line = list_any-append p lines (line ∷ []) ∙ ap (λ b. list_any p lines || b) (or_last (p line))
 
-abbrev pub framing : Result (Option ℕ) HeadError → Bool → Bool → Framing
+abbrev pub framing : Stated → Bool → Bool → Framing
 framing s c d = record { stated = s; coded = c; close = d }
 
-same_framing : {s t : Result (Option ℕ) HeadError} {b c d e : Bool} → s ≡ t → b ≡ c → d ≡ e → framing s b d ≡ framing t c e
+same_framing : {s t : Stated} {b c d e : Bool} → s ≡ t → b ≡ c → d ≡ e → framing s b d ≡ framing t c e
 same_framing p q r = λ i. framing (p i) (q i) (r i)
 
 -- one line more

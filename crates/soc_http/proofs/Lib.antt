@@ -2,3 +2,6 @@ pub mod SendLemmas
 pub mod RouteLemmas
 pub mod LengthLemmas
 pub mod CountLemmas
+pub mod BlockLemmas
+pub mod WindowLemmas
+pub mod HeadLemmas

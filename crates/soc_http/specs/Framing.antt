@@ -1,13 +1,13 @@
 -- What the lines of a head say, gathered line by line, and where the parser found a head.
-use Rattle.std.specs.Prelude.{ℕ, if◌then◌else◌, List, [], ◌∷◌, codes, Option, None, Some, Result, Ok, Err}
+use Rattle.std.specs.Prelude.{ℕ, if◌then◌else◌, List, [], ◌∷◌, codes}
 use Rattle.std.specs.List.{list_any}
 use Rattle.httparse.specs.Grammar.{RequestHead, ReadsRequest}
 use Rattle.httparse.specs.Spans.{IsRequestAt}
 use Rattle.httparse.specs.declared.spans.HeaderSpan.{HeaderSpan}
 use Rattle.httparse.specs.declared.spans.RequestSpans.{RequestSpans}
 use Rattle.soc_http.specs.declared.framing.Framing.{Framing}
-use Rattle.soc_http.specs.declared.head.HeadError.{HeadError}
-use Rattle.soc_http.specs.declared.head.HeadError.TheVariants.{BadHead}
+use Rattle.soc_http.specs.declared.framing.Stated.{Stated}
+use Rattle.soc_http.specs.declared.framing.Stated.TheVariants.{Nothing, Length, Bad}
 use Rattle.soc_http.specs.Request.{Line, is_named, values_of, stated, is_coding, is_close}
 
 -- what the lines say of the body and of the connection
@@ -18,18 +18,14 @@ framing_of lines = record {
   close = list_any is_close lines;
 }
 
--- what one value states
-abbrev pub stated_once : List ℕ → Result (Option ℕ) HeadError
-stated_once value = stated (value ∷ [])
-
 -- what one value more states
-abbrev pub stated_more : Result (Option ℕ) HeadError → List ℕ → Result (Option ℕ) HeadError
-stated_more (Ok None) value = stated_once value
-stated_more (Ok (Some n)) value = Err BadHead
-stated_more (Err error) value = Err BadHead
+abbrev pub stated_more : Stated → List ℕ → Stated
+stated_more Nothing value = stated (value ∷ [])
+stated_more (Length n) value = Bad
+stated_more Bad value = Bad
 
 -- what one line more states
-abbrev pub stated_by_line : Result (Option ℕ) HeadError → Line → Result (Option ℕ) HeadError
+abbrev pub stated_by_line : Stated → Line → Stated
 stated_by_line so_far line = if is_named (codes "content-length") line then stated_more so_far line.1 else so_far
 
 -- the block is this request, and the spans cover its parts

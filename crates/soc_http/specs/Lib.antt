@@ -2,6 +2,7 @@ pub mod Block
 pub mod Request
 pub mod Framing
 pub mod Message
+pub mod Reading
 pub mod Reply
 pub mod Pieces
 pub mod Query

@@ -99,6 +99,16 @@ ByText NoLength P = P
 ByText BodyTooLarge P = P
 ByText CutShort P = P
 
+-- a refusal that a block gives, where memory doesn't want
+abbrev pub OrNoMemory : HeadError → Type 0 → Type 0
+OrNoMemory NoMemory P = ⊤
+OrNoMemory ReadFault P = P
+OrNoMemory BadHead P = P
+OrNoMemory HeadTooLarge P = P
+OrNoMemory NoLength P = P
+OrNoMemory BodyTooLarge P = P
+OrNoMemory CutShort P = P
+
 -- what reading a head from the text answers, and what is left behind it: a refusal takes nothing
 abbrev pub ReadsHead : List ℕ → Result (Option Head) HeadError → List ℕ → Type 0
 ReadsHead text (Ok None) rest = (text ≡ []) × (rest ≡ [])

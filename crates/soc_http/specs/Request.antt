@@ -1,5 +1,5 @@
 -- What the head of a request says of its message (RFC 9112, sections 3 and 6; RFC 9110, section 8.6), as far as this service takes it.
-use Rattle.std.specs.Prelude.{ℕ, ◌==◌, Bool, true, false, not, ◌&&◌, ◌||◌, if◌then◌else◌, nat_lt, nat_le, List, [], ◌∷◌, length, map, filter, codes, Option, None, Some, is_some, unwrap_or, Result, Ok, Err, bytes_eq}
+use Rattle.std.specs.Prelude.{ℕ, ◌==◌, Bool, true, false, ◌&&◌, ◌||◌, if◌then◌else◌, nat_lt, nat_le, List, [], ◌∷◌, length, map, filter, codes, Result, Ok, Err, bytes_eq}
 use Rattle.std.specs.List.{list_all, list_any, before_first, after_first}
 use Rattle.std.specs.Char.{is_ascii_digit}
 use Rattle.std.specs.Str.{str_eq_ignore_ascii_case}
@@ -9,6 +9,8 @@ use Rattle.httparse.specs.Grammar.{RequestHead}
 use Rattle.httparse.specs.Spans.{name_and_value}
 use Rattle.soc_http.specs.declared.verb.Verb.{Verb}
 use Rattle.soc_http.specs.declared.verb.Verb.TheVariants.{Get, Post, Other}
+use Rattle.soc_http.specs.declared.framing.Stated.{Stated}
+use Rattle.soc_http.specs.declared.framing.Stated.TheVariants.{Nothing, Length, Bad}
 use Rattle.soc_http.specs.declared.head.Head.{Head}
 use Rattle.soc_http.specs.declared.head.HeadError.{HeadError}
 use Rattle.soc_http.specs.declared.head.HeadError.TheVariants.{BadHead, NoLength, BodyTooLarge}
@@ -46,22 +48,22 @@ is_query_mark b = b == 63
 abbrev pub is_length : List ℕ → Bool
 is_length value = nat_lt 0 (length value) && (nat_le (length value) 19 && list_all is_ascii_digit value)
 
--- what the values of the `Content-Length` lines state: nothing, a number, or what can't be taken
-abbrev pub stated : List (List ℕ) → Result (Option ℕ) HeadError
-stated [] = Ok None
-stated (value ∷ []) = if is_length value then Ok (Some (digits_value 10 value)) else Err BadHead
-stated (_ ∷ _ ∷ _) = Err BadHead
+-- what the values of the `Content-Length` lines state: nothing, a length, or what can't be taken
+abbrev pub stated : List (List ℕ) → Stated
+stated [] = Nothing
+stated (value ∷ []) = if is_length value then Length (digits_value 10 value) else Bad
+stated (_ ∷ _ ∷ _) = Bad
 
 -- how many bytes a body may have
 abbrev pub body_limit : ℕ
 body_limit = 16777216
 
--- the body's length, or the refusal of one that comes in pieces, that isn't stated or that is too large
-abbrev pub taken_length : Verb → Bool → Result (Option ℕ) HeadError → Result ℕ HeadError
-taken_length verb coded (Err error) = Err error
-taken_length verb coded (Ok length) =
-    if coded || (is_post verb && not (is_some length)) then Err NoLength
-    else (if nat_lt body_limit (unwrap_or length 0) then Err BodyTooLarge else Ok (unwrap_or length 0))
+-- the body's length, or the refusal of one that can't be taken, that comes in pieces, isn't stated, or is too large
+abbrev pub taken_length : Verb → Bool → Stated → Result ℕ HeadError
+taken_length verb coded Bad = Err BadHead
+taken_length verb coded Nothing = if coded || is_post verb then Err NoLength else Ok 0
+taken_length verb coded (Length n) =
+    if coded then Err NoLength else (if nat_lt body_limit n then Err BodyTooLarge else Ok n)
 
 -- a line says that the body comes in pieces
 abbrev pub is_coding : Line → Bool

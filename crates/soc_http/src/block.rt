@@ -6,7 +6,7 @@ ghost use Rattle.httparse.specs.Spans.{IsRequestWithin, IsHeaderWithin, header_b
 ghost use Rattle.soc_http.specs.Block.{HasFewLines, line_feed};
 ghost use Rattle.soc_http.specs.Request.{verb_of, is_query_mark, lossy_line};
 ghost use Rattle.soc_http.specs.Framing.{IsWholeRequest};
-ghost use Rattle.soc_http.specs.Message.{HeadOf, HasNoHead, RefusesBlock, ByText};
+ghost use Rattle.soc_http.specs.Message.{HeadOf, HasNoHead, RefusesBlock, OrNoMemory};
 
 use crate::framing::Framing;
 use crate::head::{Head, HeadError};
@@ -96,7 +96,7 @@ fn lines_of(alloc: Global, block: &[u8], headers: &[HeaderSpan]) -> Result<Pairs
 pub(crate) fn read_block(alloc: Global, block: &[u8]) -> Result<Head, HeadError>
     ensures few { IfOk result (λ _. HasFewLines block.now) }
     ensures says { IfOk result (HeadOf block.now) }
-    ensures refused { IfErr result (λ error. ByText error (RefusesBlock block.now error)) }
+    ensures refused { IfErr result (λ error. OrNoMemory error (RefusesBlock block.now error)) }
 {
     if count_lines(block) > LINE_LIMIT + 2 {
         return Err(HeadError::HeadTooLarge);
@@ -119,7 +119,7 @@ fn head_at(
     requires within { IsRequestWithin block.now headers.now spans }
     requires whole { IsWholeRequest block.now headers.now spans }
     ensures says { IfOk result (HeadOf block.now) }
-    ensures refused { IfErr result (λ error. ByText error (RefusesBlock block.now error)) }
+    ensures refused { IfErr result (λ error. OrNoMemory error (RefusesBlock block.now error)) }
 {
     let headers = &headers[..spans.headers];
     let framing = Framing::of(block, headers);

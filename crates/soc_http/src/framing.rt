@@ -1,5 +1,5 @@
 // What the lines of a head say of its body and of the connection.
-ghost use Rattle.std.specs.Prelude.{◌≡◌, ◌++◌, ◌∷◌, [], List, ℕ, length, map, Some, None, Ok, Err, if◌then◌else◌, MatchResult};
+ghost use Rattle.std.specs.Prelude.{◌≡◌, ◌++◌, ◌∷◌, [], List, ℕ, length, map, Some, None, if◌then◌else◌};
 ghost use Rattle.std.specs.List.{All};
 ghost use Rattle.std.specs.Str.{str_eq_ignore_ascii_case};
 ghost use Rattle.std.specs.Str.Parse.{digits_value};
@@ -16,11 +16,19 @@ const BODY_LIMIT: u64 = 16_777_216;
 /// The most digits of a length, so that it fits 64 bits.
 const LENGTH_DIGITS: usize = 19;
 
+/// What the `Content-Length` lines state.
+#[derive(Clone, Copy)]
+pub(crate) enum Stated {
+    Nothing,
+    Length(u64),
+    /// Several lines, or one that isn't 1 to 19 digits.
+    Bad,
+}
+
 /// What the lines say.
 #[derive(Clone, Copy)]
 pub(crate) struct Framing {
-    /// What the `Content-Length` lines state.
-    pub stated: Result<Option<u64>, HeadError>,
+    pub stated: Stated,
     /// Whether there is a `Transfer-Encoding` line.
     pub coded: bool,
     /// Whether a `Connection` line says `close`.
@@ -50,27 +58,20 @@ fn length_in(value: &[u8]) -> Option<u64>
     Some(length)
 }
 
-fn stated_more(
-    stated: Result<Option<u64>, HeadError>,
-    value: &[u8],
-) -> Result<Option<u64>, HeadError>
+fn stated_more(stated: Stated, value: &[u8]) -> Stated
     ensures { result ≡ stated_more stated value.now }
 {
     match stated {
-        Ok(None) => match length_in(value) {
-            Some(length) => Ok(Some(length)),
-            None => Err(HeadError::BadHead),
+        Stated::Nothing => match length_in(value) {
+            Some(length) => Stated::Length(length),
+            None => Stated::Bad,
         },
-        Ok(Some(_)) | Err(_) => Err(HeadError::BadHead),
+        Stated::Length(_) | Stated::Bad => Stated::Bad,
     }
 }
 
 /// What was stated, and what one more line states.
-fn stated_by_line(
-    stated: Result<Option<u64>, HeadError>,
-    name: &[u8],
-    value: &[u8],
-) -> Result<Option<u64>, HeadError>
+fn stated_by_line(stated: Stated, name: &[u8], value: &[u8]) -> Stated
     ensures { result ≡ stated_by_line stated (name.now, value.now) }
 {
     if is_same_name(name, b"content-length") {
@@ -91,7 +92,7 @@ impl Framing {
         ensures { result ≡ framing_of [] }
     {
         Framing {
-            stated: Ok(None),
+            stated: Stated::Nothing,
             coded: false,
             close: false,
         }
@@ -123,15 +124,14 @@ impl Framing {
     pub fn length(&self, verb: Verb) -> Result<u64, HeadError>
         ensures { result ≡ taken_length verb self.now.coded self.now.stated }
     {
-        let stated = self.stated?;
-        if self.coded || (is_post(verb) && stated.is_none()) {
-            return Err(HeadError::NoLength);
+        match self.stated {
+            Stated::Bad => Err(HeadError::BadHead),
+            Stated::Nothing if self.coded || is_post(verb) => Err(HeadError::NoLength),
+            Stated::Nothing => Ok(0),
+            Stated::Length(_) if self.coded => Err(HeadError::NoLength),
+            Stated::Length(length) if length > BODY_LIMIT => Err(HeadError::BodyTooLarge),
+            Stated::Length(length) => Ok(length),
         }
-        let length = stated.unwrap_or(0);
-        if length > BODY_LIMIT {
-            return Err(HeadError::BodyTooLarge);
-        }
-        Ok(length)
     }
 }
 

@@ -2,15 +2,20 @@
 #![tactic(auto)]
 
 mod block;
+mod buffer;
 mod framing;
 mod head;
+mod heads;
 mod pieces;
 mod query;
 mod reply;
 mod route;
+mod search;
 mod verb;
 
+pub use buffer::Buffer;
 pub use head::{Head, HeadError};
+pub use heads::read_head;
 pub use query::pairs_of;
 pub use reply::{Answered, Kind, WriteFault, write_reply};
 pub use route::{Route, RouteError, Routes};

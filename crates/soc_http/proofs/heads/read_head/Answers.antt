@@ -1,0 +1,5 @@
+use Rattle.soc_http.proofs.HeadLemmas.{ReadsHeadAhead-from}
+use Rattle.soc_http.proofs.heads.read_head.Goals as goal
+
+pub returns-clause-reads : goal.returns-clause-reads
+returns-clause-reads g c = ReadsHeadAhead-from _ _ _ _ _ c.next_head.ensures.from

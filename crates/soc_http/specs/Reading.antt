@@ -1,0 +1,57 @@
+-- Reading from a window and a source: what is ahead of a reader is what stands unread in its window, and then what the source has left.
+use Rattle.std.specs.Prelude.{◌≡◌, ℕ, ◌≤◌, List, [], ◌++◌, length, take, Option, None, Some, Result, Ok, Err, ⊤}
+use Rattle.std.specs.Io.KnownBytes.{prepend_known, IsAtEnd}
+use Rattle.soc_edge.specs.Told.{Gives}
+use Rattle.soc_http.specs.declared.head.Head.{Head}
+use Rattle.soc_http.specs.declared.head.HeadError.{HeadError}
+use Rattle.soc_http.specs.declared.head.HeadError.TheVariants as H
+use Rattle.soc_http.specs.Message.{ReadsHead, EndsInHead, HasNoBlockInLimit}
+use Rattle.soc_http.specs.Block.{IsBlock, block_limit}
+
+-- what is ahead, where the source tells it
+abbrev pub ahead : List ℕ → Option (List ℕ) → Option (List ℕ)
+ahead window left = prepend_known window left
+
+-- the source gave bytes, which stand behind those of the window
+pub record Fills (before after : Option (List ℕ)) (old new : List ℕ) : Type 0 where
+  pub given : List ℕ
+  pub gives : Gives before after given
+  pub grown : new ≡ old ++ given
+
+-- the answers that a text gives only where it ends
+abbrev pub IfEnded : Result (Option Head) HeadError → Type 0 → Type 0
+IfEnded (Ok None) P = P
+IfEnded (Ok (Some head)) P = ⊤
+IfEnded (Err H.CutShort) P = P
+IfEnded (Err H.BadHead) P = ⊤
+IfEnded (Err H.HeadTooLarge) P = ⊤
+IfEnded (Err H.NoLength) P = ⊤
+IfEnded (Err H.BodyTooLarge) P = ⊤
+IfEnded (Err H.ReadFault) P = ⊤
+IfEnded (Err H.NoMemory) P = ⊤
+
+-- the source gave bytes, and with them the window's text gives this answer, whatever else the source has left
+pub record ReadsHeadFrom
+    (before after : Option (List ℕ)) (old : List ℕ) (result : Result (Option Head) HeadError) (new : List ℕ) : Type 0 where
+  pub given : List ℕ
+  pub gives : Gives before after given
+  pub reads : ReadsHead (old ++ given) result new
+  pub ended : IfEnded result (IsAtEnd after)
+
+-- the same over all that is ahead, where it is told: what isn't told is not told afterwards
+abbrev pub ReadsHeadAhead : Option (List ℕ) → Result (Option Head) HeadError → Option (List ℕ) → Type 0
+ReadsHeadAhead None result after = after ≡ None
+ReadsHeadAhead (Some text) result None = ⊥
+ReadsHeadAhead (Some text) result (Some rest) = ReadsHead text result rest
+
+-- what a search for a block finds in the window, with which the source has this left
+abbrev pub IsSearched : List ℕ → Option (List ℕ) → Result (Option ℕ) HeadError → Type 0
+IsSearched window after (Ok None) = (window ≡ []) × IsAtEnd after
+IsSearched window after (Ok (Some end)) = (end ≤ length window) × (end ≤ block_limit) × IsBlock (take end window)
+IsSearched window after (Err H.CutShort) = EndsInHead window × IsAtEnd after
+IsSearched window after (Err H.HeadTooLarge) = HasNoBlockInLimit window
+IsSearched window after (Err H.ReadFault) = ⊤
+IsSearched window after (Err H.BadHead) = ⊥
+IsSearched window after (Err H.NoLength) = ⊥
+IsSearched window after (Err H.BodyTooLarge) = ⊥
+IsSearched window after (Err H.NoMemory) = ⊥
