@@ -1,5 +1,6 @@
 -- What holds of a list at a place, and of the table of fields.
-use Rattle.std.proofs.Common.{◌≡◌, ◌≢◌, ℕ, zero, suc, ◌<◌, ◌+◌, Bool, true, false, List, [], ◌∷◌, map, length, get_or, Option, None, Some, refl, sym, ap, ◌∙◌, arith, position}
+use Rattle.std.proofs.Common.{◌≡◌, ◌≢◌, ℕ, zero, suc, ◌<◌, ◌+◌, Bool, true, false, List, [], ◌∷◌, map, length, get_or, Option, None, Some, refl, sym, ap, ◌∙◌, arith, position, eqb}
+use Rattle.std.proofs.lemmas.Bool.{false≢true, eqb-true, agree_below, agree_below_at}
 use Rattle.std.specs.List.{position_from}
 use Rattle.std.specs.Option.{option_map_or}
 use Rattle.std.specs.Cmp.Lexicographic.{same_text, other_text}
@@ -79,3 +80,22 @@ pub field_of_annotation-absent : (text : List ℕ) → ((k : ℕ) → IsField k 
 unfolding field_of_annotation source_of field_entry field_table
 field_of_annotation-absent text all =
     position-absent (comes_from text) field_table nowhere (λ k h. source-other text (source_of k) (all k h))
+
+-- each name is one field's, by a test over the whole table
+abbrev is_at : ℕ → Option ℕ → Bool
+is_at f None = false
+is_at f (Some g) = eqb g f
+
+is_at-true : (f : ℕ) (o : Option ℕ) → is_at f o ≡ true → o ≡ Some f
+is_at-true f None h = absurd (false≢true h)
+is_at-true f (Some g) h = ap Some (eqb-true g f h)
+
+abbrev names_own : ℕ → Bool
+names_own f = is_at f (field_named (name_of f))
+
+all_own : agree_below names_own (λ _. true) 36 ≡ true
+unfolding field_named name_of field_entry field_table
+all_own = refl
+
+pub field_named-name_of : (f : ℕ) → IsField f → field_named (name_of f) ≡ Some f
+field_named-name_of f inside = is_at-true f (field_named (name_of f)) (agree_below_at names_own (λ _. true) 36 f all_own inside)

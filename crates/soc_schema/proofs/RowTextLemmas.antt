@@ -1,11 +1,11 @@
 -- What holds of the texts of rows: a text begins with one value, one cell and one list of cells at most.
-use Rattle.std.proofs.Common.{◌≡◌, ◌≢◌, ℕ, zero, suc, ◌+◌, ◌^◌, ◌<◌, ◌≤◌, true, false, List, [], ◌∷◌, ◌++◌, length, get_or, take, drop, refl, sym, ap, ◌∙◌, subst, arith, append_assoc, length-append, append-nil, length-take, slice_index, if◌then◌else◌}
+use Rattle.std.proofs.Common.{◌≡◌, ◌≢◌, ℕ, suc, ◌+◌, ◌^◌, ◌<◌, ◌≤◌, true, false, List, [], ◌∷◌, ◌++◌, length, get_or, take, drop, refl, sym, ap, ◌∙◌, subst, arith, append_assoc, length-append, append-nil, length-take, slice_index, if◌then◌else◌}
 use Rattle.std.proofs.lemmas.Grind.{flat_map-append}
 use Rattle.std.specs.Int.{to_le_bytes, from_le_bytes, w32, w64}
 use Rattle.std.specs.List.{AllByRecursion}
 use Rattle.std.specs.Str.{IsUtf8}
 use Rattle.std.proofs.lemmas.Nat.{from_le_bytes-to_le_bytes_4, from_le_bytes-to_le_bytes_8}
-use Rattle.std.proofs.lemmas.List.{take-append-drop, take_more, take_all}
+use Rattle.std.proofs.lemmas.List.{take-append-drop, take_all}
 use Rattle.std.proofs.lemmas.List.Folds.{length-flat_map-take}
 use Rattle.std.proofs.Math.Nat.{min-eq_left}
 use Rattle.std.proofs.Math.Seq.{drop-append_seam, take-append_seam}
@@ -38,12 +38,6 @@ apart x y xs ys d e = absurd (d (cons-head x y xs ys e))
 
 cons-tail : (x y : ℕ) (xs ys : List ℕ) → x ∷ xs ≡ y ∷ ys → xs ≡ ys
 cons-tail x y xs ys e = ap (λ l. drop 1 l) e
-
-pub length-le_32 : (n : ℕ) → length (to_le_bytes w32 n) ≡ 4
-length-le_32 n = refl
-
-pub length-le_64 : (n : ℕ) → length (to_le_bytes w64 n) ≡ 8
-length-le_64 n = refl
 
 pub le_32-split : (n m : ℕ) (r s : List ℕ) → n < 2 ^ 32 → m < 2 ^ 32 → to_le_bytes w32 n ++ r ≡ to_le_bytes w32 m ++ s → (n ≡ m) × (r ≡ s)
 le_32-split n m r s hn hm e =
@@ -145,13 +139,6 @@ text-refused n old left bytes e hn front bad t s good ht h =
     let same : bytes ≡ t = front ∙ (ap (take n) parts.1 ∙ (ap (λ k. take k (t ++ s)) parts.0 ∙ take-append_seam t s)) in
     bad (subst IsUtf8 (sym same) good)
 
-pub text-cut : (n : ℕ) (old left : List ℕ) → old ≡ to_le_bytes w32 n ++ left → n < 2 ^ 32 → length left < n → (t s : List ℕ) → IsUtf8 t → length t < 2 ^ 32 → old ≢ counted t ++ s
-text-cut n old left e hn few t s good ht h =
-    let parts = counted-front n old left t s e h hn ht in
-    let many : length left ≡ length t + length s = ap length parts.1 ∙ length-append t s in
-    let same : n ≡ length t = parts.0 in
-    omega arith
-
 -- a row has at most as many cells as the table has fields
 pub RisesFrom-few : (low : ℕ) (cells : List Cell) → RisesFrom low cells → low ≤ 36 → low + length cells ≤ 36
 RisesFrom-few low [] h fits = omega arith
@@ -163,21 +150,6 @@ RisesFrom-few low (c ∷ cs) h fits =
 
 pub IsRow-short : (cells : List Cell) → IsRow cells → length cells < 2 ^ 32
 IsRow-short cells h = let few : 0 + length cells ≤ 36 = RisesFrom-few 0 cells h (omega arith) in omega arith
-
--- what holds of each holds of the one at i, and of the first i and one more
-pub All-at : {A : Type 0} (P : A → Type 0) (xs : List A) (i : ℕ) (d : A) → AllByRecursion P xs → i < length xs → P (get_or xs i d)
-All-at P [] i d h within = absurd (omega arith)
-All-at P (x ∷ xs) zero d h within = h.0
-All-at P (x ∷ xs) (suc i) d h within = All-at P xs i d h.1 (omega arith)
-
-pub AllValues-more : (cells : List Cell) (i : ℕ) (c : Cell) → AllByRecursion (λ c. IsValue c.value) (take i cells) → i < length cells → c ≡ get_or cells i c → IsValue c.value → AllByRecursion (λ c. IsValue c.value) (take (i + 1) cells)
-AllValues-more cells i c h within read good =
-    subst AllValues (sym (take_more cells i c within ∙ ap (λ x. take i cells ++ x ∷ []) (sym read))) (AllValues-push (take i cells) c h good)
-
-pub text-more : (front bytes more : List ℕ) (cells : List Cell) (i : ℕ) (c : Cell) → bytes ≡ front ++ cells_text (take i cells) → i < length cells → c ≡ get_or cells i c → more ≡ bytes ++ cell_text c → more ≡ front ++ cells_text (take (i + 1) cells)
-text-more front bytes more cells i c so_far within read pushed =
-    let taken : take (i + 1) cells ≡ take i cells ++ c ∷ [] = take_more cells i c within ∙ ap (λ x. take i cells ++ x ∷ []) (sym read) in
-    pushed ∙ (ap (λ l. l ++ cell_text c) so_far ∙ (append_assoc front (cells_text (take i cells)) (cell_text c) ∙ ap (λ l. front ++ l) (sym (ap cells_text taken ∙ cells_text-push (take i cells) c))))
 
 -- a list of cells read so far, and one more
 pub ReadsCells-push : (i low : ℕ) (all rest left : List ℕ) (cells more : List Cell) (c : Cell) → ReadsCells 0 i all cells rest → low ≡ next_low 0 cells → ReadsCell low rest c left → more ≡ cells ++ c ∷ [] → ReadsCells 0 (i + 1) all more left
@@ -248,12 +220,6 @@ AllShort-from (c ∷ cs) h =
 
 pub length-row_text : (cells : List Cell) → length (row_text cells) ≡ 4 + length (cells_text cells)
 length-row_text cells = length-append (to_le_bytes w32 (length cells)) (cells_text cells)
-
--- how much the first cells of a row take, and one more
-pub size-more : (cells : List Cell) (i : ℕ) (c : Cell) → i < length cells → c ≡ get_or cells i c → length (cells_text (take (i + 1) cells)) ≡ length (cells_text (take i cells)) + length (cell_text c)
-size-more cells i c within read =
-    let taken : take (i + 1) cells ≡ take i cells ++ c ∷ [] = take_more cells i c within ∙ ap (λ x. take i cells ++ x ∷ []) (sym read) in
-    ap length (ap cells_text taken ∙ cells_text-push (take i cells) c) ∙ length-append (cells_text (take i cells)) (cell_text c)
 
 pub size-le : (cells : List Cell) (i : ℕ) (c : Cell) → i < length cells → c ≡ get_or cells i c → length (cells_text (take i cells)) + length (cell_text c) ≤ length (cells_text cells)
 size-le cells i c within read =

@@ -1,9 +1,9 @@
 -- What holds of the words and the tokens of a token file, along their lists.
-use Rattle.std.proofs.Common.{◌≡◌, ℕ, ◌+◌, ◌<◌, ◌≤◌, List, [], ◌∷◌, ◌++◌, length, get_or, take, drop, None, Some, Result, Ok, Err, option_and_then, refl, sym, ap, ◌∙◌, arith, length-append, ⊎_elim}
+use Rattle.std.proofs.Common.{◌≡◌, ℕ, ◌+◌, ◌<◌, ◌≤◌, List, [], ◌∷◌, ◌++◌, length, get_or, take, drop, None, Some, Result, Err, option_and_then, refl, sym, ap, ◌∙◌, arith, length-append, ⊎_elim}
 use Rattle.std.specs.List.{slice_get}
 use Rattle.std.specs.Option.{option_map_or}
 use Rattle.std.proofs.lemmas.Bool.{le-ltb, cases_lt}
-use Rattle.std.proofs.lemmas.List.{drop_more, take_more, drop_all}
+use Rattle.std.proofs.lemmas.List.{drop_more, take_more}
 use Rattle.std.proofs.lemmas.Option.{get_or_from_slice_get}
 use Rattle.toml.specs.Data.{Data}
 use Rattle.toml.specs.View.{view, items_view}
@@ -49,11 +49,3 @@ tokens_from-taken values i value all before tokens more t so_far within read sam
     let step = so_far ∙ (tokens_from-next values i value tokens within read ∙ (ap (λ o. option_map_or (λ t. tokens_from (tokens ++ t ∷ []) (items_view (drop (i + 1) values))) o (Err (length tokens))) (sym next') ∙ ap (λ l. tokens_from l (items_view (drop (i + 1) values))) (sym pushed))) in
     let few : length tokens < 256 = next_token-few tokens (view value) t next' in
     (step, omega (arith, ap length pushed, length-append tokens (t ∷ [])))
-
-pub tokens_from-refused : (values : List Value) (i : ℕ) (value : Value) (all : Result (List Token) ℕ) (before tokens : List Token) (index : ℕ) → all ≡ tokens_from tokens (items_view (drop i values)) → i < length values → value ≡ get_or values i value → before ≡ tokens → None ≡ next_token before (view value) → index ≡ length tokens → all ≡ Err index
-tokens_from-refused values i value all before tokens index so_far within read same next at =
-    let next' : None ≡ next_token tokens (view value) = next ∙ ap (λ l. next_token l (view value)) same in
-    so_far ∙ (tokens_from-next values i value tokens within read ∙ (ap (λ o. option_map_or (λ t. tokens_from (tokens ++ t ∷ []) (items_view (drop (i + 1) values))) o (Err (length tokens))) (sym next') ∙ ap Err (sym at)))
-
-pub tokens_from-end : (values : List Value) (i : ℕ) (all : Result (List Token) ℕ) (tokens : List Token) → all ≡ tokens_from tokens (items_view (drop i values)) → length values ≤ i → all ≡ Ok tokens
-tokens_from-end values i all tokens so_far past = so_far ∙ ap (λ vs. tokens_from tokens (items_view vs)) (drop_all i values past)

@@ -4,3 +4,4 @@ pub mod Reports
 pub mod RowText
 pub mod Rows
 pub mod TokenFile
+mod Examples

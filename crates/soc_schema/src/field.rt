@@ -232,9 +232,10 @@ impl Field {
         None
     }
 
-    /// The field's name, as queries and replies write it.
+    /// The field's name, as queries and replies write it: no other field has it.
     pub fn name(&self) -> &'static str
-        ensures { result.now ≡ name_of self.now }
+        ensures value { result.now ≡ name_of self.now }
+        ensures own { field_named result.now ≡ Some self.now }
     {
         self.entry().name
     }
@@ -263,6 +264,7 @@ impl Field {
     }
 
     fn entry(&self) -> &'static Entry
+        ensures in_table { IsField self.now }
         ensures name { result.now.name.now ≡ name_of self.now }
         ensures kind { result.now.kind ≡ kind_of self.now }
         ensures permission { result.now.permission ≡ permission_of self.now }

@@ -17,7 +17,7 @@ pub use caller::{Caller, Products};
 pub use field::{Field, FieldKind};
 pub use permission::{Permission, Permissions};
 pub use processed::Processed;
-pub use reporter::Reporter;
+pub use reporter::{Bare, Reporter, product_of};
 pub use row::Row;
 pub use sight::{granted, visible};
 pub use token::{Token, TokenError, Tokens};

@@ -1,6 +1,13 @@
 //! What makes a row of a raw crash.
+ghost use Rattle.std.specs.Prelude.{◌≡◌};
+ghost use Rattle.std.specs.Option.{option_copied};
+ghost use Rattle.soc_raw.specs.RawCrash.{crash_of};
+ghost use Rattle.soc_schema.specs.Reports.{product_of};
+
+use crate::field::Field;
 use crate::row::Row;
-use soc_raw::{NoMemory, RawCrash};
+use crate::value::Value;
+use soc_raw::{NoMemory, RawCrash, Text};
 use std::alloc::Global;
 
 /// What makes a row of a raw crash. Equal reporters make equal rows.
@@ -27,4 +34,40 @@ pub trait Reporter {
 
     // Each row tells of its crash.
     ghost tells: { (reporter : Self) (crash : Crash) → TellsCrash crash (row_of reporter crash) };
+}
+
+/// The raw crash's product, where it has one: its annotation `ProductName`.
+pub fn product_of(raw: &RawCrash) -> Option<&str>
+    ensures { option_copied result ≡ product_of (crash_of raw.now) }
+{
+    raw.annotations.get("ProductName")
+}
+
+/// A reporter without lists and symbols: its rows have `product` and `uuid` alone.
+#[derive(Clone, Copy, Debug)]
+pub struct Bare;
+
+impl Reporter for Bare {
+    ghost use Rattle.std.specs.Prelude.{None};
+    ghost use Rattle.soc_schema.specs.Reports.{bare_row, bare_row-tells};
+
+    ghost row_of = { λ _ crash. bare_row crash };
+
+    ghost digest_of = { λ _. None };
+
+    ghost tells = { λ _ crash. bare_row-tells crash };
+
+    #[tactic(auto, unfolding(crate::specs::Fields::kind_of, crate::specs::Fields::field_entry, crate::specs::Fields::field_table))]
+    fn row(&self, alloc: Global, raw: &RawCrash) -> Result<Row, NoMemory> {
+        let mut row = Row::new(alloc);
+        if let Some(product) = product_of(raw) {
+            row.set(Field::PRODUCT, Value::Text(Text::of(alloc, product)?))?;
+        }
+        row.set(Field::UUID, Value::Text(Text::of(alloc, raw.id.as_str())?))?;
+        Ok(row)
+    }
+
+    fn digest(&self) -> Option<[u8; 32]> {
+        None
+    }
 }
