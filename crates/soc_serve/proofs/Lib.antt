@@ -1,0 +1,5 @@
+pub mod BlockLemmas
+pub mod LineLemmas
+pub mod HeadLemmas
+pub mod FormLemmas
+pub mod FrontLemmas

@@ -1,0 +1,4 @@
+pub mod Block
+pub mod FirstForm
+pub mod Front
+pub mod Lines
