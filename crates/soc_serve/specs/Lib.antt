@@ -2,3 +2,7 @@ pub mod Block
 pub mod FirstForm
 pub mod Front
 pub mod Lines
+pub mod Reply
+pub mod Reading
+pub mod Session
+pub mod Words
