@@ -1,5 +1,5 @@
 -- The texts of replies in the pieces in which they are written.
-use Rattle.std.proofs.Common.{◌≡◌, ℕ, ◌+◌, ◌<◌, ◌≤◌, List, [], ◌∷◌, ◌++◌, length, take, Option, Result, Ok, Err, OnOk, OnErr, Bool, true, false, ◌&&◌, ◌==◌, codes, decimal, refl, sym, ap, subst, ◌∙◌, arith, append_assoc, length-append}
+use Rattle.std.proofs.Common.{◌≡◌, ℕ, ◌+◌, ◌<◌, ◌≤◌, List, [], ◌∷◌, ◌++◌, length, take, Option, Result, Ok, Err, is_err, OnOk, OnErr, Bool, true, false, ◌&&◌, ◌==◌, codes, decimal, refl, sym, ap, subst, ◌∙◌, arith, append_assoc, length-append}
 use Rattle.std.proofs.lemmas.Bool.{eqb-true}
 use Rattle.std.proofs.lemmas.List.{take-append-le}
 use Rattle.std.proofs.Math.Seq.{take-append-add}
@@ -72,3 +72,12 @@ accepted_pieces id is =
 pub not_built_text : codes "HTTP/1.1 501 Not Implemented\r\nContent-Type: text/plain\r\nContent-Length: 10\r\nConnection: close\r\n\r\nnot built\n" ≡ reply_text not_built
 unfolding reply_text digits
 not_built_text = refl
+
+-- what an outcome says, where it is known
+pub err_at : {T E : Type 0} (r : Result T E) (P : Type 0) → OnErr r P → is_err r ≡ true → P
+err_at (Ok value) P says is = cc
+err_at (Err error) P says is = says
+
+pub ok_at : {T E : Type 0} (r : Result T E) (P : Type 0) → OnOk r P → is_err r ≡ false → P
+ok_at (Ok value) P says is = says
+ok_at (Err error) P says is = cc

@@ -1,8 +1,9 @@
 -- A session from its parts.
 use Rattle.std.proofs.Common.{◌≡◌, ℕ, ◌+◌, ◌<◌, ◌≤◌, List, [], ◌∷◌, ◌++◌, length, take, Option, Some, None, IfSome, Bool, true, false, refl, sym, ap, subst, ◌∙◌, arith, append_assoc, append-nil, length-append}
 use Rattle.std.specs.Io.KnownBytes.{IsAtEnd, append_known, prepend_known}
-use Rattle.soc_edge.specs.Told.{Gives, Takes, TakesFront, HandsOut, SameAhead, Outlook, HandsOne, SameOutlook}
+use Rattle.soc_edge.specs.Told.{Gives, Takes, TakesFront, HandsOut, SameAhead, Outlook, Hands}
 use Rattle.soc_edge.proofs.Told.{Takes-append, Takes-none, Gives-append, Gives-none, Gives-same}
+use Rattle.soc_edge.proofs.Ahead.{Hands-none, HandsAll-one}
 use Rattle.soc_raw.specs.CrashId.{id_text}
 use Rattle.soc_raw.specs.Day.{day_of}
 use Rattle.soc_raw.specs.declared.digit.Digit.TheVariants.{Accepted}
@@ -11,12 +12,9 @@ use Rattle.soc_serve.specs.declared.ending.End.TheVariants.{Ended, Refused, Read
 use Rattle.soc_serve.specs.FirstForm.{TakesSubmission, HasNoSubmission}
 use Rattle.soc_serve.specs.Reading.{ArrivesOther, ArrivesWhole, StopsShort, FollowsMore, FollowsNothing}
 use Rattle.soc_serve.specs.Reply.{accepted, not_built, reply_text}
-use Rattle.soc_serve.specs.Session.{Exchange, Turn, submitted, refused, turn_text, replies_text, Messages, BeginsWith, Reads, Writes, CutReply, ReadsBefore, Serves, Refuses, IsDrawn, HandsEach, IsRefused, EndsRefused}
+use Rattle.soc_serve.specs.Session.{Exchange, Turn, submitted, refused, turn_text, replies_text, Messages, BeginsWith, Reads, Writes, CutReply, ReadsBefore, Serves, Refuses, IsDrawn, IsRefused, EndsRefused}
 
 -- ---- draws
-
-same_outlook : (before : Outlook) → SameOutlook before before
-same_outlook before = record { moments = λ k. refl; throttles = λ k. refl; ids = λ k. refl }
 
 told_along : {A : Type 0} (told told' : Option A) (given : A) → told' ≡ told → IfSome told' (λ t. given ≡ t) → IfSome told (λ t. given ≡ t)
 told_along told told' given same first = subst (λ o. IfSome o (λ t. given ≡ t)) same first
@@ -38,9 +36,9 @@ drawn m m' t t' t'' i i' i'' moment throttle draw id hm ht st si hi is = record 
   throttle = throttle;
   draw = draw;
   hands = record {
-    moments = hm;
-    throttles = hands_then t t' t'' throttle ht st;
-    ids = then_hands i i' i'' draw si hi;
+    by_clock = HandsAll-one m m' moment hm;
+    by_throttle = HandsAll-one t t'' throttle (hands_then t t' t'' throttle ht st);
+    by_id = HandsAll-one i i'' draw (then_hands i i' i'' draw si hi);
   };
   id_is = is;
 }
@@ -57,7 +55,7 @@ serves_ended left left' held held' before gives end same = record {
   turns = [];
   reads = nothing_left left left' gives end;
   writes = Takes-none held held' same;
-  hands = same_outlook before;
+  hands = Hands-none before;
 }
 
 pub serves_stopped : (left left' held held' : Option (List ℕ)) (before : Outlook) → StopsShort left left' → held' ≡ held → Serves left left' held held' before before ReadFault
@@ -65,7 +63,7 @@ serves_stopped left left' held held' before stops same = record {
   turns = [];
   reads = record { taken = stops.taken; gives = stops.gives; rest = stops.taken; messages = refl; cut_off = stops.short };
   writes = Takes-none held held' same;
-  hands = same_outlook before;
+  hands = Hands-none before;
 }
 
 pub serves_nothing : (left left' held held' : Option (List ℕ)) (before : Outlook) → held' ≡ held → Serves left left' held held' before before NoMemory
@@ -73,7 +71,7 @@ serves_nothing left left' held held' before same = record {
   turns = [];
   reads = (tt, begins left);
   writes = Takes-none held held' same;
-  hands = same_outlook before;
+  hands = Hands-none before;
 }
   where
     begins : (left : Option (List ℕ)) → IfSome left (λ text. BeginsWith text [])
@@ -121,14 +119,14 @@ serves_refused Refused left left' held held' before arrives refuses = record {
     (if_map left' _ _ (λ more other. begins_refused (arrives.taken ++ more) other) arrives.other),
   );
   writes = subst (Takes held held') (sym (append-nil (turn_text refused))) refuses;
-  hands = same_outlook before;
+  hands = Hands-none before;
 }
 serves_refused WriteFault left left' held held' before arrives refuses = record {
   turns = refused ∷ [];
   reads = told_text (λ text. BeginsWith text (refused ∷ [])) left left' arrives.taken arrives.gives
   (if_map left' _ _ (λ more other. begins_refused (arrives.taken ++ more) other) arrives.other);
   writes = cut_one held held' (refused ∷ []) [] refused refl held (Takes-none held held refl) refuses;
-  hands = same_outlook before;
+  hands = Hands-none before;
 }
 serves_refused Ended left left' held held' before arrives refuses = absurd refuses
 serves_refused ReadFault left left' held held' before arrives refuses = absurd refuses
@@ -145,10 +143,6 @@ exchange_of left middle surplus before after id arrives draws = record {
   throttle = draws.throttle;
   draw = draws.draw;
 }
-
-hands_it : (left middle : Option (List ℕ)) (surplus : Bool) (before after : Outlook) (id : List ℕ) (arrives : ArrivesWhole left middle surplus) (draws : IsDrawn before after id) (turns : List Turn)
-    → HandsEach after after turns → HandsEach before after (submitted (exchange_of left middle surplus before after id arrives draws) ∷ turns)
-hands_it left middle surplus before after id arrives draws turns then = (after, draws.hands, then)
 
 -- its reply's text
 text_of_id : (before after : Outlook) (id : List ℕ) (draws : IsDrawn before after id) → reply_text (accepted id) ≡ reply_text (accepted (id_text draws.draw Accepted (day_of draws.moment)))
@@ -170,7 +164,7 @@ serves_cut left middle held held' surplus before after id arrives draws front =
       (all_told _ middle (λ more. (arrives.extra ++ more, (refl, arrives.extra ++ more, arrives.takes more, refl))));
       writes = cut_one held held' (submitted exchange ∷ []) [] (submitted exchange) refl held (Takes-none held held refl)
       (subst (TakesFront held held') (text_of_id before after id draws) front);
-      hands = hands_it left middle surplus before after id arrives draws [] (same_outlook after);
+      hands = draws.hands;
     }
 
 pub serves_last : (left middle left' held held' : Option (List ℕ)) (surplus : Bool) (before after : Outlook) (id : List ℕ) → ArrivesWhole left middle surplus → IsDrawn before after id
@@ -183,7 +177,7 @@ serves_last left middle left' held held' surplus before after id arrives draws t
       reads = told_text (λ text. Messages true text (submitted exchange ∷ []) []) left middle arrives.taken arrives.gives
       (if_map middle _ _ (λ more is. (refl, arrives.extra ++ more, arrives.takes more, ap (λ l. arrives.extra ++ l) is ∙ append-nil arrives.extra ∙ no_extra)) (nothing_left middle left' none.gives none.end));
       writes = takes_it left middle surplus before after id arrives draws held held' takes;
-      hands = hands_it left middle surplus before after id arrives draws [] (same_outlook after);
+      hands = draws.hands;
     }
 
 pub serves_fault : (left middle left' held held' : Option (List ℕ)) (surplus : Bool) (before after : Outlook) (id : List ℕ) → ArrivesWhole left middle surplus → IsDrawn before after id
@@ -206,7 +200,7 @@ serves_fault left middle left' held held' surplus before after id arrives draws 
         cut_off = refl;
       };
       writes = takes_it left middle surplus before after id arrives draws held held' takes;
-      hands = hands_it left middle surplus before after id arrives draws [] (same_outlook after);
+      hands = draws.hands;
     }
 
 -- a byte follows
@@ -240,7 +234,7 @@ serves_both Refused left middle left' held written held' surplus before after id
       writes = Takes-append held written held' (reply_text (accepted (id_text draws.draw Accepted (day_of draws.moment)))) (replies_text (refused ∷ []))
       (subst (Takes held written) (text_of_id before after id draws) takes)
       (subst (Takes written held') (sym (append-nil (turn_text refused))) refuses);
-      hands = hands_it left middle surplus before after id arrives draws (refused ∷ []) (same_outlook after);
+      hands = draws.hands;
     }
 serves_both WriteFault left middle left' held written held' surplus before after id arrives draws takes follows refuses =
     let exchange = exchange_of left middle surplus before after id arrives draws in
@@ -249,7 +243,7 @@ serves_both WriteFault left middle left' held written held' surplus before after
       reads = begins_both left middle left' surplus before after id arrives draws follows;
       writes = cut_one held held' (submitted exchange ∷ refused ∷ []) (submitted exchange ∷ []) refused refl written
       (takes_it left middle surplus before after id arrives draws held written takes) refuses;
-      hands = hands_it left middle surplus before after id arrives draws (refused ∷ []) (same_outlook after);
+      hands = draws.hands;
     }
 serves_both Ended left middle left' held written held' surplus before after id arrives draws takes follows refuses = absurd refuses
 serves_both ReadFault left middle left' held written held' surplus before after id arrives draws takes follows refuses = absurd refuses

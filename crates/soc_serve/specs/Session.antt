@@ -1,7 +1,7 @@
 -- A session: the messages of the whole input, what each is answered, and how it ends.
-use Rattle.std.specs.Prelude.{◌≡◌, ℕ, ◌<◌, List, [], ◌∷◌, ◌++◌, length, take, Bool, true, false, Option, IfSome, ⊤}
+use Rattle.std.specs.Prelude.{◌≡◌, ℕ, ◌<◌, List, [], ◌∷◌, ◌++◌, length, take, map, Bool, true, false, Option, IfSome, ⊤}
 use Rattle.std.specs.List.{flat_map}
-use Rattle.soc_edge.specs.Told.{Gives, Takes, TakesFront, Outlook, HandsOne, SameOutlook}
+use Rattle.soc_edge.specs.Told.{Gives, Takes, TakesFront, Outlook, Hands}
 use Rattle.soc_raw.specs.CrashId.{id_text}
 use Rattle.soc_raw.specs.Day.{day_of}
 use Rattle.soc_raw.specs.declared.digit.Digit.TheVariants.{Accepted}
@@ -104,23 +104,23 @@ Writes ReadFault held held' turns = Takes held held' (replies_text turns)
 Writes WriteFault held held' turns = CutReply held held' turns
 Writes NoMemory held held' turns = Takes held held' (replies_text turns)
 
--- each submission takes a moment, a throttle draw and an id draw, and nothing else does
-abbrev pub HandsEach : Outlook → Outlook → List Turn → Type 0
-HandsEach before after [] = SameOutlook before after
-HandsEach before after (submitted exchange ∷ turns) =
-    (middle : Outlook) × HandsOne before middle exchange.moment exchange.throttle exchange.draw × HandsEach middle after turns
-HandsEach before after (refused ∷ turns) = HandsEach before after turns
+-- the submissions that were taken
+abbrev pub exchanges_of : List Turn → List Exchange
+exchanges_of [] = []
+exchanges_of (submitted exchange ∷ turns) = exchange ∷ exchanges_of turns
+exchanges_of (refused ∷ turns) = exchanges_of turns
 
--- what a clock and draws hand out
-abbrev pub outlook : (ℕ → Option ℕ) → (ℕ → Option ℕ) → (ℕ → Option (List ℕ)) → Outlook
-outlook moments throttles ids = record { moments = moments; throttles = throttles; ids = ids }
+-- each submission takes a moment, a throttle draw and an id draw, and nothing else does
+abbrev pub HandsEach : Outlook → Outlook → List Exchange → Type 0
+HandsEach before after exchanges =
+    Hands before after (map (λ exchange. exchange.moment) exchanges) (map (λ exchange. exchange.throttle) exchanges) (map (λ exchange. exchange.draw) exchanges)
 
 -- a session: its turns are the input's messages, their replies are written, and each took its draws
 pub record Serves (left left' held held' : Option (List ℕ)) (before after : Outlook) (end : End) : Type 0 where
   pub turns : List Turn
   pub reads : Reads end left left' turns
   pub writes : Writes end held held' turns
-  pub hands : HandsEach before after turns
+  pub hands : HandsEach before after (exchanges_of turns)
 
 -- a refused message is answered, or the write failed
 abbrev pub Refuses : Option (List ℕ) → Option (List ℕ) → End → Type 0
@@ -135,5 +135,5 @@ pub record IsDrawn (before after : Outlook) (id : List ℕ) : Type 0 where
   pub moment : ℕ
   pub throttle : ℕ
   pub draw : List ℕ
-  pub hands : HandsOne before after moment throttle draw
+  pub hands : Hands before after (moment ∷ []) (throttle ∷ []) (draw ∷ [])
   pub id_is : id ≡ id_text draw Accepted (day_of moment)

@@ -2,8 +2,9 @@
 ghost use Rattle.std.specs.Prelude.{◌≡◌, ◌≤◌, ◌<◌, [], ℕ, List, Option, length, true, false, IfOk, OnErr};
 ghost use Rattle.std.specs.Bool.{OnTrue, OnFalse};
 ghost use Rattle.soc_edge.specs.Faults.{Rose};
+ghost use Rattle.soc_edge.specs.Told.{outlook};
 ghost use Rattle.soc_serve.specs.Reading.{ArrivesWhole, FollowsMore, FollowsNothing};
-ghost use Rattle.soc_serve.specs.Session.{IsDrawn, Refuses, Serves, outlook};
+ghost use Rattle.soc_serve.specs.Session.{IsDrawn, Refuses, Serves};
 
 use crate::ending::End;
 use crate::reading::{Arrival, Halt, read_message};

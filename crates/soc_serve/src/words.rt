@@ -1,8 +1,8 @@
 //! The words of the command line.
-ghost use Rattle.std.specs.Prelude.{◌≡◌, ◌↔◌, ◌≤◌, IsTrue, map, string_bytes};
+ghost use Rattle.std.specs.Prelude.{◌≡◌, ◌↔◌, ◌≤◌, [], IsTrue, map, string_bytes};
 ghost use Rattle.soc_edge.specs.Faults.{Rose};
-ghost use Rattle.soc_edge.specs.Told.{SameOutlook};
-ghost use Rattle.soc_serve.specs.Session.{Serves, outlook};
+ghost use Rattle.soc_edge.specs.Told.{Hands, outlook};
+ghost use Rattle.soc_serve.specs.Session.{Serves};
 ghost use Rattle.soc_serve.specs.Words.{AreReplay, RefusesWords, status_of};
 
 use crate::ending::End;
@@ -36,8 +36,8 @@ pub fn run_words<S: Source, K: Sink, C: Clock, W: Draws>(
     ensures other_words { ¬ (AreReplay (map string_bytes words.now)) → RefusesWords result (K.held output.old) (K.held output.new) }
     ensures untouched { ¬ (AreReplay (map string_bytes words.now)) → S.left input.new ≡ S.left input.old }
     ensures undrawn { ¬ (AreReplay (map string_bytes words.now))
-        → SameOutlook (outlook (C.moments clock.old) (W.throttles draws.old) (W.ids draws.old))
-            (outlook (C.moments clock.new) (W.throttles draws.new) (W.ids draws.new)) }
+        → Hands (outlook (C.moments clock.old) (W.throttles draws.old) (W.ids draws.old))
+            (outlook (C.moments clock.new) (W.throttles draws.new) (W.ids draws.new)) [] [] [] }
     ensures words_cause { result ≡ 2 → ¬ (AreReplay (map string_bytes words.now)) }
     ensures read_cause { result ≡ 6 → Rose (S.read_faults input.old) (S.read_faults input.new) }
     ensures write_cause { result ≡ 7 → Rose (K.write_faults output.old) (K.write_faults output.new) }
