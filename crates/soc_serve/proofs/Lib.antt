@@ -6,3 +6,4 @@ pub mod FrontLemmas
 pub mod ReadingLemmas
 pub mod ReplyLemmas
 pub mod SessionLemmas
+pub mod WordLemmas

@@ -66,7 +66,7 @@ accepted_pieces id is =
     let size : length (codes "CrashID=bp-" ++ id ++ codes "\n") ≡ 48 =
     omega (arith, length-append (codes "CrashID=bp-" ++ id) (codes "\n"), length-append (codes "CrashID=bp-") id, id_length id is) in
     sym (ap (λ (n : ℕ). codes "HTTP/1.1 200 OK\r\n" ++ (codes "Content-Type: text/plain\r\nContent-Length: " ++ decimal n ++ codes "\r\n") ++ [] ++ codes "\r\n"
-      ++ (codes "CrashID=bp-" ++ id ++ codes "\n")) size
+    ++ (codes "CrashID=bp-" ++ id ++ codes "\n")) size
     ∙ ap (λ (l : List ℕ). l ++ (codes "CrashID=bp-" ++ id ++ codes "\n")) lines_48)
 
 pub not_built_text : codes "HTTP/1.1 501 Not Implemented\r\nContent-Type: text/plain\r\nContent-Length: 10\r\nConnection: close\r\n\r\nnot built\n" ≡ reply_text not_built

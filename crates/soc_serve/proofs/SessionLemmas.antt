@@ -116,7 +116,7 @@ serves_refused Refused left left' held held' before arrives refuses = record {
   reads = (
     record { before = []; last = refl },
     told_text (λ text. BeginsWith text (refused ∷ [])) left left' arrives.taken arrives.gives
-    (if_map left' _ _ (λ more other. begins_refused (arrives.taken ++ more) other) arrives.other),
+        (if_map left' _ _ (λ more other. begins_refused (arrives.taken ++ more) other) arrives.other),
   );
   writes = subst (Takes held held') (sym (append-nil (turn_text refused))) refuses;
   hands = Hands-none before;
@@ -124,7 +124,7 @@ serves_refused Refused left left' held held' before arrives refuses = record {
 serves_refused WriteFault left left' held held' before arrives refuses = record {
   turns = refused ∷ [];
   reads = told_text (λ text. BeginsWith text (refused ∷ [])) left left' arrives.taken arrives.gives
-  (if_map left' _ _ (λ more other. begins_refused (arrives.taken ++ more) other) arrives.other);
+      (if_map left' _ _ (λ more other. begins_refused (arrives.taken ++ more) other) arrives.other);
   writes = cut_one held held' (refused ∷ []) [] refused refl held (Takes-none held held refl) refuses;
   hands = Hands-none before;
 }
@@ -161,9 +161,9 @@ serves_cut left middle held held' surplus before after id arrives draws front =
     record {
       turns = submitted exchange ∷ [];
       reads = told_text (λ text. BeginsWith text (submitted exchange ∷ [])) left middle arrives.taken arrives.gives
-      (all_told _ middle (λ more. (arrives.extra ++ more, (refl, arrives.extra ++ more, arrives.takes more, refl))));
+          (all_told _ middle (λ more. (arrives.extra ++ more, (refl, arrives.extra ++ more, arrives.takes more, refl))));
       writes = cut_one held held' (submitted exchange ∷ []) [] (submitted exchange) refl held (Takes-none held held refl)
-      (subst (TakesFront held held') (text_of_id before after id draws) front);
+          (subst (TakesFront held held') (text_of_id before after id draws) front);
       hands = draws.hands;
     }
 
@@ -175,7 +175,7 @@ serves_last left middle left' held held' surplus before after id arrives draws t
     record {
       turns = submitted exchange ∷ [];
       reads = told_text (λ text. Messages true text (submitted exchange ∷ []) []) left middle arrives.taken arrives.gives
-      (if_map middle _ _ (λ more is. (refl, arrives.extra ++ more, arrives.takes more, ap (λ l. arrives.extra ++ l) is ∙ append-nil arrives.extra ∙ no_extra)) (nothing_left middle left' none.gives none.end));
+          (if_map middle _ _ (λ more is. (refl, arrives.extra ++ more, arrives.takes more, ap (λ l. arrives.extra ++ l) is ∙ append-nil arrives.extra ∙ no_extra)) (nothing_left middle left' none.gives none.end));
       writes = takes_it left middle surplus before after id arrives draws held held' takes;
       hands = draws.hands;
     }
@@ -221,8 +221,8 @@ begins_both : (left middle left' : Option (List ℕ)) (surplus : Bool) (before a
 begins_both left middle left' surplus before after id arrives draws follows =
     told_text (λ text. BeginsWith text (submitted (exchange_of left middle surplus before after id arrives draws) ∷ refused ∷ [])) left middle arrives.taken arrives.gives
     (if_map middle (λ more. 0 < length (arrives.extra ++ more)) _
-      (λ more some. (arrives.extra ++ more, (refl, arrives.extra ++ more, arrives.takes more, (record { some = some; other = λ first. cc }, refl, refl))))
-      (some_follows middle left' arrives.extra surplus arrives.more follows))
+    (λ more some. (arrives.extra ++ more, (refl, arrives.extra ++ more, arrives.takes more, (record { some = some; other = λ first. cc }, refl, refl))))
+    (some_follows middle left' arrives.extra surplus arrives.more follows))
 
 pub serves_both : (end : End) (left middle left' held written held' : Option (List ℕ)) (surplus : Bool) (before after : Outlook) (id : List ℕ) → ArrivesWhole left middle surplus → IsDrawn before after id
     → Takes held written (reply_text (accepted id)) → FollowsMore middle left' surplus → Refuses written held' end → Serves left left' held held' before after end
@@ -232,8 +232,8 @@ serves_both Refused left middle left' held written held' surplus before after id
       turns = submitted exchange ∷ refused ∷ [];
       reads = (record { before = submitted exchange ∷ []; last = refl }, begins_both left middle left' surplus before after id arrives draws follows);
       writes = Takes-append held written held' (reply_text (accepted (id_text draws.draw Accepted (day_of draws.moment)))) (replies_text (refused ∷ []))
-      (subst (Takes held written) (text_of_id before after id draws) takes)
-      (subst (Takes written held') (sym (append-nil (turn_text refused))) refuses);
+          (subst (Takes held written) (text_of_id before after id draws) takes)
+          (subst (Takes written held') (sym (append-nil (turn_text refused))) refuses);
       hands = draws.hands;
     }
 serves_both WriteFault left middle left' held written held' surplus before after id arrives draws takes follows refuses =
@@ -242,7 +242,7 @@ serves_both WriteFault left middle left' held written held' surplus before after
       turns = submitted exchange ∷ refused ∷ [];
       reads = begins_both left middle left' surplus before after id arrives draws follows;
       writes = cut_one held held' (submitted exchange ∷ refused ∷ []) (submitted exchange ∷ []) refused refl written
-      (takes_it left middle surplus before after id arrives draws held written takes) refuses;
+          (takes_it left middle surplus before after id arrives draws held written takes) refuses;
       hands = draws.hands;
     }
 serves_both Ended left middle left' held written held' surplus before after id arrives draws takes follows refuses = absurd refuses

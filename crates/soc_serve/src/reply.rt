@@ -60,5 +60,8 @@ pub(crate) fn write_not_built<K: Sink>(output: &mut K) -> Result<(), Failed>
     ensures never_falls { K.write_faults output.old ≤ K.write_faults output.new }
     ensures cause { OnErr result (Rose (K.write_faults output.old) (K.write_faults output.new)) }
 {
-    write_all(output, b"HTTP/1.1 501 Not Implemented\r\nContent-Type: text/plain\r\nContent-Length: 10\r\nConnection: close\r\n\r\nnot built\n")
+    write_all(
+        output,
+        b"HTTP/1.1 501 Not Implemented\r\nContent-Type: text/plain\r\nContent-Length: 10\r\nConnection: close\r\n\r\nnot built\n",
+    )
 }

@@ -48,8 +48,8 @@ fn answer<S: Source, K: Sink, C: Clock, W: Draws>(
 ) -> End
     ensures serves { (left : Option (List ℕ)) → ArrivesWhole left (S.left input.old) surplus
         → Serves left (S.left input.new) (K.held output.old) (K.held output.new)
-            (outlook (C.moments clock.old) (W.throttles draws.old) (W.ids draws.old))
-            (outlook (C.moments clock.new) (W.throttles draws.new) (W.ids draws.new)) result }
+        (outlook (C.moments clock.old) (W.throttles draws.old) (W.ids draws.old))
+        (outlook (C.moments clock.new) (W.throttles draws.new) (W.ids draws.new)) result }
     ensures read_cause { result ≡ End.ReadFault → Rose (S.read_faults input.old) (S.read_faults input.new) }
     ensures write_cause { result ≡ End.WriteFault → Rose (K.write_faults output.old) (K.write_faults output.new) }
     ensures reads_never_fall { S.read_faults input.old ≤ S.read_faults input.new }

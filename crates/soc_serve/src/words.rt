@@ -1,5 +1,5 @@
 //! The words of the command line.
-ghost use Rattle.std.specs.Prelude.{◌≡◌, ◌↔◌, ◌≤◌, [], IsTrue, map, string_bytes};
+ghost use Rattle.std.specs.Prelude.{◌≡◌, ◌↔◌, ◌≤◌, [], IsTrue, codes, map, string_bytes};
 ghost use Rattle.soc_edge.specs.Faults.{Rose};
 ghost use Rattle.soc_edge.specs.Told.{Hands, outlook};
 ghost use Rattle.soc_serve.specs.Session.{Serves};
@@ -31,13 +31,13 @@ pub fn run_words<S: Source, K: Sink, C: Clock, W: Draws>(
 ) -> u8
     ensures replays { AreReplay (map string_bytes words.now) → (end : End) × (result ≡ status_of end)
         × Serves (S.left input.old) (S.left input.new) (K.held output.old) (K.held output.new)
-            (outlook (C.moments clock.old) (W.throttles draws.old) (W.ids draws.old))
-            (outlook (C.moments clock.new) (W.throttles draws.new) (W.ids draws.new)) end }
+        (outlook (C.moments clock.old) (W.throttles draws.old) (W.ids draws.old))
+        (outlook (C.moments clock.new) (W.throttles draws.new) (W.ids draws.new)) end }
     ensures other_words { ¬ (AreReplay (map string_bytes words.now)) → RefusesWords result (K.held output.old) (K.held output.new) }
     ensures untouched { ¬ (AreReplay (map string_bytes words.now)) → S.left input.new ≡ S.left input.old }
     ensures undrawn { ¬ (AreReplay (map string_bytes words.now))
         → Hands (outlook (C.moments clock.old) (W.throttles draws.old) (W.ids draws.old))
-            (outlook (C.moments clock.new) (W.throttles draws.new) (W.ids draws.new)) [] [] [] }
+        (outlook (C.moments clock.new) (W.throttles draws.new) (W.ids draws.new)) [] [] [] }
     ensures words_cause { result ≡ 2 → ¬ (AreReplay (map string_bytes words.now)) }
     ensures read_cause { result ≡ 6 → Rose (S.read_faults input.old) (S.read_faults input.new) }
     ensures write_cause { result ≡ 7 → Rose (K.write_faults output.old) (K.write_faults output.new) }
@@ -57,9 +57,15 @@ fn are_replay(words: &[String]) -> bool
     ensures { IsTrue result ↔ AreReplay (map string_bytes words.now) }
 {
     match words {
-        [word] => word.as_bytes() == b"replay".as_slice(),
+        [word] => is_replay(word.as_bytes()),
         _ => false,
     }
+}
+
+fn is_replay(word: &[u8]) -> bool
+    ensures { IsTrue result ↔ (word.now ≡ codes "replay") }
+{
+    word == b"replay".as_slice()
 }
 
 /// The status that a session's end gives.
