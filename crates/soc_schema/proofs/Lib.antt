@@ -2,3 +2,4 @@ pub mod FieldLemmas
 pub mod RowLemmas
 pub mod RowTextLemmas
 pub mod TokenLemmas
+pub mod SightLemmas

@@ -1,12 +1,14 @@
 -- Who may see what.
-use Rattle.std.specs.Prelude.{ℕ, Bool, false, true, List, Option, None, Some, IsTrue, Contains, ⊤}
+use Rattle.std.specs.Prelude.{ℕ, Bool, false, true, List, filter, Option, None, Some, IsTrue, Contains, bytes_eq, ⊤}
+use Rattle.std.specs.List.{list_any}
 use Rattle.soc_schema.specs.declared.permission.Permission.{Permission}
 use Rattle.soc_schema.specs.declared.permission.Permission.TheVariants.{Public, ProtectedData, ViewRawdump, ReprocessCrashes, Operate}
 use Rattle.soc_schema.specs.declared.permission.Permissions.{Permissions}
 use Rattle.soc_schema.specs.declared.caller.Products.{Products}
 use Rattle.soc_schema.specs.declared.caller.Products.TheVariants.{All as AllProducts, Some as OnlyProducts}
 use Rattle.soc_schema.specs.declared.caller.Caller.{Caller}
-use Rattle.soc_schema.specs.Fields.{permission_of}
+use Rattle.soc_schema.specs.declared.value.Cell.{Cell}
+use Rattle.soc_schema.specs.Fields.{permission_of, permission_of_annotation}
 
 -- whether the set has the permission
 abbrev pub holds : Permissions → Permission → Bool
@@ -42,3 +44,21 @@ Shows (OnlyProducts names) (Some product) = Contains names product
 -- the caller may see the crashes of the product, or those without one
 abbrev pub Visible : Caller → Option (List ℕ) → Type 0
 Visible caller product = Shows caller.products product
+
+-- the same as a test
+abbrev pub shows : Products → Option (List ℕ) → Bool
+shows AllProducts product = true
+shows (OnlyProducts names) None = false
+shows (OnlyProducts names) (Some product) = list_any (bytes_eq product) names
+
+-- the caller may see the field, as a test
+abbrev pub is_granted : Caller → ℕ → Bool
+is_granted caller f = holds caller.permissions (permission_of f)
+
+-- the fields of a row that the caller may see
+abbrev pub granted_cells : Caller → List Cell → List Cell
+granted_cells caller cells = filter (λ c. is_granted caller c.field) cells
+
+-- the annotations that the caller may see
+abbrev pub granted_annotations : Caller → List (List ℕ × List ℕ) → List (List ℕ × List ℕ)
+granted_annotations caller pairs = filter (λ pair. holds caller.permissions (permission_of_annotation pair.0)) pairs

@@ -1,9 +1,12 @@
 //! What a report says: a value for some of the fields.
-ghost use Rattle.std.specs.Prelude.{◌≡◌, ◌≢◌, ◌↔◌, ◌<◌, ◌≤◌, ℕ, [], length, slice_index, slice_get, option_map, IsTrue, OnOk, OnErr, Some, MatchResult};
+ghost use Rattle.std.specs.Prelude.{◌≡◌, ◌≢◌, ◌↔◌, ◌<◌, ◌≤◌, ℕ, [], length, slice_index, slice_get, option_map, IfOk, IsTrue, OnOk, OnErr, Some, MatchResult};
 ghost use Rattle.soc_schema.specs.Fields.{IsField, kind_of};
+ghost use Rattle.soc_schema.specs.Permits.{granted_cells};
 ghost use Rattle.soc_schema.specs.Rows.{HasFieldAt, IsRow, LacksFieldAt, cell, fields, kind_of_value, value_of, with_value};
 
+use crate::caller::Caller;
 use crate::field::Field;
+use crate::sight::granted;
 use crate::value::{Cell, Value};
 use soc_raw::NoMemory;
 use std::alloc::Global;
@@ -100,6 +103,19 @@ impl Row {
         ensures { result ≡ cells.items }
     {
         Row { cells }
+    }
+
+    /// The fields that the caller may see, in memory of their own.
+    pub fn shown(&self, alloc: Global, caller: &Caller) -> Result<Row, NoMemory>
+        ensures { IfOk result (λ row. row ≡ granted_cells caller.now self.now) }
+    {
+        let mut cells = Vec::new(alloc);
+        for cell in &self.cells {
+            if granted(caller, cell.field) {
+                cells.push(cell.copy(alloc)?)?;
+            }
+        }
+        Ok(Row { cells })
     }
 }
 

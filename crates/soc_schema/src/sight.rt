@@ -1,6 +1,6 @@
 //! What a caller sees.
-ghost use Rattle.std.specs.Prelude.{◌↔◌, IsTrue, Contains, option_map};
-ghost use Rattle.soc_schema.specs.Permits.{Granted, Visible};
+ghost use Rattle.std.specs.Prelude.{◌≡◌, ◌↔◌, IsTrue, Contains, option_map};
+ghost use Rattle.soc_schema.specs.Permits.{Granted, Visible, is_granted, shows};
 
 use crate::caller::{Caller, Products};
 use crate::field::Field;
@@ -8,14 +8,16 @@ use soc_raw::TextList;
 
 /// Whether the caller may see the field.
 pub fn granted(caller: &Caller, field: Field) -> bool
-    ensures { IsTrue result ↔ Granted caller.now field }
+    ensures test { result ≡ is_granted caller.now field }
+    ensures granted { IsTrue result ↔ Granted caller.now field }
 {
     caller.permissions.has(field.permission())
 }
 
 /// Whether the caller may see the crashes of the product, or those without one.
 pub fn visible(caller: &Caller, product: Option<&str>) -> bool
-    ensures { IsTrue result ↔ Visible caller.now (option_map (λ p. p.now) product.entry) }
+    ensures test { result ≡ shows caller.now.products (option_map (λ p. p.now) product.entry) }
+    ensures visible { IsTrue result ↔ Visible caller.now (option_map (λ p. p.now) product.entry) }
 {
     match &caller.products {
         Products::All => true,

@@ -51,3 +51,17 @@ impl Value {
         })
     }
 }
+
+impl Cell {
+    ghost use Rattle.std.specs.Prelude.{◌≡◌, IfOk};
+
+    /// The same field and value, in memory of its own.
+    pub fn copy(&self, alloc: Global) -> Result<Cell, NoMemory>
+        ensures { IfOk result (λ cell. cell ≡ self.now) }
+    {
+        Ok(Cell {
+            field: self.field,
+            value: self.value.copy(alloc)?,
+        })
+    }
+}
