@@ -15,6 +15,8 @@ mod sink;
 mod source;
 mod steps;
 mod tells;
+#[cfg(test)]
+mod tests;
 mod tree;
 mod whole;
 
