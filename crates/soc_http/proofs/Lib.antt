@@ -5,3 +5,4 @@ pub mod CountLemmas
 pub mod BlockLemmas
 pub mod WindowLemmas
 pub mod HeadLemmas
+pub mod BodyLemmas

@@ -7,3 +7,4 @@ pub mod Reply
 pub mod Pieces
 pub mod Query
 pub mod Route
+pub mod Body

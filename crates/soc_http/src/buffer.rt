@@ -1,10 +1,15 @@
 // The window that messages are read through.
-ghost use Rattle.std.specs.Prelude.{◌≡◌, ◌≤◌, ◌<◌, ◌+◌, ◌-◌, ◌++◌, [], length, take, drop, IfOk, OnErr};
+ghost use Rattle.std.specs.Prelude.{◌≡◌, ◌≤◌, ◌<◌, ◌+◌, ◌-◌, ◌++◌, [], length, take, drop, IfOk, IfErr, OnErr};
 ghost use Rattle.std.specs.Io.KnownBytes.{IsAtEnd};
 ghost use Rattle.soc_edge.specs.Faults.{Rose};
 ghost use Rattle.soc_edge.specs.Told.{Gives};
+ghost use Rattle.std.specs.Borrow.{sem};
+ghost use Rattle.std.specs.Io.BufRead.{Rests};
 ghost use Rattle.soc_http.specs.Reading.{Fills};
+ghost use Rattle.soc_http.specs.Body.{PieceFrom};
+ghost use Rattle.soc_http.specs.contracts.buffer.Buffer.{the_row};
 
+use crate::body::{BodyError, piece_len};
 use soc_edge::{Failed, Source};
 use soc_raw::NoMemory;
 use std::alloc::Global;
@@ -37,7 +42,11 @@ impl Model for Buffer {
 }
 
 /// Reads behind the first `end` bytes of a window.
-fn read_behind<S: Source>(source: &mut S, window: &mut [u8], end: usize) -> Result<usize, Failed>
+pub(crate) fn read_behind<S: Source>(
+    source: &mut S,
+    window: &mut [u8],
+    end: usize,
+) -> Result<usize, Failed>
     requires { end ≤ length window.old }
     ensures front { take end window.new ≡ take end window.old }
     ensures count { IfOk result (λ n. end + n ≤ length window.new) }
@@ -106,6 +115,31 @@ impl Buffer {
         ensures room { length self.now ≤ 32768 }
     {
         &self.bytes[self.start..self.end]
+    }
+
+    /// Passes over the next bytes of a body, and lends them.
+    pub(crate) fn take_piece<S: Source>(
+        &mut self,
+        source: &mut S,
+        left: &mut u64,
+    ) -> Result<&[u8], BodyError>
+        requires { 0 < left.old }
+        ensures* after_borrow { sem 𝓛 (Rests the_row self.entry
+            (λ new. PieceFrom (S.left source.old) (S.left source.new) self.old result new)) }
+        ensures some { IfOk result (λ piece. 0 < length piece.now) }
+        ensures counted { IfOk result (λ piece. left.new + length piece.now ≡ left.old) }
+        ensures left_stays { OnErr result (left.new ≡ left.old) }
+        ensures cause { IfErr result
+            (λ error. error ≡ BodyError.ReadFault → Rose (S.read_faults source.old) (S.read_faults source.new)) }
+        ensures never_falls { S.read_faults source.old ≤ S.read_faults source.new }
+        ensures held_stays { S.held source.new ≡ S.held source.old }
+        ensures write_faults_stay { S.write_faults source.new ≡ S.write_faults source.old }
+    {
+        let count = piece_len(source, self, *left)?;
+        *left -= count as u64;
+        let start = self.start;
+        self.start += count;
+        Ok(&self.bytes[start..self.start])
     }
 
     /// Passes over the first unread bytes.

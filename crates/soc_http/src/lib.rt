@@ -2,6 +2,7 @@
 #![tactic(auto)]
 
 mod block;
+mod body;
 mod buffer;
 mod framing;
 mod head;
@@ -13,6 +14,7 @@ mod route;
 mod search;
 mod verb;
 
+pub use body::{BodyError, body_piece, read_body};
 pub use buffer::Buffer;
 pub use head::{Head, HeadError};
 pub use heads::read_head;

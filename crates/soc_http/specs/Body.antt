@@ -1,0 +1,123 @@
+-- Bodies of messages: so many bytes behind a head (RFC 9112, section 6.2).
+use Rattle.std.specs.Prelude.{◌≡◌, ℕ, ◌<◌, ◌≤◌, List, [], ◌++◌, length, take, Option, None, Some, Result, Ok, Err}
+use Rattle.std.specs.Borrow.{Bor}
+use Rattle.std.specs.Io.KnownBytes.{IsAtEnd}
+use Rattle.soc_edge.specs.Told.{Gives}
+use Rattle.soc_http.specs.declared.body.BodyError.{BodyError}
+use Rattle.soc_http.specs.declared.body.BodyError.TheVariants as B
+
+-- the text begins with so many bytes, and rest stands behind them
+pub record Skips (text : List ℕ) (count : ℕ) (rest : List ℕ) : Type 0 where
+  pub front : List ℕ
+  pub whole : text ≡ front ++ rest
+  pub counted : length front ≡ count
+
+-- fewer bytes than that were taken from the text, and rest stands behind them
+pub record StopsEarly (text : List ℕ) (count : ℕ) (rest : List ℕ) : Type 0 where
+  pub front : List ℕ
+  pub whole : text ≡ front ++ rest
+  pub fewer : length front < count
+
+-- what reading a body of so many bytes from the text answers, and what is left behind it
+abbrev pub ReadsBody : List ℕ → ℕ → Result (List ℕ) BodyError → List ℕ → Type 0
+ReadsBody text count (Ok body) rest = (text ≡ body ++ rest) × (length body ≡ count)
+ReadsBody text count (Err B.CutShort) rest = (length text < count) × (rest ≡ [])
+ReadsBody text count (Err B.ReadFault) rest = StopsEarly text count rest
+ReadsBody text count (Err B.NoMemory) rest = Skips text count rest
+
+-- the body is cut short only where the input ends
+abbrev pub IfCut : {A : Type 0} → Result A BodyError → Type 0 → Type 0
+IfCut (Ok x) P = Unit {0}
+IfCut (Err B.CutShort) P = P
+IfCut (Err B.ReadFault) P = Unit {0}
+IfCut (Err B.NoMemory) P = Unit {0}
+
+-- the source gave bytes, and with them the window's text gives this answer, whatever else the source has left
+pub record BodyFrom
+    (before after : Option (List ℕ)) (old : List ℕ) (count : ℕ) (result : Result (List ℕ) BodyError) (new : List ℕ) : Type 0 where
+  pub given : List ℕ
+  pub gives : Gives before after given
+  pub reads : ReadsBody (old ++ given) count result new
+  pub ended : IfCut result (IsAtEnd after)
+
+-- the same over all that is ahead, where it is told
+abbrev pub ReadsBodyAhead : Option (List ℕ) → ℕ → Result (List ℕ) BodyError → Option (List ℕ) → Type 0
+ReadsBodyAhead None count result after = after ≡ None
+ReadsBodyAhead (Some text) count result None = ⊥
+ReadsBodyAhead (Some text) count result (Some rest) = ReadsBody text count result rest
+
+-- ---- a piece of a body
+
+-- what asking for a piece finds: the window has so many bytes of it, at least one and at most those that are left
+abbrev pub IsPiece : List ℕ → ℕ → Result ℕ BodyError → List ℕ → Type 0
+IsPiece text left (Ok count) window = (window ≡ text) × (0 < count) × (count ≤ left) × (count ≤ length window)
+IsPiece text left (Err B.CutShort) window = (text ≡ []) × (window ≡ [])
+IsPiece text left (Err B.ReadFault) window = window ≡ text
+IsPiece text left (Err B.NoMemory) window = ⊥
+
+pub record IsPieceReady
+    (before after : Option (List ℕ)) (old : List ℕ) (left : ℕ) (result : Result ℕ BodyError) (new : List ℕ) : Type 0 where
+  pub given : List ℕ
+  pub gives : Gives before after given
+  pub reads : IsPiece (old ++ given) left result new
+  pub ended : IfCut result (IsAtEnd after)
+
+-- ---- a body that is passed over
+
+abbrev pub PassesOver : List ℕ → ℕ → Result (Unit {0}) BodyError → List ℕ → Type 0
+PassesOver text count (Ok done) rest = Skips text count rest
+PassesOver text count (Err B.CutShort) rest = (length text < count) × (rest ≡ [])
+PassesOver text count (Err B.ReadFault) rest = StopsEarly text count rest
+PassesOver text count (Err B.NoMemory) rest = ⊥
+
+pub record Passes
+    (before after : Option (List ℕ)) (old : List ℕ) (count : ℕ) (result : Result (Unit {0}) BodyError) (new : List ℕ) : Type 0 where
+  pub given : List ℕ
+  pub gives : Gives before after given
+  pub reads : PassesOver (old ++ given) count result new
+  pub ended : IfCut result (IsAtEnd after)
+
+-- what stands behind so many bytes, once the source gave some
+pub record Past (before after : Option (List ℕ)) (old new : List ℕ) (count : ℕ) : Type 0 where
+  pub given : List ℕ
+  pub gives : Gives before after given
+  pub skips : Skips (old ++ given) count new
+
+-- ---- a body that is read into its place
+
+abbrev pub ReadsInto : List ℕ → List ℕ → Result (Unit {0}) BodyError → List ℕ → Type 0
+ReadsInto text body (Ok done) rest = text ≡ body ++ rest
+ReadsInto text body (Err B.CutShort) rest = (length text < length body) × (rest ≡ [])
+ReadsInto text body (Err B.ReadFault) rest = StopsEarly text (length body) rest
+ReadsInto text body (Err B.NoMemory) rest = ⊥
+
+pub record IntoFrom
+    (before after : Option (List ℕ)) (old body : List ℕ) (result : Result (Unit {0}) BodyError) (new : List ℕ) : Type 0 where
+  pub given : List ℕ
+  pub gives : Gives before after given
+  pub reads : ReadsInto (old ++ given) body result new
+  pub ended : IfCut result (IsAtEnd after)
+
+-- the first bytes of the body are there, and the window is empty unless all of them are
+pub record IsFilledTo (before after : Option (List ℕ)) (old body new : List ℕ) (at : ℕ) : Type 0 where
+  pub given : List ℕ
+  pub gives : Gives before after given
+  pub whole : old ++ given ≡ take at body ++ new
+  pub within : at ≤ length body
+  pub emptied : at < length body → new ≡ []
+
+-- ---- a piece that is lent
+
+abbrev pub ReadsPiece : List ℕ → Result (Bor (List ℕ)) BodyError → List ℕ → Type 0
+ReadsPiece text (Ok piece) rest = text ≡ piece.now ++ rest
+ReadsPiece text (Err B.CutShort) rest = (text ≡ []) × (rest ≡ [])
+ReadsPiece text (Err B.ReadFault) rest = rest ≡ text
+ReadsPiece text (Err B.NoMemory) rest = ⊥
+
+-- the source gave bytes, and with them the window's text begins with the piece, whatever else the source has left
+pub record PieceFrom
+    (before after : Option (List ℕ)) (old : List ℕ) (result : Result (Bor (List ℕ)) BodyError) (new : List ℕ) : Type 0 where
+  pub given : List ℕ
+  pub gives : Gives before after given
+  pub reads : ReadsPiece (old ++ given) result new
+  pub ended : IfCut result (IsAtEnd after)
