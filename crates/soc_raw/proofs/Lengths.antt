@@ -1,9 +1,10 @@
 -- How long a record is, and its parts as they are written.
-use Rattle.std.proofs.Common.{◌≡◌, ℕ, zero, suc, ◌+◌, ◌^◌, ◌<◌, ◌≤◌, List, [], ◌∷◌, ◌++◌, length, length-append, take, drop, Some, sym, ap, ◌∙◌, arith, append_assoc}
-use Rattle.std.specs.Prelude.{slice_get, flat_map}
+use Rattle.std.proofs.Common.{◌≡◌, ℕ, zero, suc, ◌+◌, ◌^◌, ◌<◌, ◌≤◌, List, [], ◌∷◌, ◌++◌, length, length-append, take, drop, Some, sym, ap, ◌∙◌, arith, append_assoc, refl}
+use Rattle.std.specs.Prelude.{slice_get, flat_map, sum_by}
 use Rattle.std.specs.Int.{w64, to_le_bytes}
+use Rattle.std.proofs.lemmas.List.Sums.{sum_by-cons}
 use Rattle.std.proofs.lemmas.List.{flat_map_more, drop_at}
-use Rattle.soc_raw.specs.Record.{Crash, counted, pair_text, pairs_text, head_text, content_text, record_of, MAX_RECORD}
+use Rattle.soc_raw.specs.Record.{Crash, pair_len, counted, pair_text, pairs_text, head_text, content_text, record_of, MAX_RECORD}
 use Rattle.soc_raw.proofs.PairLists.{take_next, some_same}
 
 pub head_length : (c : Crash) → length c.id + 8 + 8 + 4 + length c.rule ≡ length (head_text c)
@@ -26,6 +27,18 @@ rule_fits c fits = omega (arith, record_length c, head_length c)
 
 pub pairs_fit : (c : Crash) → length (record_of c) ≤ MAX_RECORD → (length (flat_map pair_text c.annotations) < 2 ^ 32) × (length (flat_map pair_text c.dumps) < 2 ^ 32)
 pairs_fit c fits = (omega (arith, record_length c, content_length c), omega (arith, record_length c, content_length c))
+
+pub whole_length : (c : Crash) → length c.id + 8 + 8 + 4 + length c.rule + length (pairs_text c.annotations) + length (pairs_text c.dumps) ≡ length (record_of c)
+whole_length c = omega (arith, record_length c, head_length c, content_length c)
+
+pub pairs_length : (ps : List (List ℕ × List ℕ)) → length (flat_map pair_text ps) ≡ sum_by pair_len ps
+pairs_length [] = refl
+pairs_length (p ∷ ps) =
+    omega (arith, sum_by-cons pair_len p ps, pairs_length ps, length-append (pair_text p) (flat_map pair_text ps), length-append (counted p.0) (counted p.1))
+
+-- for whoever makes a raw crash: the length of its record, from its parts
+pub length_by_parts : (c : Crash) → length (record_of c) ≡ length c.id + 28 + length c.rule + sum_by pair_len c.annotations + sum_by pair_len c.dumps
+length_by_parts c = omega (arith, whole_length c, pairs_length c.annotations, pairs_length c.dumps)
 
 pub content_at : (c : Crash) (n : ℕ) → n ≡ length (head_text c) → drop n (record_of c) ≡ content_text c
 unfolding record_of
@@ -70,3 +83,26 @@ encoded c start a b d e f g mb db id rule is_id is_rule empty pa m pb w pd pe pf
     let fourth : e ≡ ((c.id ++ to_le_bytes w64 c.moment) ++ to_le_bytes w64 c.draw) ++ counted c.rule = pe ∙ ap (λ t. t ++ counted rule) third ∙ ap (λ t. ((c.id ++ to_le_bytes w64 c.moment) ++ to_le_bytes w64 c.draw) ++ counted t) is_rule in
     pg ∙ ap (λ t. t ++ pairs_text c.dumps) (pf ∙ ap (λ t. t ++ pairs_text c.annotations) fourth)
     ∙ regrouped c.id (to_le_bytes w64 c.moment) (to_le_bytes w64 c.draw) (counted c.rule) (pairs_text c.annotations) (pairs_text c.dumps)
+
+len_more : (ps : List (List ℕ × List ℕ)) (i : ℕ) (n v : List ℕ) → slice_get ps i ≡ Some (n, v) → (length (flat_map pair_text (take (suc i) ps)) ≡ length (flat_map pair_text (take i ps)) + (8 + length n + length v)) × (length (flat_map pair_text (take (suc i) ps)) ≤ length (flat_map pair_text ps))
+len_more [] i n v at = cc
+len_more (p ∷ ps) zero n v at =
+    let name : p.0 ≡ n = ap (λ u. u.0) (some_same p (n, v) at) in
+    let value : p.1 ≡ v = ap (λ u. u.1) (some_same p (n, v) at) in
+    let alone = length-append (pair_text p) [] in
+    let long = length-append (pair_text p) (flat_map pair_text ps) in
+    let pair = length-append (counted p.0) (counted p.1) in
+    (rw (← name, ← value) (omega arith), omega arith)
+len_more (p ∷ ps) (suc i) n v at =
+    let more = len_more ps i n v at in
+    let front = length-append (pair_text p) (flat_map pair_text (take i ps)) in
+    let next = length-append (pair_text p) (flat_map pair_text (take (suc i) ps)) in
+    let long = length-append (pair_text p) (flat_map pair_text ps) in
+    (omega arith, omega arith)
+
+-- the length of one pair more, which is no longer than all pairs
+pub len_next : (ps : List (List ℕ × List ℕ)) (i : ℕ) (n v : List ℕ) → slice_get ps i ≡ Some (n, v) → (length (flat_map pair_text (take (i + 1) ps)) ≡ length (flat_map pair_text (take i ps)) + (8 + length n + length v)) × (length (flat_map pair_text (take (i + 1) ps)) ≤ length (flat_map pair_text ps))
+len_next ps i n v at =
+    let next : i + 1 ≡ suc i = omega arith in
+    let longer = len_more ps i n v at in
+    (rw next longer.0, rw next longer.1)

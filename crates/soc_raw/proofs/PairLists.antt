@@ -56,3 +56,12 @@ same_bytes a b e = (bytes_eq-Decides a b).0 (not_differs (bytes_eq a b) e)
 
 pub same_pair : (a b x y : List ℕ) → false ≡ not (bytes_eq a b) → false ≡ not (bytes_eq x y) → (let p : List ℕ × List ℕ = (a, x) in p) ≡ (b, y)
 same_pair a b x y names values = rw (same_bytes a b names, same_bytes x y values) refl
+
+all_more : {X : Type 0} (Is : X → Type 0) (xs : List X) (i : ℕ) (x : X) → slice_get xs i ≡ Some x → Is x → AllByRecursion Is (take i xs) → AllByRecursion Is (take (suc i) xs)
+all_more Is [] i x at is all = cc
+all_more Is (y ∷ xs) zero x at is all = (subst Is (sym (some_same y x at)) is, tt)
+all_more Is (y ∷ xs) (suc i) x at is all = (all.0, all_more Is xs i x at is all.1)
+
+-- one pair more that is of a kind
+pub all_next : {X : Type 0} (Is : X → Type 0) (xs : List X) (i : ℕ) (x : X) → slice_get xs i ≡ Some x → Is x → AllByRecursion Is (take i xs) → AllByRecursion Is (take (i + 1) xs)
+all_next Is xs i x at is all = (let e : suc i ≡ i + 1 = omega arith in subst (λ k. AllByRecursion Is (take k xs)) e (all_more Is xs i x at is all))

@@ -401,3 +401,6 @@ refused BadRecord bytes none = λ c is whole.
     let clash : None ≡ Some c = sym none ∙ read in
     cc
 refused NoMemory bytes none = tt
+
+pub same_crash : (a b : Crash) → IsCrash a → IsCrash b → record_of a ≡ record_of b → a ≡ b
+same_crash a b is_a is_b e = some_same a b (sym (read_again a is_a) ∙ ap crash_at e ∙ read_again b is_b)

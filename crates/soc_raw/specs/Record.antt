@@ -1,5 +1,5 @@
 -- The record of a raw crash, by concatenation: this project's profile. Numbers are little-endian.
-use Rattle.std.specs.Prelude.{◌≡◌, ℕ, ◌^◌, ◌<◌, ◌≤◌, List, ◌++◌, length, flat_map}
+use Rattle.std.specs.Prelude.{◌≡◌, ℕ, ◌+◌, ◌^◌, ◌<◌, ◌≤◌, List, ◌++◌, length, flat_map}
 use Rattle.std.specs.Int.{to_le_bytes, w32, w64}
 use Rattle.std.specs.Str.{IsUtf8}
 use Rattle.std.specs.List.{AllByRecursion}
@@ -22,6 +22,10 @@ counted bytes = to_le_bytes w32 (length bytes) ++ bytes
 
 abbrev pub pair_text : List ℕ × List ℕ → List ℕ
 pair_text p = counted p.0 ++ counted p.1
+
+-- the bytes that a pair takes
+abbrev pub pair_len : List ℕ × List ℕ → ℕ
+pair_len p = 8 + length p.0 + length p.1
 
 -- how many pairs there are, in 4 bytes, and the pairs
 abbrev pub pairs_text : List (List ℕ × List ℕ) → List ℕ

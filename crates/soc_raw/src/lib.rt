@@ -26,7 +26,7 @@ pub use digit::Digit;
 pub use named::{Blobs, Texts};
 pub use no_memory::NoMemory;
 pub use pairs::Pairs;
-pub use raw_crash::RawCrash;
+pub use raw_crash::{RawCrash, one_crash};
 pub use record_error::RecordError;
 pub use text::Text;
 pub use text_list::TextList;

@@ -1,7 +1,7 @@
 //! Raw crashes.
-ghost use Rattle.std.specs.Prelude.{◌≡◌, ◌≤◌, ◌↔◌, length, drop, IfOk, IfErr, IsTrue};
+ghost use Rattle.std.specs.Prelude.{◌≡◌, ◌≤◌, ◌↔◌, length, drop, IfOk, IfErr, OnOk, IsTrue};
 ghost use Rattle.soc_raw.specs.Day.{IsMoment};
-ghost use Rattle.soc_raw.specs.Record.{MAX_RECORD as max_record, IsCrash, record_of, head_text, content_text};
+ghost use Rattle.soc_raw.specs.Record.{MAX_RECORD as max_record, Crash, IsCrash, record_of, head_text, content_text};
 
 use crate::bytes::Bytes;
 use crate::copies::{are_same_blobs, are_same_texts, copy_of_blobs, copy_of_texts};
@@ -11,7 +11,7 @@ use crate::named::{Blobs, Texts};
 use crate::no_memory::NoMemory;
 use crate::record_error::RecordError;
 use crate::text::Text;
-use crate::writing::{put_blobs, put_counted, put_texts};
+use crate::writing::{len_of_blobs, len_of_texts, put_blobs, put_counted, put_texts};
 use std::alloc::Global;
 
 /// The greatest length of a record, in bytes.
@@ -63,11 +63,12 @@ impl RawCrash {
             && are_same_blobs(&self.dumps, &other.dumps)
     }
 
-    /// The record.
+    /// The record, in one piece of memory of its length.
     pub fn encode(&self, alloc: Global) -> Result<Bytes, NoMemory>
-        ensures { IfOk result (λ bytes. bytes ≡ record_text self.now) }
+        ensures record { IfOk result (λ bytes. bytes ≡ record_text self.now) }
+        ensures whole { OnOk result (IsCrash (crash_of self.now)) }
     {
-        let mut out = Vec::new(alloc);
+        let mut out = Vec::with_capacity(alloc, self.record_len())?;
         out.extend_from_slice(self.id.as_str().as_bytes())?;
         out.extend_from_slice(&self.moment.to_le_bytes())?;
         out.extend_from_slice(&self.draw.to_le_bytes())?;
@@ -75,6 +76,14 @@ impl RawCrash {
         put_texts(&mut out, &self.annotations)?;
         put_blobs(&mut out, &self.dumps)?;
         Ok(Bytes::from(out))
+    }
+
+    /// The length of the record, at most 67,108,864.
+    pub fn record_len(&self) -> usize
+        ensures { result ≡ length (record_text self.now) }
+    {
+        let head = self.id.as_str().len() + 8 + 8 + 4 + self.rule.as_str().len();
+        head + len_of_texts(&self.annotations) + len_of_blobs(&self.dumps)
     }
 
     /// Where the content stands in the record: the length of what stands before it.
@@ -110,3 +119,8 @@ impl RawCrash {
         })
     }
 }
+
+/// A record is that of one raw crash alone.
+pub fn one_crash()
+    ensures { (a b : Crash) → IsCrash a → IsCrash b → record_of a ≡ record_of b → a ≡ b }
+{}

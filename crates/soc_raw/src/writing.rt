@@ -1,6 +1,8 @@
 //! The parts of a record, written.
 ghost use Rattle.std.specs.Prelude.{◌≡◌, ◌<◌, ◌^◌, ◌++◌, length, flat_map, OnOk};
-ghost use Rattle.soc_raw.specs.Record.{counted, pair_text, pairs_text};
+ghost use Rattle.std.specs.List.{AllByRecursion};
+ghost use Rattle.soc_raw.specs.Names.{IsRising};
+ghost use Rattle.soc_raw.specs.Record.{counted, pair_text, pairs_text, IsText, HasTextName};
 
 use crate::named::{Blobs, Texts};
 use crate::no_memory::NoMemory;
@@ -19,7 +21,9 @@ pub fn put_counted(out: &mut Vec<u8>, bytes: &[u8]) -> Result<(), NoMemory>
 pub fn put_texts(out: &mut Vec<u8>, texts: &Texts) -> Result<(), NoMemory>
     requires few { length texts.now < 2 ^ 32 }
     requires fits { length (flat_map pair_text texts.now) < 2 ^ 32 }
-    ensures { OnOk result (out.new.items ≡ out.old.items ++ pairs_text texts.now) }
+    ensures written { OnOk result (out.new.items ≡ out.old.items ++ pairs_text texts.now) }
+    ensures texts { OnOk result (AllByRecursion IsText texts.now) }
+    ensures rising { IsRising texts.now }
 {
     out.extend_from_slice(&(texts.len() as u32).to_le_bytes())?;
     for i in 0..texts.len() {
@@ -34,7 +38,9 @@ pub fn put_texts(out: &mut Vec<u8>, texts: &Texts) -> Result<(), NoMemory>
 pub fn put_blobs(out: &mut Vec<u8>, blobs: &Blobs) -> Result<(), NoMemory>
     requires few { length blobs.now < 2 ^ 32 }
     requires fits { length (flat_map pair_text blobs.now) < 2 ^ 32 }
-    ensures { OnOk result (out.new.items ≡ out.old.items ++ pairs_text blobs.now) }
+    ensures written { OnOk result (out.new.items ≡ out.old.items ++ pairs_text blobs.now) }
+    ensures names { OnOk result (AllByRecursion HasTextName blobs.now) }
+    ensures rising { IsRising blobs.now }
 {
     out.extend_from_slice(&(blobs.len() as u32).to_le_bytes())?;
     for i in 0..blobs.len() {
@@ -43,4 +49,30 @@ pub fn put_blobs(out: &mut Vec<u8>, blobs: &Blobs) -> Result<(), NoMemory>
         put_counted(out, value)?;
     }
     Ok(())
+}
+
+/// How many bytes the annotations take in a record.
+pub fn len_of_texts(texts: &Texts) -> usize
+    requires { length (flat_map pair_text texts.now) < 2 ^ 32 }
+    ensures { result ≡ length (pairs_text texts.now) }
+{
+    let mut total = 4;
+    for i in 0..texts.len() {
+        let (name, value) = texts.at(i);
+        total += 8 + name.len() + value.len();
+    }
+    total
+}
+
+/// How many bytes the dumps take in a record.
+pub fn len_of_blobs(blobs: &Blobs) -> usize
+    requires { length (flat_map pair_text blobs.now) < 2 ^ 32 }
+    ensures { result ≡ length (pairs_text blobs.now) }
+{
+    let mut total = 4;
+    for i in 0..blobs.len() {
+        let (name, value) = blobs.at(i);
+        total += 8 + name.len() + value.len();
+    }
+    total
 }

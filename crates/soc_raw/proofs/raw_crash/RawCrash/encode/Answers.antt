@@ -1,4 +1,5 @@
-use Rattle.std.proofs.Common.{length, arith, ap, ◌∙◌}
+use Rattle.std.proofs.Common.{List, ℕ, subst, length, arith, ap, ◌∙◌}
+use Rattle.std.specs.Str.{IsUtf8}
 use Rattle.soc_raw.specs.RawCrash.{crash_of}
 use Rattle.soc_raw.proofs.Lengths.{rule_fits, pairs_fit, encoded}
 use Rattle.soc_raw.proofs.raw_crash.RawCrash.encode.Goals as goal
@@ -13,11 +14,28 @@ put_texts-requires-clause-fits c = (pairs_fit (crash_of c.args.self.now) c.args.
 pub put_blobs-requires-clause-fits : goal.put_blobs-requires-clause-fits
 put_blobs-requires-clause-fits c = (pairs_fit (crash_of c.args.self.now) c.args.self.now.fits).1
 
-pub returns : goal.returns
-returns c =
+pub returns-clause-record : goal.returns-clause-record
+returns-clause-record c =
     c.from.ensures ∙ encoded (crash_of c.args.self.now) _ _ _ _ _ _ _ _ _ c.as_bytes.result.now c.as_bytes-2.result.now
     (c.as_bytes.ensures.value ∙ c.as_str.ensures.text) (c.as_bytes-2.ensures.value ∙ c.as_str-2.ensures)
-    c.new-out.ensures.items c.in_ok-extend_from_slice.ensures.items
+    c.in_ok-out.ensures.items c.in_ok-extend_from_slice.ensures.items
     c.to_le_bytes.ensures c.in_ok-extend_from_slice-2.ensures.items
     c.to_le_bytes-2.ensures c.in_ok-extend_from_slice-3.ensures.items
-    c.in_ok-put_counted.ensures c.in_ok-put_texts.ensures c.in_ok-put_blobs.ensures
+    c.in_ok-put_counted.ensures c.in_ok-put_texts.ensures.written c.in_ok-put_blobs.ensures.written
+
+pub returns-clause-whole : goal.returns-clause-whole
+returns-clause-whole c =
+    let Q : List ℕ → Type 0 = IsUtf8 in
+    record {
+      id = c.as_str.ensures.id;
+      moment = c.args.self.now.moment_in;
+      draw = omega arith;
+      rule = subst Q c.as_str-2.ensures c.as_str-2.utf8;
+      annotations = c.in_ok-put_texts.ensures.texts;
+      annotations_rise = c.put_texts.ensures.rising;
+      few_annotations = c.args.self.now.few_annotations;
+      dumps = c.in_ok-put_blobs.ensures.names;
+      dumps_rise = c.put_blobs.ensures.rising;
+      few_dumps = c.args.self.now.few_dumps;
+      fits = c.args.self.now.fits;
+    }
