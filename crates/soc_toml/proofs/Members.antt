@@ -2,10 +2,13 @@
 use Rattle.std.proofs.Common.{◌≡◌, ℕ, Bool, true, false, ◌||◌, List, [], ◌∷◌, map, String, Global, string_bytes, refl, sym, ap, ◌∙◌, Bor, Some}
 use Rattle.std.specs.List.{list_any}
 use Rattle.std.specs.Str.{bytes_eq}
-use Rattle.toml.proofs.Views.{Entry}
+use Rattle.std.specs.List.Sorted.{IsStrictlySortedBy}
+use Rattle.std.specs.Map.{keys_of}
+use Rattle.std.specs.String.{string_cmp}
+use Rattle.toml.proofs.Views.{Entry, is_before-sorted}
 use Rattle.toml.specs.View.{members_view}
 use Rattle.toml.specs.declared.value.Value.{Value}
-use Rattle.soc_toml.specs.Keys.{first_other}
+use Rattle.soc_toml.specs.Keys.{first_other, keys_rise}
 
 pub list_any-map : {A B : Type 0} (test : B → Bool) (f : A → B) (xs : List A) → list_any test (map f xs) ≡ list_any (λ x. test (f x)) xs
 list_any-map test f [] = refl
@@ -37,3 +40,9 @@ first_other-passed names all left rest key value text b before step same is some
     let test : list_any (bytes_eq (string_bytes key)) (names_of names) ≡ true = rw (← same) (among names text b is ∙ some) in
     let here : first_other (names_of names) (members_view ((key, value) ∷ rest)) ≡ first_other (names_of names) (members_view rest) = rw test in
     before ∙ ap (λ es. first_other (names_of names) (members_view es)) step ∙ here
+
+-- a map's keys rise
+pub keys_rise-view : (entries : List Entry) → IsStrictlySortedBy string_cmp (keys_of entries) → keys_rise (members_view entries) ≡ true
+unfolding IsStrictlySortedBy
+keys_rise-view [] h = refl
+keys_rise-view (e ∷ es) h = rw (is_before-sorted e.0 es h.0) (keys_rise-view es h.1)

@@ -1,9 +1,9 @@
 -- What a key of a TOML table holds (TOML 1.1, section "Table"), by kind and form. A table is the list of its members, in byte order of keys.
-use Rattle.std.specs.Prelude.{ℕ, pos, negsuc, ℤ, Bool, ◌&&◌, ◌||◌, ◌==◌, if◌then◌else◌, nat_le, List, length, Option, Some, None, option_and_then}
+use Rattle.std.specs.Prelude.{ℕ, pos, negsuc, ℤ, Bool, true, ◌&&◌, ◌||◌, ◌==◌, if◌then◌else◌, nat_le, List, length, Option, Some, None, option_and_then}
 use Rattle.std.specs.List.{list_any, list_all}
 use Rattle.std.specs.Char.{is_ascii_digit, is_ascii_lowercase, is_ascii_graphic}
 use Rattle.std.specs.Str.{bytes_eq}
-use Rattle.toml.specs.Data.{Data, as_str, as_integer, as_array, Items, Members, no_members, member, get_member}
+use Rattle.toml.specs.Data.{Data, as_str, as_integer, as_array, Items, Members, no_members, member, get_member, is_before}
 
 -- the text at a key
 abbrev pub text_at : List ℕ → Members → Option (List ℕ)
@@ -47,7 +47,12 @@ abbrev pub number_or : ℕ → ℕ → ℕ → Option Data → Option ℕ
 number_or default low high None = Some default
 number_or default low high (Some value) = number_of low high value
 
--- the first key in byte order that is none of the names
+-- the keys stand in rising byte order
+abbrev pub keys_rise : Members → Bool
+keys_rise no_members = true
+keys_rise (member key value rest) = is_before key rest && keys_rise rest
+
+-- the first key that is none of the names
 abbrev pub first_other : List (List ℕ) → Members → Option (List ℕ)
 first_other names no_members = None
 first_other names (member key value rest) = if list_any (bytes_eq key) names then first_other names rest else Some key

@@ -1,5 +1,5 @@
 // A text, a bounded text, an integer in a range, and keys that aren't expected.
-ghost use Rattle.std.specs.Prelude.{◌≡◌, map, option_map, option_copied};
+ghost use Rattle.std.specs.Prelude.{◌≡◌, IsTrue, map, option_map, option_copied};
 ghost use Rattle.std.specs.List.{list_any, list_all};
 ghost use Rattle.std.specs.Str.{bytes_eq};
 ghost use Rattle.std.specs.Char.{is_ascii_graphic};
@@ -103,9 +103,10 @@ pub fn number_or(table: &Table, key: &str, default: u64, low: u64, high: u64) ->
     }
 }
 
-/// The first key in byte order that is none of the names.
+/// The first key in byte order that is none of the names. A table holds its keys in that order.
 pub fn first_other_key<'a>(table: &'a Table, names: &[&str]) -> Option<&'a str>
-    ensures { option_copied result ≡ spec.first_other (map (λ name. name.now) names.now) (table_view table.now) }
+    ensures first { option_copied result ≡ spec.first_other (map (λ name. name.now) names.now) (table_view table.now) }
+    ensures rising { IsTrue (spec.keys_rise (table_view table.now)) }
 {
     for (key, _value) in table.iter() {
         if !is_among(key.as_str(), names) {
