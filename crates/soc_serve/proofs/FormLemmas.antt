@@ -1,8 +1,8 @@
 -- A block that is read as a head is read as one head, and what its lines then state.
-use Rattle.std.proofs.Common.{◌≡◌, ◌≢◌, ◌↔◌, IsTrue, Bool, true, false, ℕ, ◌+◌, ◌≤◌, List, [], ◌∷◌, ◌++◌, length, map, take, drop, slice_range, Result, Ok, Err, Option, Some, None, MatchOption, refl, sym, ap, subst, ◌∙◌, arith, codes, append-nil}
+use Rattle.std.proofs.Common.{◌≡◌, ◌≢◌, ◌↔◌, IsTrue, Bool, true, false, ℕ, ◌≤◌, List, [], ◌∷◌, ◌++◌, length, map, take, drop, slice_range, Ok, Option, Some, None, MatchOption, sym, ap, subst, ◌∙◌, arith, codes, append-nil}
 use Rattle.std.specs.Str.Parse.{digits_value}
 use Rattle.std.specs.List.{count_by}
-use Rattle.std.proofs.lemmas.List.{append_cancel_left, length-append}
+use Rattle.std.proofs.lemmas.List.{append_cancel_left}
 use Rattle.httparse.specs.Grammar.{RequestHead, ReadsRequest, print_request}
 use Rattle.httparse.specs.Spans.{FindsRequest, IsRequestAt, header_bytes}
 use Rattle.httparse.specs.Outcome.{IsCompleteAnd}
@@ -14,7 +14,7 @@ use Rattle.httparse.specs.declared.spans.RequestSpans.{RequestSpans}
 use Rattle.httparse.proofs.GrammarLemmas.{request_unique}
 use Rattle.soc_multipart.specs.Single.{IsPlainBoundary}
 use Rattle.soc_serve.specs.Block.{HasFewLines, is_line_feed}
-use Rattle.soc_serve.specs.FirstForm.{Line, lines_of, HasOne, StatesBoundary, StatesLength, AreFirstForm, IsSubmit, HasFirstForm, form_data}
+use Rattle.soc_serve.specs.FirstForm.{Line, lines_of, HasOne, StatesBoundary, AreFirstForm, IsSubmit, HasFirstForm, form_data}
 use Rattle.soc_serve.specs.Lines.{CoversHead}
 use Rattle.soc_serve.proofs.HeadLemmas.{count_request}
 

@@ -1,9 +1,9 @@
 -- What a front decides of every text that begins so.
-use Rattle.std.proofs.Common.{◌≡◌, ℕ, ◌+◌, ◌<◌, ◌≤◌, List, [], ◌∷◌, ◌++◌, length, take, drop, refl, sym, ap, subst, ◌∙◌, arith, append_assoc, length-drop}
+use Rattle.std.proofs.Common.{◌≡◌, ℕ, ◌+◌, ◌<◌, ◌≤◌, List, ◌++◌, length, take, drop, refl, sym, ap, subst, ◌∙◌, arith, append_assoc, length-drop}
 use Rattle.std.proofs.lemmas.List.{append_cancel_left, take-append-drop, length-append, length-take-le, drop-drop}
 use Rattle.soc_multipart.specs.Single.{IsSingle}
-use Rattle.soc_serve.specs.Block.{EndsInEmptyLine, HasNoBlock, IsBlock, empty_line, block_limit}
-use Rattle.soc_serve.specs.FirstForm.{HasFirstForm, TakesSubmission, HasNoSubmission}
+use Rattle.soc_serve.specs.Block.{HasNoBlock, IsBlock, empty_line}
+use Rattle.soc_serve.specs.FirstForm.{HasFirstForm, TakesSubmission}
 use Rattle.soc_serve.specs.Front.{IsUndecided, IsOther, IsWhole}
 use Rattle.soc_serve.proofs.BlockLemmas.{block_unique, block_longer, front_of_front}
 use Rattle.soc_serve.proofs.FormLemmas.{form_unique}

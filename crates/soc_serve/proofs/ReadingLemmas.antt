@@ -1,10 +1,10 @@
 -- Reads that go on, and what they bring.
-use Rattle.std.proofs.Common.{◌≡◌, ℕ, ◌+◌, ◌<◌, ◌≤◌, List, [], ◌∷◌, ◌++◌, length, take, drop, Option, Some, None, IfSome, nat_lt, Bool, true, false, refl, sym, ap, subst, ◌∙◌, arith, append_assoc, append-nil, length-append}
+use Rattle.std.proofs.Common.{◌≡◌, ℕ, ◌<◌, ◌≤◌, List, [], ◌++◌, length, drop, Option, Some, None, nat_lt, Bool, true, false, sym, ap, subst, ◌∙◌, arith, append_assoc, append-nil, length-append}
 use Rattle.std.specs.Bool.{OnTrue, OnFalse}
-use Rattle.std.specs.Io.KnownBytes.{IsAtEnd, prepend_known}
+use Rattle.std.specs.Io.KnownBytes.{IsAtEnd}
 use Rattle.soc_edge.specs.Told.{Gives}
-use Rattle.soc_edge.proofs.Told.{Gives-append, Gives-none, Gives-same}
-use Rattle.soc_serve.specs.FirstForm.{TakesSubmission, HasNoSubmission}
+use Rattle.soc_edge.proofs.Told.{Gives-append, Gives-none}
+use Rattle.soc_serve.specs.FirstForm.{HasNoSubmission}
 use Rattle.std.proofs.lemmas.Bool.Decides.{nat_tests}
 use Rattle.std.proofs.lemmas.List.{length-drop}
 use Rattle.std.proofs.Math.ListN.{drop_of_length-le}

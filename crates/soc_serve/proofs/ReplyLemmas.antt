@@ -1,5 +1,5 @@
 -- The texts of replies in the pieces in which they are written.
-use Rattle.std.proofs.Common.{◌≡◌, ℕ, ◌+◌, ◌<◌, ◌≤◌, List, [], ◌∷◌, ◌++◌, length, take, Option, Result, Ok, Err, is_err, OnOk, OnErr, Bool, true, false, ◌&&◌, ◌==◌, codes, decimal, refl, sym, ap, subst, ◌∙◌, arith, append_assoc, length-append}
+use Rattle.std.proofs.Common.{◌≡◌, ℕ, ◌+◌, ◌<◌, ◌≤◌, List, [], ◌++◌, length, take, Option, Result, Ok, Err, is_err, OnOk, OnErr, Bool, true, false, ◌&&◌, ◌==◌, codes, decimal, refl, sym, ap, subst, ◌∙◌, arith, length-append}
 use Rattle.std.proofs.lemmas.Bool.{eqb-true}
 use Rattle.std.proofs.lemmas.List.{take-append-le}
 use Rattle.std.proofs.Math.Seq.{take-append-add}
@@ -9,7 +9,7 @@ use Rattle.soc_edge.specs.Told.{Takes, TakesFront}
 use Rattle.soc_edge.proofs.Told.{Takes-append}
 use Rattle.soc_raw.specs.CrashId.{IsId, is_id, may_stand, pair_at}
 use Rattle.soc_raw.specs.Day.{is_civil}
-use Rattle.soc_serve.specs.Reply.{Reply, accepted, not_built, reply_text, body_of}
+use Rattle.soc_serve.specs.Reply.{accepted, not_built, reply_text}
 
 -- what an outcome says may be weakened
 pub on_ok : {T E : Type 0} (r : Result T E) (P Q : Type 0) → (P → Q) → OnOk r P → OnOk r Q

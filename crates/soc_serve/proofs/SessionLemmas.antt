@@ -1,8 +1,8 @@
 -- A session from its parts.
-use Rattle.std.proofs.Common.{◌≡◌, ℕ, ◌+◌, ◌<◌, ◌≤◌, List, [], ◌∷◌, ◌++◌, length, take, Option, Some, None, IfSome, Bool, true, false, refl, sym, ap, subst, ◌∙◌, arith, append_assoc, append-nil, length-append}
-use Rattle.std.specs.Io.KnownBytes.{IsAtEnd, append_known, prepend_known}
-use Rattle.soc_edge.specs.Told.{Gives, Takes, TakesFront, HandsOut, SameAhead, Outlook, Hands}
-use Rattle.soc_edge.proofs.Told.{Takes-append, Takes-none, Gives-append, Gives-none, Gives-same}
+use Rattle.std.proofs.Common.{◌≡◌, ℕ, ◌+◌, ◌<◌, List, [], ◌∷◌, ◌++◌, length, take, Option, Some, None, IfSome, Bool, true, false, refl, sym, ap, subst, ◌∙◌, arith, append-nil, length-append}
+use Rattle.std.specs.Io.KnownBytes.{IsAtEnd}
+use Rattle.soc_edge.specs.Told.{Gives, Takes, TakesFront, HandsOut, SameAhead, Outlook}
+use Rattle.soc_edge.proofs.Told.{Takes-append, Takes-none, Gives-same}
 use Rattle.soc_edge.proofs.Ahead.{Hands-none, HandsAll-one}
 use Rattle.soc_raw.specs.CrashId.{id_text}
 use Rattle.soc_raw.specs.Day.{day_of}
@@ -11,8 +11,8 @@ use Rattle.soc_serve.specs.declared.ending.End.{End}
 use Rattle.soc_serve.specs.declared.ending.End.TheVariants.{Ended, Refused, ReadFault, WriteFault, NoMemory}
 use Rattle.soc_serve.specs.FirstForm.{TakesSubmission, HasNoSubmission}
 use Rattle.soc_serve.specs.Reading.{ArrivesOther, ArrivesWhole, StopsShort, FollowsMore, FollowsNothing}
-use Rattle.soc_serve.specs.Reply.{accepted, not_built, reply_text}
-use Rattle.soc_serve.specs.Session.{Exchange, Turn, submitted, refused, turn_text, replies_text, Messages, BeginsWith, Reads, Writes, CutReply, ReadsBefore, Serves, Refuses, IsDrawn, IsRefused, EndsRefused}
+use Rattle.soc_serve.specs.Reply.{accepted, reply_text}
+use Rattle.soc_serve.specs.Session.{Exchange, Turn, submitted, refused, turn_text, replies_text, Messages, BeginsWith, CutReply, Serves, Refuses, IsDrawn}
 
 -- ---- draws
 

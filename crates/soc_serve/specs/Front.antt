@@ -1,5 +1,5 @@
 -- What is known of a message from its first bytes, whatever may follow them.
-use Rattle.std.specs.Prelude.{◌≡◌, ℕ, ◌+◌, ◌<◌, ◌≤◌, List, ◌++◌, length, drop}
+use Rattle.std.specs.Prelude.{ℕ, ◌+◌, ◌<◌, ◌≤◌, List, ◌++◌, length, drop}
 use Rattle.soc_serve.specs.declared.front.Front.{Front}
 use Rattle.soc_serve.specs.declared.front.Front.TheVariants.{Wants, Other, Whole}
 use Rattle.soc_serve.specs.Block.{block_limit}

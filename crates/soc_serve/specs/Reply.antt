@@ -1,5 +1,5 @@
 -- The texts of replies (RFC 9112, section 4): a status line, three or four lines, an empty line and the body.
-use Rattle.std.specs.Prelude.{ℕ, Bool, true, false, List, [], ◌++◌, length, codes, decimal}
+use Rattle.std.specs.Prelude.{ℕ, List, [], ◌++◌, length, codes, decimal}
 
 -- what a message is answered
 pub data Reply : Type 0 where

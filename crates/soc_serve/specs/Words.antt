@@ -1,5 +1,5 @@
 -- The words of the command line, and the status that the program ends with.
-use Rattle.std.specs.Prelude.{◌≡◌, ◌⊎◌, ℕ, List, [], ◌∷◌, map, codes, Option, string_bytes}
+use Rattle.std.specs.Prelude.{◌≡◌, ◌⊎◌, ℕ, List, [], ◌∷◌, codes, Option}
 use Rattle.soc_edge.specs.Told.{Takes, TakesFront}
 use Rattle.soc_serve.specs.declared.ending.End.{End}
 use Rattle.soc_serve.specs.declared.ending.End.TheVariants.{Ended, Refused, ReadFault, WriteFault, NoMemory}

@@ -1,6 +1,5 @@
-use Rattle.std.proofs.Common.{◌+◌, ◌≤◌, ◌<◌, ℕ, length, arith, below_more}
+use Rattle.std.proofs.Common.{◌≤◌, ◌<◌, length, arith, below_more}
 use Rattle.soc_serve.proofs.BlockLemmas.{block_at, no_block, ends_here, not_here}
-use Rattle.soc_serve.specs.Block.{EndsInEmptyLine}
 use Rattle.soc_serve.proofs.block.block_end.Goals as goal
 
 pub returns-then-ends_in_empty_line : goal.returns-then-ends_in_empty_line

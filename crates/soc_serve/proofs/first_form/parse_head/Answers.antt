@@ -1,4 +1,4 @@
-use Rattle.std.proofs.Common.{◌≡◌, [], length}
+use Rattle.std.proofs.Common.{[], length}
 use Rattle.soc_serve.proofs.FormLemmas.{fits, finds_whole}
 use Rattle.soc_serve.proofs.first_form.parse_head.Goals as goal
 

@@ -1,4 +1,4 @@
-use Rattle.std.proofs.Common.{List, ℕ, map}
+use Rattle.std.proofs.Common.{map}
 use Rattle.httparse.specs.Spans.{header_bytes}
 use Rattle.soc_serve.proofs.FormLemmas.{no_boundary, bad_boundary, good_boundary, from_yes, from_no}
 use Rattle.soc_serve.proofs.first_form.stated_boundary.Goals as goal

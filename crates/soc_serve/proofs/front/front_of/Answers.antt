@@ -1,4 +1,4 @@
-use Rattle.std.proofs.Common.{List, ℕ, take, subst}
+use Rattle.std.proofs.Common.{List, ℕ, subst}
 use Rattle.soc_serve.specs.FirstForm.{HasFirstForm}
 use Rattle.soc_serve.proofs.FrontLemmas.{other_form}
 use Rattle.soc_serve.proofs.front.front_of.Goals as goal

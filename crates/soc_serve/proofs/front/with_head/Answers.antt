@@ -1,4 +1,4 @@
-use Rattle.std.proofs.Common.{◌≡◌, List, ℕ, take, drop, ap, ◌∙◌}
+use Rattle.std.proofs.Common.{List, ℕ, take, ap, ◌∙◌}
 use Rattle.soc_multipart.specs.Single.{IsSingle}
 use Rattle.soc_multipart.specs.declared.one.Field.{Field}
 use Rattle.soc_serve.proofs.FormLemmas.{at_none, at_some}

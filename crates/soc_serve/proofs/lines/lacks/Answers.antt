@@ -1,4 +1,4 @@
-use Rattle.std.proofs.Common.{◌≡◌, ◌<◌, List, ℕ, length, sym, arith, ◌∙◌}
+use Rattle.std.proofs.Common.{◌<◌, length, sym, arith, ◌∙◌}
 use Rattle.httparse.specs.Spans.{header_bytes}
 use Rattle.soc_serve.proofs.LineLemmas.{values_none, named_there, other_more}
 use Rattle.soc_serve.proofs.lines.lacks.Goals as goal

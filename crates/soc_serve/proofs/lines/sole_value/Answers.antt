@@ -1,6 +1,6 @@
-use Rattle.std.proofs.Common.{◌≡◌, ◌<◌, List, ℕ, length, sym, arith, ◌∙◌}
+use Rattle.std.proofs.Common.{◌<◌, length, sym, arith, ◌∙◌}
 use Rattle.httparse.specs.Spans.{header_bytes}
-use Rattle.soc_serve.proofs.LineLemmas.{values_none, found_twice, found_first, found_other, found_all}
+use Rattle.soc_serve.proofs.LineLemmas.{values_none, found_twice, found_first, found_other}
 use Rattle.soc_serve.proofs.lines.sole_value.Goals as goal
 use Rattle.soc_serve.proofs.lines.sole_value.Goals.{then-is_named+else-is_some, else-is_named}
 

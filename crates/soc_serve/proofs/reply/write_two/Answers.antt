@@ -1,5 +1,4 @@
 use Rattle.soc_edge.specs.Told.{TakesFront}
-use Rattle.std.proofs.Common.{◌++◌}
 use Rattle.soc_serve.proofs.ReplyLemmas.{on_err, front_behind}
 use Rattle.soc_serve.proofs.reply.write_two.Goals as goal
 

@@ -1,4 +1,4 @@
-use Rattle.std.proofs.Common.{rules, ◌≡◌, true, false, sym, ◌∙◌, is_err}
+use Rattle.std.proofs.Common.{rules, ◌≡◌, true, false, is_err}
 use Rattle.soc_serve.proofs.ReadingLemmas.{at_false, at_true}
 use Rattle.soc_serve.proofs.ReplyLemmas.{err_at, ok_at}
 use Rattle.soc_serve.proofs.SessionLemmas.{serves_cut, serves_both, serves_last, serves_fault}

@@ -1,5 +1,4 @@
 use Rattle.soc_serve.proofs.SessionLemmas.{serves_refused}
-use Rattle.soc_serve.specs.Reading.{Arrives}
 use Rattle.soc_serve.proofs.session.session.Goals as goal
 
 pub returns-in-Ok-Other-clause-serves : goal.returns-in-Ok-Other-clause-serves

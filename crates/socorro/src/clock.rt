@@ -1,0 +1,51 @@
+//! The system's clock.
+ghost use Rattle.soc_raw.specs.Day.{IsMoment};
+
+use soc_edge::Clock;
+use std::time::{self, SystemTime};
+
+/// The first moment, 2000-01-01 00:00:00 UTC, in seconds since 1970.
+const FIRST: u64 = 946_684_800;
+
+/// The last moment, 2099-12-31 23:59:59 UTC, in seconds since 1970.
+const LAST: u64 = 4_102_444_799;
+
+/// The system's clock, held between the years 2000 and 2099. Where it can't be read, it shows the first moment.
+#[derive(Drop)]
+pub struct SystemClock<'a, R> {
+    rt: &'a R,
+}
+
+impl<'a, R: time::Clock> SystemClock<'a, R> {
+    pub fn new(rt: &'a R) -> Self {
+        SystemClock { rt }
+    }
+}
+
+impl<'a, R: time::Clock> Clock for SystemClock<'a, R> {
+    ghost use Rattle.std.specs.Prelude.{None};
+
+    ghost moments = { λ _ _. None };
+
+    fn now(&mut self) -> u64 {
+        held(seconds(self.rt))
+    }
+}
+
+/// Seconds since 1970, or none where the clock can't be read.
+fn seconds<R: time::Clock>(rt: &R) -> u64 {
+    let Ok(now) = SystemTime::now(rt) else {
+        return 0;
+    };
+    match now.duration_since(SystemTime::UNIX_EPOCH) {
+        Ok(since) => since.as_secs(),
+        Err(_) => 0,
+    }
+}
+
+/// The nearest moment of the years 2000 to 2099.
+fn held(seconds: u64) -> u64
+    ensures { IsMoment result }
+{
+    seconds.clamp(FIRST, LAST)
+}
