@@ -1,1 +1,3 @@
+pub mod Basics
+pub mod DelimiterLemmas
 pub mod SingleLemmas

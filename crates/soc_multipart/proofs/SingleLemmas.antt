@@ -8,27 +8,8 @@ use Rattle.std.specs.Str.{IsUtf8}
 use Rattle.std.proofs.lemmas.Str.{IsUtf8-from_ascii}
 use Rattle.std.proofs.lemmas.Str.Ascii.{IsAscii-from_all}
 use Rattle.std.proofs.lemmas.Bool.Decides.{nat_tests}
+use Rattle.soc_multipart.proofs.Basics.{missed_behind, missed_before}
 use Rattle.soc_multipart.specs.Single.{opened, closed, named, IsMiddle, IsSingle, IsPlainName, IsPlainBoundary, SplitsAfterLetters, is_printable}
-
--- a clause by cases on an option says less where each case says less
-pub match_weaker : {X : Type 0} (r : Option X) (P P' : Type 0) (Q Q' : X → Type 0) → MatchOption r P Q → (P → P') → ((x : X) → Q x → Q' x) → MatchOption r P' Q'
-match_weaker None P P' Q Q' h f g = f h
-match_weaker (Some x) P P' Q Q' h f g = g x h
-
--- what a test that is exact says, by its answer
-pub from_yes : (r : Bool) {P : Type 0} → (IsTrue r ↔ P) → r ≡ true → P
-from_yes r h e = h.0 e
-
-pub from_no : (r : Bool) {P : Type 0} → (IsTrue r ↔ P) → r ≡ false → ¬ P
-from_no r h e p = let is : r ≡ true = h.1 p in cc
-
--- a list that goes on behind a front goes on in one way
-pub missed_behind : (t a r : List ℕ) → t ≡ a ++ r → (s : List ℕ) → ¬ (r ≡ s) → ¬ (t ≡ a ++ s)
-missed_behind t a r e s h f = h (append_cancel_left a r s (sym e ∙ f))
-
--- the same before a back
-pub missed_before : (t a r : List ℕ) → t ≡ r ++ a → (s : List ℕ) → ¬ (r ≡ s) → ¬ (t ≡ s ++ a)
-missed_before t a r e s h f = h (append_cancel_right r s a (sym e ∙ f))
 
 pub opened_no_dashes : (t b : List ℕ) → ((r : List ℕ) → ¬ (t ≡ codes "--" ++ r)) → (rest : List ℕ) → ¬ (t ≡ opened b rest)
 unfolding opened

@@ -1,6 +1,7 @@
 // The bodies of `multipart/form-data` messages (RFC 2046, section 5.1.1; RFC 7578): one field alone.
 #![tactic(auto)]
 
+pub mod delimiters;
 mod fronts;
 mod one;
 

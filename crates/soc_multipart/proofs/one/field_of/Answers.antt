@@ -1,4 +1,5 @@
-use Rattle.soc_multipart.proofs.SingleLemmas.{from_yes, match_weaker, single_no_closing, single_no_middle, single_by_parts}
+use Rattle.soc_multipart.proofs.Basics.{from_yes, match_weaker}
+use Rattle.soc_multipart.proofs.SingleLemmas.{single_no_closing, single_no_middle, single_by_parts}
 use Rattle.soc_multipart.proofs.one.field_of.Goals as goal
 
 pub returns-in_err-middle : goal.returns-in_err-middle

@@ -1,4 +1,5 @@
-use Rattle.soc_multipart.proofs.SingleLemmas.{from_no, from_yes, middle_no_quote, middle_bad_name, middle_bad_value, middle_by_parts}
+use Rattle.soc_multipart.proofs.Basics.{from_no, from_yes}
+use Rattle.soc_multipart.proofs.SingleLemmas.{middle_no_quote, middle_bad_name, middle_bad_value, middle_by_parts}
 use Rattle.soc_multipart.proofs.one.name_and_value.Goals as goal
 
 pub returns-in_err-value : goal.returns-in_err-value

@@ -1,4 +1,5 @@
-use Rattle.soc_multipart.proofs.SingleLemmas.{match_weaker, closed_no_end, closed_no_boundary, closed_no_dashes, closed_by_parts}
+use Rattle.soc_multipart.proofs.Basics.{match_weaker}
+use Rattle.soc_multipart.proofs.SingleLemmas.{closed_no_end, closed_no_boundary, closed_no_dashes, closed_by_parts}
 use Rattle.soc_multipart.proofs.one.strip_closing.Goals as goal
 
 pub returns-in_err-front : goal.returns-in_err-front

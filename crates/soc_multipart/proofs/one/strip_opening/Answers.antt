@@ -1,4 +1,5 @@
-use Rattle.soc_multipart.proofs.SingleLemmas.{match_weaker, opened_no_dashes, opened_no_boundary, opened_no_header, opened_by_parts}
+use Rattle.soc_multipart.proofs.Basics.{match_weaker}
+use Rattle.soc_multipart.proofs.SingleLemmas.{opened_no_dashes, opened_no_boundary, opened_no_header, opened_by_parts}
 use Rattle.soc_multipart.proofs.one.strip_opening.Goals as goal
 
 pub returns-in_err-rest : goal.returns-in_err-rest
