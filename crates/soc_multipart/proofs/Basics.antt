@@ -1,6 +1,7 @@
 -- Facts on clauses, lists and runs that every reader of this crate needs.
-use Rattle.std.proofs.Common.{◌≡◌, ◌≢◌, ℕ, zero, suc, ◌+◌, ◌-◌, ◌<◌, ◌≤◌, List, [], ◌∷◌, ◌++◌, length, take, drop, get_or, codes, Bool, true, false, cond, sym, refl, ap, ◌∙◌, subst, arith, append_assoc, add-zero, MatchOption, IsTrue, ◌↔◌, Option, Some, None}
+use Rattle.std.proofs.Common.{◌≡◌, ◌≢◌, ℕ, zero, suc, ◌+◌, ◌-◌, ◌<◌, ◌≤◌, List, [], ◌∷◌, ◌++◌, length, take, drop, get_or, codes, Bool, true, false, cond, sym, refl, ap, ◌∙◌, subst, arith, append_assoc, add-zero, MatchOption, MatchBool, is_some, IsTrue, ◌↔◌, ◌==◌, Option, Some, None}
 use Rattle.std.specs.List.{prefix_len, AllPass}
+use Rattle.std.proofs.lemmas.Bool.Decides.{nat_tests}
 use Rattle.std.proofs.lemmas.List.{append_cancel_left, append_cancel_right, take-append-drop, length-take, length-drop, get_or-take, get_or-drop}
 use Rattle.std.proofs.lemmas.List.Elements.{All-head, All-tail}
 use Rattle.std.proofs.lemmas.List.Sums.{prefix_len_passes, prefix_len_stops, prefix_len-le-length}
@@ -73,3 +74,33 @@ parts_run test t r s n e f g =
         let at : get_or t n 0 ≡ b = sym (ap (λ x. get_or t x 0) (add-zero n)) ∙ (sym (get_or-drop n t 0 0) ∙ ap (λ x. get_or x 0 0) (sym g ∙ is)) in
         subst (λ x. test x ≡ false) (ap (λ x. get_or t x 0) (sym e) ∙ at) (prefix_len_stops test t 0 inside);
     }
+
+-- a clause by cases on a test
+pub match_bool_yes : (b : Bool) (P Q : Type 0) → MatchBool b P Q → b ≡ true → P
+match_bool_yes b P Q h e = subst (λ (x : Bool). MatchBool x P Q) e h
+
+pub match_bool_no : (b : Bool) (P Q : Type 0) → MatchBool b P Q → b ≡ false → Q
+match_bool_no b P Q h e = subst (λ (x : Bool). MatchBool x P Q) e h
+
+-- a clause by cases on an option that is None
+pub match_none : {X : Type 0} (r : Option X) (P : Type 0) (Q : X → Type 0) → MatchOption r P Q → r ≡ None → P
+match_none r P Q h e = subst (λ (x : Option _). MatchOption x P Q) e h
+
+pub match_some : {X : Type 0} (r : Option X) (P : Type 0) (Q : X → Type 0) (x : X) → MatchOption r P Q → r ≡ Some x → Q x
+match_some r P Q x h e = subst (λ (y : Option _). MatchOption y P Q) e h
+
+-- what `is_empty` says
+pub zero_from_test : (n : ℕ) (b : Bool) → b ≡ (n == 0) → b ≡ true → n ≡ 0
+zero_from_test n b e f = grind (arith, nat_tests)
+
+pub some_from_test : (n : ℕ) (b : Bool) → b ≡ (n == 0) → b ≡ false → n ≡ 0 → ⊥
+some_from_test n b e f g = grind (arith, nat_tests)
+
+-- what `is_some` says of an answer by cases
+pub some_by_test : {X : Type 0} (r : Option X) (b : Bool) (P : Type 0) (Q : X → Type 0) → MatchOption r P Q → b ≡ is_some r → b ≡ true → (x : X) × Q x
+some_by_test None b P Q h e f = absurd (let clash : ⊥ = cc in clash)
+some_by_test (Some x) b P Q h e f = (x, h)
+
+pub none_by_test : {X : Type 0} (r : Option X) (b : Bool) (P : Type 0) (Q : X → Type 0) → MatchOption r P Q → b ≡ is_some r → b ≡ false → P
+none_by_test None b P Q h e f = h
+none_by_test (Some x) b P Q h e f = absurd (let clash : ⊥ = cc in clash)

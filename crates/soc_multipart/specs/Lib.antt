@@ -1,2 +1,5 @@
+pub mod Chains
 pub mod Delimiters
+pub mod Params
 pub mod Single
+pub mod Views

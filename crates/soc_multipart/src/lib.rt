@@ -4,6 +4,7 @@
 pub mod delimiters;
 mod fronts;
 mod one;
+pub mod params;
 
 pub use one::{Field, single, single_is_one};
 
