@@ -1,5 +1,6 @@
 pub mod Chains
 pub mod Delimiters
+pub mod Heads
 pub mod Params
 pub mod Single
 pub mod Views

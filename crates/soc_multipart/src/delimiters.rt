@@ -129,7 +129,8 @@ pub fn split_blanks(text: &[u8]) -> (&[u8], &[u8])
     text.split_at(blanks_len(text))
 }
 
-fn blanks_len(text: &[u8]) -> usize
+/// How many blanks `text` begins with.
+pub fn blanks_len(text: &[u8]) -> usize
     ensures { result ≡ prefix_len is_blank text.now }
 {
     text.iter().take_while(|c| **c == b' ' || **c == b'\t').count()

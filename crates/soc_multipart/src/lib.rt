@@ -3,6 +3,7 @@
 
 pub mod delimiters;
 mod fronts;
+pub mod heads;
 mod one;
 pub mod params;
 
