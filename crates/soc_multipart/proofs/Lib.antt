@@ -1,7 +1,11 @@
 pub mod Basics
 pub mod ChainLemmas
+pub mod CutLemmas
 pub mod DelimiterLemmas
+pub mod DispositionLemmas
+pub mod EndLemmas
 pub mod FindLemmas
 pub mod HeadLemmas
 pub mod ParamLemmas
+pub mod PartLemmas
 pub mod SingleLemmas

@@ -13,7 +13,7 @@ use soc_raw::NoMemory;
 use std::alloc::Global;
 
 /// The most bytes that a head has, its empty line counted.
-const HEAD_LIMIT: usize = 1024;
+pub const HEAD_LIMIT: usize = 1024;
 
 /// A line of a head.
 #[derive(Clone, Copy, Debug)]

@@ -2,10 +2,12 @@
 #![tactic(auto)]
 
 pub mod delimiters;
+pub mod dispositions;
 mod fronts;
 pub mod heads;
 mod one;
 pub mod params;
+pub mod parts;
 
 pub use one::{Field, single, single_is_one};
 
