@@ -1,11 +1,11 @@
 -- Facts on clauses, lists and runs that every reader of this crate needs.
-use Rattle.std.proofs.Common.{◌≡◌, ◌≢◌, ℕ, zero, suc, ◌+◌, ◌-◌, ◌<◌, ◌≤◌, List, [], ◌∷◌, ◌++◌, length, take, drop, get_or, codes, Bool, true, false, cond, sym, refl, ap, ◌∙◌, subst, arith, append_assoc, add-zero, MatchOption, MatchBool, is_some, IsTrue, ◌↔◌, ◌==◌, Option, Some, None}
+use Rattle.std.proofs.Common.{◌≡◌, ℕ, ◌<◌, ◌≤◌, List, [], ◌∷◌, ◌++◌, length, take, drop, get_or, Bool, true, false, sym, refl, ap, ◌∙◌, subst, arith, add-zero, MatchOption, MatchBool, is_some, IsTrue, ◌↔◌, ◌==◌, Option, Some, None}
 use Rattle.std.specs.List.{prefix_len, AllPass}
 use Rattle.std.proofs.lemmas.Bool.Decides.{nat_tests}
 use Rattle.std.proofs.lemmas.List.{append_cancel_left, append_cancel_right, take-append-drop, length-take, length-drop, get_or-take, get_or-drop}
 use Rattle.std.proofs.lemmas.List.Elements.{All-head, All-tail}
 use Rattle.std.proofs.lemmas.List.Sums.{prefix_len_passes, prefix_len_stops, prefix_len-le-length}
-use Rattle.soc_multipart.specs.Delimiters.{PartsRun, line_end}
+use Rattle.soc_multipart.specs.Delimiters.{PartsRun}
 
 -- a clause by cases on an option says less where each case says less
 pub match_weaker : {X : Type 0} (r : Option X) (P P' : Type 0) (Q Q' : X → Type 0) → MatchOption r P Q → (P → P') → ((x : X) → Q x → Q' x) → MatchOption r P' Q'
@@ -26,7 +26,6 @@ missed_behind t a r e s h f = h (append_cancel_left a r s (sym e ∙ f))
 -- the same before a back
 pub missed_before : (t a r : List ℕ) → t ≡ r ++ a → (s : List ℕ) → ¬ (r ≡ s) → ¬ (t ≡ s ++ a)
 missed_before t a r e s h f = h (append_cancel_right r s a (sym e ∙ f))
-
 
 -- the rest of a text does not begin with a byte that passes the test
 abbrev pub Stops : (ℕ → Bool) → List ℕ → Type 0
@@ -65,14 +64,14 @@ parts_run test t r s n e f g =
     record {
       whole = sym (take-append-drop n t) ∙ (ap (λ x. x ++ drop n t) (sym f) ∙ ap (λ x. r ++ x) (sym g));
       passes = rw f (λ k d h.
-        let below : k < n = omega (arith, length-take n t) in
-        let inside : k < prefix_len test t = rw (← e) below in
-        rw (get_or-take n t k d below) (prefix_len_passes test t k d inside));
+          let below : k < n = omega (arith, length-take n t) in
+          let inside : k < prefix_len test t = rw (← e) below in
+          rw (get_or-take n t k d below) (prefix_len_passes test t k d inside));
       stops = λ b more is.
-        let long : n < length t = omega (arith, length-drop n t, ap length (sym g ∙ is)) in
-        let inside : prefix_len test t < length t = rw (← e) long in
-        let at : get_or t n 0 ≡ b = sym (ap (λ x. get_or t x 0) (add-zero n)) ∙ (sym (get_or-drop n t 0 0) ∙ ap (λ x. get_or x 0 0) (sym g ∙ is)) in
-        subst (λ x. test x ≡ false) (ap (λ x. get_or t x 0) (sym e) ∙ at) (prefix_len_stops test t 0 inside);
+          let long : n < length t = omega (arith, length-drop n t, ap length (sym g ∙ is)) in
+          let inside : prefix_len test t < length t = rw (← e) long in
+          let at : get_or t n 0 ≡ b = sym (ap (λ x. get_or t x 0) (add-zero n)) ∙ (sym (get_or-drop n t 0 0) ∙ ap (λ x. get_or x 0 0) (sym g ∙ is)) in
+          subst (λ x. test x ≡ false) (ap (λ x. get_or t x 0) (sym e) ∙ at) (prefix_len_stops test t 0 inside);
     }
 
 -- a clause by cases on a test

@@ -1,7 +1,6 @@
 -- Chains of steps: one more at the end, and that a text has one chain only where each step has one outcome.
-use Rattle.std.proofs.Common.{◌≡◌, ℕ, List, [], ◌∷◌, ◌++◌, sym, refl, ap, ◌∙◌, subst}
+use Rattle.std.proofs.Common.{◌≡◌, ℕ, List, [], ◌∷◌, ◌++◌, sym, refl, ◌∙◌, subst}
 use Rattle.soc_multipart.specs.Chains.{Chain, HasNoStep}
-
 
 pub chain_push : {A : Type 0} (step : List ℕ → A → List ℕ → Type 0) (t : List ℕ) (xs : List A) (m : List ℕ) (x : A) (r : List ℕ) → Chain step t xs m → step m x r → Chain step t (xs ++ x ∷ []) r
 chain_push step t [] m x r e h = (r, subst (λ (y : List ℕ). step y x r) (sym e) h, refl)
@@ -21,7 +20,7 @@ chain_once step once t (x ∷ xs) [] r s (later, first, more) h f k =
 chain_once step once t (x ∷ xs) (y ∷ ys) r s (later, first, more) h (later', first', more') k =
     let same : (x ≡ y) × (later ≡ later') = once t x y later later' first first' in
     let rest : (xs ≡ ys) × (r ≡ s) =
-        chain_once step once later xs ys r s more h (subst (λ (z : List ℕ). Chain step z ys s) (sym same.1) more') k in
+    chain_once step once later xs ys r s more h (subst (λ (z : List ℕ). Chain step z ys s) (sym same.1) more') k in
     (let heads : x ≡ y = same.0 in let tails : xs ≡ ys = rest.0 in cc, rest.1)
 
 -- a chain that comes to its end is no longer than one that goes on from there
@@ -33,7 +32,7 @@ chain_goes_on step once t (x ∷ xs) [] r s (later, first, more) f k =
 chain_goes_on step once t (x ∷ xs) (y ∷ ys) r s (later, first, more) (later', first', more') k =
     let same : (x ≡ y) × (later ≡ later') = once t x y later later' first first' in
     let rest : (zs : List _) × (ys ≡ xs ++ zs) × Chain step r zs s =
-        chain_goes_on step once later xs ys r s more (subst (λ (z : List ℕ). Chain step z ys s) (sym same.1) more') k in
+    chain_goes_on step once later xs ys r s more (subst (λ (z : List ℕ). Chain step z ys s) (sym same.1) more') k in
     (rest.0, let heads : x ≡ y = same.0 in let tails : ys ≡ xs ++ rest.0 = rest.1 in cc, rest.2)
 
 pub chain_grow : {A : Type 0} (step : List ℕ → A → List ℕ → Type 0) (t : List ℕ) (xs : List A) (m : List ℕ) (x : A) (r : List ℕ) (now : List A)

@@ -1,20 +1,19 @@
 -- That a body has one list of parts or one refusal.
-use Rattle.std.proofs.Common.{◌≡◌, ◌≢◌, ℕ, zero, suc, ◌+◌, ◌-◌, ◌<◌, ◌≤◌, List, [], ◌∷◌, ◌++◌, length, take, drop, get_or, codes, Bool, true, false, sym, refl, ap, ◌∙◌, subst, arith, ◌⊎◌, inl, inr}
+use Rattle.std.proofs.Common.{◌≡◌, ℕ, ◌+◌, ◌<◌, List, [], ◌∷◌, ◌++◌, length, take, drop, get_or, Bool, true, false, sym, refl, ap, ◌∙◌, subst, arith, ◌⊎◌, inl, inr}
 use Rattle.std.proofs.Common.{Bor}
 use Rattle.std.proofs.lemmas.Bool.{cases_lt}
-use Rattle.std.proofs.lemmas.List.{append_cancel_left, append-nil, length-append, length-map, take_at, drop_at, map_push}
-use Rattle.std.proofs.lemmas.List.Elements.{All-head}
+use Rattle.std.proofs.lemmas.List.{append_cancel_left, length-append, length-map, take_at, drop_at, map_push}
 use Rattle.soc_multipart.specs.declared.delimiters.Ending.{Ending}
-use Rattle.soc_multipart.specs.declared.delimiters.Ending.TheVariants.{Opening, Closing}
+use Rattle.soc_multipart.specs.declared.delimiters.Ending.TheVariants.{Opening}
 use Rattle.soc_multipart.specs.declared.parts.PartsError.{PartsError}
 use Rattle.soc_multipart.specs.declared.parts.PartsError.TheVariants.{BadBoundary, NoFirst, BadPartHead, NoClose, TooManyParts, NoMemory}
 use Rattle.soc_multipart.specs.declared.parts.Part.{Part}
 use Rattle.soc_multipart.specs.Chains.{Chain, HasNoStep}
-use Rattle.soc_multipart.specs.Delimiters.{line_end, is_blank, IsBoundary, mark_of, EndsOpening, EndsClosing, Opens, Closes, IsAt, IsAtDelimiter, HasNoDelimiter, Reaches, MeetsFirst, BeginsAt}
+use Rattle.soc_multipart.specs.Delimiters.{line_end, is_blank, IsBoundary, mark_of, EndsOpening, EndsClosing, Opens, Closes, IsAt, IsAtDelimiter, HasNoDelimiter, Reaches, MeetsFirst}
 use Rattle.soc_multipart.specs.Parts.{parts_limit, PartText, IsPart, MayBePart, ReadsPart, HoldsParts, Cut, OpensAfter, BeginsBadPart, PartFault, CutFault, IsOneFault}
 use Rattle.soc_multipart.specs.PartViews.{part_text, part_texts, MeetsPart}
 use Rattle.soc_multipart.proofs.Basics.{Stops, stops_cons, run_once}
-use Rattle.soc_multipart.proofs.ChainLemmas.{chain_once, chain_goes_on, chain_grow, chain_end}
+use Rattle.soc_multipart.proofs.ChainLemmas.{chain_once, chain_goes_on, chain_grow}
 use Rattle.soc_multipart.proofs.DelimiterLemmas.{at_from_is}
 use Rattle.soc_multipart.proofs.EndLemmas.{left_behind}
 use Rattle.soc_multipart.proofs.PartLemmas.{part_once}
@@ -36,12 +35,13 @@ reaches_once mark t f n f' n' a at b at' =
     let low : ¬ (length f < length f') = not_before mark t f n f' n' a at b in
     let high : ¬ (length f' < length f) = not_before mark t f' n' f n b at' a in
     let sizes : length f ≡ length f' =
-        elim (cases_lt (length f) (length f')) [
-          inl l ↦ absurd (low l)
-        | inr l ↦ elim (cases_lt (length f') (length f)) [ inl m ↦ absurd (high m) | inr m ↦ omega arith ]
-        ] in
-    (sym (take_at f n (length f') sizes) ∙ (ap (take (length f')) (sym a.whole ∙ b.whole) ∙ take_at f' n' (length f') refl),
-     sym (drop_at f n (length f') sizes) ∙ (ap (drop (length f')) (sym a.whole ∙ b.whole) ∙ drop_at f' n' (length f') refl))
+    elim (cases_lt (length f) (length f')) [
+      | inl l ↦ absurd (low l)
+      | inr l ↦ elim (cases_lt (length f') (length f)) [ inl m ↦ absurd (high m) | inr m ↦ omega arith ]
+    ] in (
+      sym (take_at f n (length f') sizes) ∙ (ap (take (length f')) (sym a.whole ∙ b.whole) ∙ take_at f' n' (length f') refl),
+      sym (drop_at f n (length f') sizes) ∙ (ap (drop (length f')) (sym a.whole ∙ b.whole) ∙ drop_at f' n' (length f') refl),
+    )
 
 pub none_and_some : (mark t f n : List ℕ) → HasNoDelimiter mark t → Reaches mark t f n → ¬ (IsAtDelimiter mark n)
 none_and_some mark t f n none a at =
@@ -85,7 +85,7 @@ pub part_read_once : (mark : List ℕ) (t : List ℕ) (p q : PartText) (n m : Li
 part_read_once mark t p q n m a b =
     let rests : a.rest ≡ b.rest = opens_once mark t a.rest b.rest a.opens b.opens in
     let ends : (a.piece ≡ b.piece) × (n ≡ m) =
-        reaches_once mark b.rest a.piece n b.piece m (subst (λ (x : List ℕ). Reaches mark x a.piece n) rests a.reaches) a.stands b.reaches b.stands in
+    reaches_once mark b.rest a.piece n b.piece m (subst (λ (x : List ℕ). Reaches mark x a.piece n) rests a.reaches) a.stands b.reaches b.stands in
     (part_once b.piece p q (subst (λ (x : List ℕ). IsPart x p) ends.0 a.is_part) b.is_part, ends.1)
 
 pub closed_stuck : (mark t : List ℕ) → Closes mark t → HasNoStep (ReadsPart mark) t
@@ -95,7 +95,7 @@ pub bad_stuck : (mark t rest : List ℕ) → Opens mark t rest → BeginsBadPart
 bad_stuck mark t rest o (inl (piece, next, r, at, bad)) p n a =
     let same : rest ≡ a.rest = opens_once mark t rest a.rest o a.opens in
     let ends : (piece ≡ a.piece) × (next ≡ n) =
-        reaches_once mark a.rest piece next a.piece n (subst (λ (x : List ℕ). Reaches mark x piece next) same r) at a.reaches a.stands in
+    reaches_once mark a.rest piece next a.piece n (subst (λ (x : List ℕ). Reaches mark x piece next) same r) at a.reaches a.stands in
     bad p (subst (λ (x : List ℕ). IsPart x p) (sym ends.0) a.is_part)
 bad_stuck mark t rest o (inr (none, bad)) p n a =
     none_and_some mark rest a.piece n none
@@ -130,7 +130,7 @@ cut_once b body xs ys c d =
 stuck_not_cut : (b body : List ℕ) (parts : List PartText) (count : ℕ) (rest : List ℕ) → Cut b body parts → (o : OpensAfter b body count rest) → HasNoStep (ReadsPart (mark_of b)) o.last → ⊥
 stuck_not_cut b body parts count rest c o s =
     let same : o.last ≡ c.last =
-        (held_once b body o.parts parts o.last c.last o.holds s c.holds (closed_stuck (mark_of b) c.last c.closes)).1 in
+    (held_once b body o.parts parts o.last c.last o.holds s c.holds (closed_stuck (mark_of b) c.last c.closes)).1 in
     opens_or_closes (mark_of b) c.last rest (subst (λ (x : List ℕ). Opens (mark_of b) x rest) same o.opens) c.closes
 
 many_not_cut : (b body : List ℕ) (parts : List PartText) (rest : List ℕ) → Cut b body parts → ¬ (OpensAfter b body parts_limit rest)
@@ -157,14 +157,15 @@ fault_not_cut b body parts NoMemory c f = f
 counts_same : (b body : List ℕ) (n m : ℕ) (r s : List ℕ) → (o : OpensAfter b body n r) → HasNoStep (ReadsPart (mark_of b)) o.last → (p : OpensAfter b body m s) → HasNoStep (ReadsPart (mark_of b)) p.last
     → (n ≡ m) × (r ≡ s)
 counts_same b body n m r s o k p l =
-    let both : (o.parts ≡ p.parts) × (o.last ≡ p.last) = held_once b body o.parts p.parts o.last p.last o.holds k p.holds l in
-    (sym o.counted ∙ (ap length both.0 ∙ p.counted),
-     opens_once (mark_of b) p.last r s (subst (λ (x : List ℕ). Opens (mark_of b) x r) both.1 o.opens) p.opens)
+    let both : (o.parts ≡ p.parts) × (o.last ≡ p.last) = held_once b body o.parts p.parts o.last p.last o.holds k p.holds l in (
+      sym o.counted ∙ (ap length both.0 ∙ p.counted),
+      opens_once (mark_of b) p.last r s (subst (λ (x : List ℕ). Opens (mark_of b) x r) both.1 o.opens) p.opens,
+    )
 
 too_many_apart : (b body : List ℕ) (n : ℕ) (r s : List ℕ) → OpensAfter b body parts_limit r → (o : OpensAfter b body n s) → HasNoStep (ReadsPart (mark_of b)) o.last → ¬ (n < parts_limit)
 too_many_apart b body n r s many o k few =
     let more : (zs : List PartText) × (o.parts ≡ many.parts ++ zs) × Chain (ReadsPart (mark_of b)) many.last zs o.last =
-        held_goes_on b body many.parts o.parts many.last o.last many.holds o.holds k in
+    held_goes_on b body many.parts o.parts many.last o.last many.holds o.holds k in
     absurd (omega (arith, many.counted, o.counted, ap length more.1, length-append many.parts more.0))
 
 bad_or_open : (mark rest : List ℕ) → BeginsBadPart mark rest → HasNoDelimiter mark rest → ¬ (MayBePart rest)
@@ -174,7 +175,7 @@ bad_or_open mark rest (inr (none', bad)) none may = bad may
 bad_and_open : (b body : List ℕ) (n m : ℕ) (r s : List ℕ) → OpensAfter b body n r → BeginsBadPart (mark_of b) r → OpensAfter b body m s → HasNoDelimiter (mark_of b) s → ¬ (MayBePart s)
 bad_and_open b body n m r s o bad p none may =
     let both : (n ≡ m) × (r ≡ s) =
-        counts_same b body n m r s o (bad_stuck (mark_of b) o.last r o.opens bad) p (open_stuck (mark_of b) p.last s p.opens none) in
+    counts_same b body n m r s o (bad_stuck (mark_of b) o.last r o.opens bad) p (open_stuck (mark_of b) p.last s p.opens none) in
     bad_or_open (mark_of b) s (subst (BeginsBadPart (mark_of b)) both.1 bad) none may
 
 pub fault_once : (b body : List ℕ) (f g : PartsError) → CutFault b body f → CutFault b body g → f ≡ g
@@ -242,7 +243,7 @@ refusal_lifts b body mark parts end rest count fault e f good h c few (inl n) = 
 refusal_lifts b body mark parts end rest count fault e f good (next, held, at) c few (inr p) =
     let o : Opens (mark_of b) next rest.now = subst (λ (x : Ending). IsAt (mark_of b) next x) f at in
     inr (part_fault_lifts b body (part_texts parts) next rest.now count fault good held o (length-map parts part_text ∙ sym c) few
-      (subst (λ (m : List ℕ). PartFault m rest.now count fault) e p))
+    (subst (λ (m : List ℕ). PartFault m rest.now count fault) e p))
 
 -- one part more
 pub held_more : (b body mark : List ℕ) (parts now : List Part) (part : Part) (end new_end : Ending) (rest : Bor (List ℕ)) → mark ≡ mark_of b → end ≡ Opening rest
@@ -253,18 +254,19 @@ held_more b body mark parts now part end new_end rest e f (next, held, at) m g =
     let o : Opens (mark_of b) next rest.now = subst (λ (x : Ending). IsAt (mark_of b) next x) f at in
     let k : MeetsFirst (mark_of b) rest.now m.piece new_end = subst (λ (x : List ℕ). MeetsFirst x rest.now m.piece new_end) e m.meets in
     let read : ReadsPart (mark_of b) next (part_text part) k.next =
-        record { rest = rest.now; piece = m.piece; opens = o; reaches = k.reached; stands = at_from_is (mark_of b) k.next new_end k.stands; is_part = m.is_part } in
-    (k.next,
-     record {
-       preamble = held.preamble;
-       first = held.first;
-       reaches = held.reaches;
-       stands = held.stands;
-       in_order =
-         chain_grow (ReadsPart (mark_of b)) held.first (part_texts parts) next (part_text part) k.next (part_texts now) held.in_order read
-         (ap part_texts g ∙ map_push part_text parts part);
-     },
-     k.stands)
+    record { rest = rest.now; piece = m.piece; opens = o; reaches = k.reached; stands = at_from_is (mark_of b) k.next new_end k.stands; is_part = m.is_part } in (
+      k.next,
+      record {
+        preamble = held.preamble;
+        first = held.first;
+        reaches = held.reaches;
+        stands = held.stands;
+        in_order =
+            chain_grow (ReadsPart (mark_of b)) held.first (part_texts parts) next (part_text part) k.next (part_texts now) held.in_order read
+            (ap part_texts g ∙ map_push part_text parts part);
+      },
+      k.stands,
+    )
 
 left_same : (end : Ending) (rest : Bor (List ℕ)) → end ≡ Opening rest → left_behind end ≡ 1 + length rest.now
 left_same end rest e = ap left_behind e

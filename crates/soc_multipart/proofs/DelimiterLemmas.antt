@@ -1,14 +1,13 @@
 -- What a delimiter is, by its parts, and that a text has one first delimiter at most.
-use Rattle.std.proofs.Common.{◌≡◌, ◌≢◌, ℕ, zero, suc, ◌+◌, ◌-◌, ◌<◌, ◌≤◌, List, [], ◌∷◌, ◌++◌, length, take, drop, get_or, codes, Bool, true, false, sym, refl, ap, ◌∙◌, subst, arith, append_assoc, MatchOption, IsTrue, ◌↔◌, Option, Some, None, ◌⊎◌, inl, inr}
-use Rattle.std.specs.List.{AllPass}
+use Rattle.std.proofs.Common.{◌≡◌, ℕ, zero, suc, ◌+◌, ◌-◌, ◌<◌, ◌≤◌, List, [], ◌∷◌, ◌++◌, length, take, drop, codes, Bool, sym, refl, ap, ◌∙◌, subst, arith, IsTrue, ◌↔◌, None, inl, inr}
 use Rattle.std.proofs.lemmas.List.{append_cancel_left, take-append-drop, drop-drop, length-drop, length-take, length-append}
 use Rattle.std.proofs.lemmas.List.Prefix.{at_reads, at_from_reads}
 use Rattle.std.proofs.lemmas.Bool.{cases_lt}
 use Rattle.memchr.specs.Find.{OccursAt, IsFirst, NoneBefore}
 use Rattle.soc_multipart.specs.declared.delimiters.Ending.{Ending}
 use Rattle.soc_multipart.specs.declared.delimiters.Ending.TheVariants.{Opening, Closing}
-use Rattle.soc_multipart.specs.Delimiters.{PartsRun, line_end, is_blank, EndsOpening, EndsClosing, EndsLine, EndsNowise, EndsAs, IsAt, BeginsAt, mark_of, Opens, Closes, IsAtDelimiter, Reaches, MeetsFirst, HasNoDelimiter}
-use Rattle.soc_multipart.proofs.Basics.{Stops, stops_nil, stops_cons, parts_once, run_once, from_yes, from_no}
+use Rattle.soc_multipart.specs.Delimiters.{PartsRun, line_end, is_blank, EndsOpening, EndsClosing, EndsLine, EndsNowise, EndsAs, IsAt, BeginsAt, mark_of, IsAtDelimiter, MeetsFirst, HasNoDelimiter}
+use Rattle.soc_multipart.proofs.Basics.{Stops, stops_nil, stops_cons, parts_once}
 
 line_stops : (rest : List ℕ) → Stops is_blank (line_end ++ rest)
 line_stops rest = stops_cons is_blank 13 (10 ∷ rest) refl
@@ -30,8 +29,8 @@ pub closing_by_parts : (t rest pad tail : List ℕ) (r : Bool) → t ≡ codes "
 closing_by_parts t rest pad tail r e p h = (
   λ yes. record { pad = pad; tail = tail; blanks = p.passes; ended = h.0 yes; whole = e ∙ ap (λ x. codes "--" ++ x) p.whole },
   λ c.
-    let same : rest ≡ c.pad ++ c.tail = append_cancel_left (codes "--") rest (c.pad ++ c.tail) (sym e ∙ c.whole) in
-    h.1 (subst EndsLine (sym (parts_once is_blank rest pad tail c.pad c.tail p same c.blanks (ends_line_stops c.tail c.ended)).1) c.ended),
+      let same : rest ≡ c.pad ++ c.tail = append_cancel_left (codes "--") rest (c.pad ++ c.tail) (sym e ∙ c.whole) in
+      h.1 (subst EndsLine (sym (parts_once is_blank rest pad tail c.pad c.tail p same c.blanks (ends_line_stops c.tail c.ended)).1) c.ended),
 )
 
 pub no_closing : (t : List ℕ) → ((rest : List ℕ) → ¬ (t ≡ codes "--" ++ rest)) → ¬ (EndsClosing t)
@@ -71,18 +70,17 @@ at_from_occurs mark text from k o =
     ∙ (at_from_reads 0 (drop from text) mark k o.fits o.reads
     ∙ ap (λ x. mark ++ x) (drop-drop (k + length mark) from text ∙ ap (λ n. drop n text) (omega arith)))
 
-
 pub none_from : (mark text : List ℕ) (from : ℕ) → 0 < length mark → ((i : ℕ) → i < from → ¬ (IsAtDelimiter mark (drop i text)))
     → IsFirst (OccursAt (drop from text) mark) 0 (length (drop from text) + 1) None → HasNoDelimiter mark text
 none_from mark text from some clear none i at =
     elim (cases_lt i from) [
-      inl before ↦ clear i before at
-    | inr behind ↦
-        let marked : (after : List ℕ) × (drop i text ≡ mark ++ after) = at_has_mark mark (drop i text) at in
-        let place : from + (i - from) ≡ i = omega arith in
-        let o : OccursAt (drop from text) mark (i - from) =
-            occurs_from_at mark text from (i - from) marked.0 some (ap (λ n. drop n text) place ∙ marked.1) in
-        none (i - from) (omega arith) (omega (arith, o.fits)) o
+      | inl before ↦ clear i before at
+      | inr behind ↦
+          let marked : (after : List ℕ) × (drop i text ≡ mark ++ after) = at_has_mark mark (drop i text) at in
+          let place : from + (i - from) ≡ i = omega arith in
+          let o : OccursAt (drop from text) mark (i - from) =
+          occurs_from_at mark text from (i - from) marked.0 some (ap (λ n. drop n text) place ∙ marked.1) in
+          none (i - from) (omega arith) (omega (arith, o.fits)) o
     ]
 
 pub clear_to : (mark text : List ℕ) (from k : ℕ) → 0 < length mark → ((i : ℕ) → i < from → ¬ (IsAtDelimiter mark (drop i text)))
@@ -90,13 +88,13 @@ pub clear_to : (mark text : List ℕ) (from k : ℕ) → 0 < length mark → ((i
     → (i : ℕ) → i < from + k → ¬ (IsAtDelimiter mark (drop i text))
 clear_to mark text from k some clear none i l at =
     elim (cases_lt i from) [
-      inl before ↦ clear i before at
-    | inr behind ↦
-        let marked : (after : List ℕ) × (drop i text ≡ mark ++ after) = at_has_mark mark (drop i text) at in
-        let place : from + (i - from) ≡ i = omega arith in
-        let o : OccursAt (drop from text) mark (i - from) =
-            occurs_from_at mark text from (i - from) marked.0 some (ap (λ n. drop n text) place ∙ marked.1) in
-        none.before (i - from) (omega arith) (omega arith) o
+      | inl before ↦ clear i before at
+      | inr behind ↦
+          let marked : (after : List ℕ) × (drop i text ≡ mark ++ after) = at_has_mark mark (drop i text) at in
+          let place : from + (i - from) ≡ i = omega arith in
+          let o : OccursAt (drop from text) mark (i - from) =
+          occurs_from_at mark text from (i - from) marked.0 some (ap (λ n. drop n text) place ∙ marked.1) in
+          none.before (i - from) (omega arith) (omega arith) o
     ]
 
 -- the mark at place `from + k` begins no delimiter
@@ -106,11 +104,11 @@ pub clear_more : (mark text : List ℕ) (from k : ℕ) → 0 < length mark → (
     → (i : ℕ) → i < from + k + 1 → ¬ (IsAtDelimiter mark (drop i text))
 clear_more mark text from k some clear found ends i l at =
     elim (cases_lt i (from + k)) [
-      inl before ↦ clear_to mark text from k some clear found.0 i before at
-    | inr behind ↦
-        let here : drop i text ≡ mark ++ drop (from + k + length mark) text =
-            ap (λ n. drop n text) (omega arith) ∙ at_from_occurs mark text from k found.1 in
-        not_at mark (drop i text) (drop (from + k + length mark) text) here ends at
+      | inl before ↦ clear_to mark text from k some clear found.0 i before at
+      | inr behind ↦
+          let here : drop i text ≡ mark ++ drop (from + k + length mark) text =
+          ap (λ n. drop n text) (omega arith) ∙ at_from_occurs mark text from k found.1 in
+          not_at mark (drop i text) (drop (from + k + length mark) text) here ends at
     ]
 
 -- the first delimiter stands at place `from + k`
@@ -175,7 +173,6 @@ second_not_at b body at =
     let marked : (after : List ℕ) × (10 ∷ body ≡ mark_of b ++ after) = at_has_mark (mark_of b) (10 ∷ body) at in
     ten_not_13 10 refl (heads_same 10 13 body (10 ∷ 45 ∷ 45 ∷ (b ++ marked.0)) marked.1)
 
-
 pub none_behind : (b body : List ℕ) → ¬ (IsAtDelimiter (mark_of b) (line_end ++ body)) → HasNoDelimiter (mark_of b) body → HasNoDelimiter (mark_of b) (line_end ++ body)
 none_behind b body h none zero at = h at
 none_behind b body h none (suc zero) at = second_not_at b body at
@@ -188,21 +185,27 @@ clear_behind b body front h clear (suc zero) l at = second_not_at b body at
 clear_behind b body front h clear (suc (suc i)) l at = clear i (omega arith) at
 
 pub begins_behind : (b body front : List ℕ) (end : Ending) → ¬ (IsAtDelimiter (mark_of b) (line_end ++ body)) → MeetsFirst (mark_of b) body front end → BeginsAt (mark_of b) (line_end ++ body) end
-begins_behind b body front end h m = (line_end ++ front, record {
-  next = m.next;
-  reached = record {
-    whole = ap (λ (x : List ℕ). line_end ++ x) m.reached.whole;
-    clear = clear_behind b body front h m.reached.clear;
-  };
-  stands = m.stands;
-})
+begins_behind b body front end h m = (
+  line_end ++ front,
+  record {
+    next = m.next;
+    reached = record {
+      whole = ap (λ (x : List ℕ). line_end ++ x) m.reached.whole;
+      clear = clear_behind b body front h m.reached.clear;
+    };
+    stands = m.stands;
+  },
+)
 
 pub begins_here : (mark text : List ℕ) (end : Ending) → IsAt mark text end → BeginsAt mark text end
-begins_here mark text end h = ([], record {
-  next = text;
-  reached = record { whole = refl; clear = λ i l. absurd (omega arith) };
-  stands = h;
-})
+begins_here mark text end h = (
+  [],
+  record {
+    next = text;
+    reached = record { whole = refl; clear = λ i l. absurd (omega arith) };
+    stands = h;
+  },
+)
 
 pub start_not_at : (b body r s : List ℕ) → body ≡ codes "--" ++ r → r ≡ b ++ s → EndsNowise s → ¬ (IsAtDelimiter (mark_of b) (line_end ++ body))
 start_not_at b body r s e f h = not_at (mark_of b) (line_end ++ body) s (start_marked b body r s e f) h

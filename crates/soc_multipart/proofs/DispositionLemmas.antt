@@ -1,11 +1,10 @@
 -- What the lines of a head say, and that they say one thing.
-use Rattle.std.proofs.Common.{◌≡◌, ◌≢◌, ℕ, zero, suc, ◌+◌, ◌-◌, ◌<◌, ◌≤◌, List, [], ◌∷◌, ◌++◌, length, Bool, true, false, sym, refl, ap, ◌∙◌, subst, arith, codes, Option, Some, None, MatchOption, is_some, IsTrue, ◌↔◌}
+use Rattle.std.proofs.Common.{◌≡◌, ℕ, ◌≤◌, List, [], ◌∷◌, ◌++◌, length, Bool, false, sym, refl, ap, ◌∙◌, subst, arith, codes, Option, Some, None, MatchOption, is_some, IsTrue, ◌↔◌}
 use Rattle.std.specs.Option.{option_map}
 use Rattle.std.specs.Str.Lossy.{utf8_lossy}
 use Rattle.std.proofs.lemmas.List.{append_cancel_left}
 use Rattle.soc_multipart.specs.declared.heads.Named.{Named}
 use Rattle.soc_multipart.specs.declared.heads.Named.TheVariants.{Never, Once, Often}
-use Rattle.soc_multipart.specs.Chains.{Chain, HasNoStep}
 use Rattle.soc_multipart.specs.Params.{ParamText, ReadsParam, AreParams, value_of}
 use Rattle.soc_multipart.specs.Heads.{LineText, IsDisposition, IsHead, IsKind, MayBeHead, MayDispose, values_of}
 use Rattle.soc_multipart.specs.Views.{HasValues}
@@ -46,9 +45,10 @@ no_name_param value text ps e a none name file d =
 pub disposed_once : (value n m : List ℕ) (f g : Option (List ℕ)) → IsDisposition value n f → IsDisposition value m g → (n ≡ m) × (f ≡ g)
 disposed_once value n m f g a b =
     let same : a.params ≡ b.params = same_params value a.text a.params m g a.whole a.in_order b in
-    let raws : a.raw_name ≡ b.raw_name = some_same a.raw_name b.raw_name (sym a.named ∙ (ap (value_of (codes "name")) same ∙ b.named)) in
-    (a.name_is ∙ (ap utf8_lossy raws ∙ sym b.name_is),
-     a.file_is ∙ (ap (λ (ps : List ParamText). option_map utf8_lossy (value_of (codes "filename") ps)) same ∙ sym b.file_is))
+    let raws : a.raw_name ≡ b.raw_name = some_same a.raw_name b.raw_name (sym a.named ∙ (ap (value_of (codes "name")) same ∙ b.named)) in (
+      a.name_is ∙ (ap utf8_lossy raws ∙ sym b.name_is),
+      a.file_is ∙ (ap (λ (ps : List ParamText). option_map utf8_lossy (value_of (codes "filename") ps)) same ∙ sym b.file_is),
+    )
 
 pub disposed_by_parts : (value text : List ℕ) (ps : List ParamText) (raw name : List ℕ) (file : Option (List ℕ)) → value ≡ codes "form-data" ++ text → AreParams false text ps
     → value_of (codes "name") ps ≡ Some raw → name ≡ utf8_lossy raw → file ≡ option_map utf8_lossy (value_of (codes "filename") ps) → IsDisposition value name file

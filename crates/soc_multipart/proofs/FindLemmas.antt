@@ -1,8 +1,8 @@
 -- A search for a parameter by its name.
-use Rattle.std.proofs.Common.{◌≡◌, ℕ, ◌+◌, ◌<◌, List, [], ◌∷◌, ◌++◌, length, drop, get_or, map, Bool, true, false, sym, refl, ap, ◌∙◌, subst, Option, Some, None}
+use Rattle.std.proofs.Common.{◌≡◌, ℕ, ◌+◌, ◌<◌, List, [], ◌∷◌, ◌++◌, length, drop, get_or, sym, ap, ◌∙◌, Option, Some, None}
 use Rattle.std.proofs.lemmas.List.{at_drop_more, map_push}
 use Rattle.soc_multipart.specs.declared.params.Param.{Param}
-use Rattle.soc_multipart.specs.Params.{ParamText, lower, value_of}
+use Rattle.soc_multipart.specs.Params.{lower, value_of}
 use Rattle.soc_multipart.specs.Views.{param_text, param_texts}
 use Rattle.soc_multipart.proofs.ParamLemmas.{value_named, value_other}
 

@@ -1,22 +1,20 @@
 -- The lines of a head: that a text has one list of them, and that the first bytes of a part show them.
-use Rattle.std.proofs.Common.{◌≡◌, ◌≢◌, ℕ, zero, suc, ◌+◌, ◌-◌, ◌<◌, ◌≤◌, List, [], ◌∷◌, ◌++◌, length, take, drop, get_or, map, Bool, true, false, cond, sym, refl, ap, ◌∙◌, subst, arith, append_assoc, Option, Some, None, ◌⊎◌, inl, inr}
-use Rattle.std.specs.List.{AllPass}
+use Rattle.std.proofs.Common.{◌≡◌, ℕ, ◌+◌, ◌-◌, ◌<◌, ◌≤◌, List, [], ◌∷◌, ◌++◌, length, take, drop, get_or, Bool, true, false, sym, refl, ap, ◌∙◌, subst, arith, append_assoc, ◌⊎◌, inl, inr}
 use Rattle.std.specs.Str.{bytes_eq}
-use Rattle.std.proofs.lemmas.Bool.{cases_lt}
-use Rattle.std.proofs.lemmas.List.{append_cancel_left, append_cancel_right, append-nil, length-append, length-take, length-drop, take-append-drop, drop_at, nil_from_length, map_push, take_more, take_all, drop_all}
+use Rattle.std.proofs.lemmas.List.{append_cancel_left, append_cancel_right, append-nil, length-append, length-take, length-drop, take-append-drop, drop_at, map_push, take_more, take_all, drop_all}
 use Rattle.std.proofs.lemmas.List.Elements.{All-head}
 use Rattle.std.proofs.lemmas.Slice.Eq.{bytes_eq-Decides}
 use Rattle.soc_multipart.specs.declared.heads.HeadEnd.{HeadEnd}
 use Rattle.soc_multipart.specs.declared.heads.HeadEnd.TheVariants.{Content, Open}
 use Rattle.soc_multipart.specs.declared.heads.Line.{Line}
 use Rattle.soc_multipart.specs.declared.heads.Named.{Named}
-use Rattle.soc_multipart.specs.declared.heads.Named.TheVariants.{Never, Once, Often}
+use Rattle.soc_multipart.specs.declared.heads.Named.TheVariants.{Often}
 use Rattle.soc_multipart.specs.Chains.{Chain, HasNoStep}
 use Rattle.soc_multipart.specs.Delimiters.{PartsRun, line_end}
 use Rattle.soc_multipart.specs.Params.{is_token_byte, IsToken, lower}
-use Rattle.soc_multipart.specs.Heads.{head_limit, LineText, is_line_byte, ReadsLine, trimmed, values_of, EndsInContent, HasNoContent, IsHeadEnd}
+use Rattle.soc_multipart.specs.Heads.{head_limit, LineText, is_line_byte, ReadsLine, trimmed, values_of, EndsInContent, IsHeadEnd}
 use Rattle.soc_multipart.specs.Views.{line_text, line_texts, HasValues, EndsSo}
-use Rattle.soc_multipart.proofs.Basics.{Stops, stops_cons, parts_once, run_once}
+use Rattle.soc_multipart.proofs.Basics.{Stops, stops_cons, parts_once}
 use Rattle.soc_multipart.proofs.ChainLemmas.{chain_once, chain_end}
 
 heads : (x y : ℕ) (xs ys : List ℕ) → x ∷ xs ≡ y ∷ ys → (x ≡ y) × (xs ≡ ys)
@@ -53,7 +51,7 @@ pub line_raw : (t name tail tail2 raw tail3 : List ℕ) (l : LineText) (r : List
     → PartsRun is_line_byte tail2 raw tail3 → ReadsLine t l r → (raw ≡ l.raw) × (tail3 ≡ line_end ++ r)
 line_raw t name tail tail2 raw tail3 l r p e q a =
     let behind : tail2 ≡ l.raw ++ (line_end ++ r) =
-        (heads 58 58 tail2 (l.raw ++ (line_end ++ r)) (sym e ∙ (line_name t name tail l r p a).1)).1 in
+    (heads 58 58 tail2 (l.raw ++ (line_end ++ r)) (sym e ∙ (line_name t name tail l r p a).1)).1 in
     parts_once is_line_byte tail2 raw tail3 l.raw (line_end ++ r) q behind a.passes (return_stops r)
 
 pub no_colon : (t name tail : List ℕ) → PartsRun is_token_byte t name tail → ((r : List ℕ) → ¬ (tail ≡ 58 ∷ r)) → HasNoStep ReadsLine t
@@ -71,12 +69,12 @@ line_same l m e f =
 pub line_once : (t : List ℕ) (l m : LineText) (r s : List ℕ) → ReadsLine t l r → ReadsLine t m s → (l ≡ m) × (r ≡ s)
 line_once t l m r s a b =
     let p : PartsRun is_token_byte t l.name (58 ∷ (l.raw ++ (line_end ++ r))) =
-        record { whole = a.whole; passes = a.token.passes; stops = colon_stops (l.raw ++ (line_end ++ r)) } in
+    record { whole = a.whole; passes = a.token.passes; stops = colon_stops (l.raw ++ (line_end ++ r)) } in
     let q : PartsRun is_line_byte (l.raw ++ (line_end ++ r)) l.raw (line_end ++ r) =
-        record { whole = refl; passes = a.passes; stops = return_stops r } in
+    record { whole = refl; passes = a.passes; stops = return_stops r } in
     let names : l.name ≡ m.name = (line_name t l.name (58 ∷ (l.raw ++ (line_end ++ r))) m s p b).0 in
     let raws : (l.raw ≡ m.raw) × (line_end ++ r ≡ line_end ++ s) =
-        line_raw t l.name (58 ∷ (l.raw ++ (line_end ++ r))) (l.raw ++ (line_end ++ r)) l.raw (line_end ++ r) m s p refl q b in
+    line_raw t l.name (58 ∷ (l.raw ++ (line_end ++ r))) (l.raw ++ (line_end ++ r)) l.raw (line_end ++ r) m s p refl q b in
     (line_same l m names raws.0, append_cancel_left line_end r s raws.1)
 
 -- no line begins with a line end, or with nothing
@@ -103,9 +101,9 @@ line_longer t l r more a = record {
   token = a.token;
   passes = a.passes;
   whole =
-    ap (λ (x : List ℕ). x ++ more) a.whole
-    ∙ (append_assoc l.name (58 ∷ (l.raw ++ (line_end ++ r))) more
-    ∙ ap (λ (x : List ℕ). l.name ++ (58 ∷ x)) (append_assoc l.raw (line_end ++ r) more));
+      ap (λ (x : List ℕ). x ++ more) a.whole
+      ∙ (append_assoc l.name (58 ∷ (l.raw ++ (line_end ++ r))) more
+      ∙ ap (λ (x : List ℕ). l.name ++ (58 ∷ x)) (append_assoc l.raw (line_end ++ r) more));
 }
 
 pub lines_longer : (t : List ℕ) (ls : List LineText) (r more : List ℕ) → Chain ReadsLine t ls r → Chain ReadsLine (t ++ more) ls (r ++ more)
@@ -117,12 +115,13 @@ pub lines_front : (t : List ℕ) (ls : List LineText) (r : List ℕ) → Chain R
 lines_front t [] r e = ([], e)
 lines_front t (l ∷ ls) r (later, first, rest) =
     let inner : (front : List ℕ) × (later ≡ front ++ r) = lines_front later ls r rest in
-    let spelled : List ℕ = l.name ++ (58 ∷ (l.raw ++ (line_end ++ inner.0))) in
-    (spelled,
-     first.whole
-     ∙ (ap (λ (x : List ℕ). l.name ++ (58 ∷ (l.raw ++ (line_end ++ x)))) inner.1
-     ∙ sym (append_assoc l.name (58 ∷ (l.raw ++ (line_end ++ inner.0))) r
-       ∙ ap (λ (x : List ℕ). l.name ++ (58 ∷ x)) (append_assoc l.raw (line_end ++ inner.0) r))))
+    let spelled : List ℕ = l.name ++ (58 ∷ (l.raw ++ (line_end ++ inner.0))) in (
+      spelled,
+      first.whole
+          ∙ (ap (λ (x : List ℕ). l.name ++ (58 ∷ (l.raw ++ (line_end ++ x)))) inner.1
+          ∙ sym (append_assoc l.name (58 ∷ (l.raw ++ (line_end ++ inner.0))) r
+          ∙ ap (λ (x : List ℕ). l.name ++ (58 ∷ x)) (append_assoc l.raw (line_end ++ inner.0) r))),
+    )
 
 -- lines in the front of a text, where what they leave holds the rest of it
 pub lines_shorter : (t : List ℕ) (ls : List LineText) (r more : List ℕ) → Chain ReadsLine (t ++ more) ls (r ++ more) → Chain ReadsLine t ls r
@@ -132,13 +131,14 @@ lines_shorter t (l ∷ ls) r more (later, first, rest) =
     let cut : later ≡ (inner.0 ++ r) ++ more = inner.1 ∙ sym (append_assoc inner.0 r more) in
     let spelled : List ℕ = l.name ++ (58 ∷ (l.raw ++ (line_end ++ (inner.0 ++ r)))) in
     let whole : t ++ more ≡ spelled ++ more =
-        first.whole
-        ∙ (ap (λ (x : List ℕ). l.name ++ (58 ∷ (l.raw ++ (line_end ++ x)))) cut
-        ∙ sym (append_assoc l.name (58 ∷ (l.raw ++ (line_end ++ (inner.0 ++ r)))) more
-          ∙ ap (λ (x : List ℕ). l.name ++ (58 ∷ x)) (append_assoc l.raw (line_end ++ (inner.0 ++ r)) more))) in
-    (inner.0 ++ r,
-     record { token = first.token; passes = first.passes; whole = append_cancel_right t spelled more whole },
-     lines_shorter (inner.0 ++ r) ls r more (subst (λ (x : List ℕ). Chain ReadsLine x ls (r ++ more)) cut rest))
+    first.whole
+    ∙ (ap (λ (x : List ℕ). l.name ++ (58 ∷ (l.raw ++ (line_end ++ x)))) cut
+    ∙ sym (append_assoc l.name (58 ∷ (l.raw ++ (line_end ++ (inner.0 ++ r)))) more
+    ∙ ap (λ (x : List ℕ). l.name ++ (58 ∷ x)) (append_assoc l.raw (line_end ++ (inner.0 ++ r)) more))) in (
+      inner.0 ++ r,
+      record { token = first.token; passes = first.passes; whole = append_cancel_right t spelled more whole },
+      lines_shorter (inner.0 ++ r) ls r more (subst (λ (x : List ℕ). Chain ReadsLine x ls (r ++ more)) cut rest),
+    )
 
 -- a text parted in two ways
 pub parted : (w more y content : List ℕ) → w ++ more ≡ y ++ content → length y ≤ length w → (c : List ℕ) × (w ≡ y ++ c) × (content ≡ c ++ more)
@@ -154,8 +154,8 @@ pub tail_is : (piece w front rest tail : List ℕ) → w ≡ take head_limit pie
     → tail ≡ rest ++ drop head_limit piece
 tail_is piece w front rest tail e f g =
     let whole : piece ≡ front ++ (rest ++ drop head_limit piece) =
-        sym (take-append-drop head_limit piece)
-        ∙ (ap (λ (x : List ℕ). x ++ drop head_limit piece) (sym e ∙ f) ∙ append_assoc front rest (drop head_limit piece)) in
+    sym (take-append-drop head_limit piece)
+    ∙ (ap (λ (x : List ℕ). x ++ drop head_limit piece) (sym e ∙ f) ∙ append_assoc front rest (drop head_limit piece)) in
     let place : length front ≡ length w - length rest = omega (arith, ap length f, length-append front rest) in
     g ∙ (ap (drop (length w - length rest)) whole ∙ drop_at front (rest ++ drop head_limit piece) (length w - length rest) place)
 
@@ -175,19 +175,19 @@ content_in_window piece w rest ls e h stuck ls' content k =
     let cut : w ++ more ≡ (f.0 ++ line_end) ++ content = whole ∙ (f.1 ∙ sym (append_assoc f.0 line_end content)) in
     let sizes : length (w ++ more) ≡ length piece = ap length whole in
     let fits : length (f.0 ++ line_end) ≤ length w =
-        omega (
-          arith,
-          k.short,
-          ap length e,
-          length-take head_limit piece,
-          ap length f.1,
-          length-append f.0 (line_end ++ content),
-          length-append f.0 line_end,
-        ) in
+    omega (
+      arith,
+      k.short,
+      ap length e,
+      length-take head_limit piece,
+      ap length f.1,
+      length-append f.0 (line_end ++ content),
+      length-append f.0 line_end,
+    ) in
     let p : (c : List ℕ) × (w ≡ (f.0 ++ line_end) ++ c) × (content ≡ c ++ more) = parted w more (f.0 ++ line_end) content cut fits in
     let longer : Chain ReadsLine (w ++ more) ls' ((line_end ++ p.0) ++ more) =
-        subst (λ (x : List ℕ). Chain ReadsLine x ls' ((line_end ++ p.0) ++ more)) (sym whole)
-        (chain_end ReadsLine piece ls' (line_end ++ content) ((line_end ++ p.0) ++ more) (ap (λ (x : List ℕ). line_end ++ x) p.2) k.in_order) in
+    subst (λ (x : List ℕ). Chain ReadsLine x ls' ((line_end ++ p.0) ++ more)) (sym whole)
+    (chain_end ReadsLine piece ls' (line_end ++ content) ((line_end ++ p.0) ++ more) (ap (λ (x : List ℕ). line_end ++ x) p.2) k.in_order) in
     let inner : Chain ReadsLine w ls' (line_end ++ p.0) = lines_shorter w ls' (line_end ++ p.0) more longer in
     (p.0, (chain_once ReadsLine line_once w ls ls' rest (line_end ++ p.0) h stuck inner (line_end_stuck p.0)).1)
 
@@ -196,28 +196,29 @@ pub head_end_is : (piece w rest tail : List ℕ) (ls : List LineText) (end : Hea
 head_end_is piece w rest tail ls (Content content) e h stuck t (f, (front, g)) =
     let whole : w ++ drop head_limit piece ≡ piece = ap (λ (x : List ℕ). x ++ drop head_limit piece) e ∙ take-append-drop head_limit piece in
     let longer : Chain ReadsLine piece ls (rest ++ drop head_limit piece) =
-        subst (λ (x : List ℕ). Chain ReadsLine x ls (rest ++ drop head_limit piece)) whole (lines_longer w ls rest (drop head_limit piece) h) in
+    subst (λ (x : List ℕ). Chain ReadsLine x ls (rest ++ drop head_limit piece)) whole (lines_longer w ls rest (drop head_limit piece) h) in
     record {
       in_order = chain_end ReadsLine piece ls (rest ++ drop head_limit piece) (line_end ++ content.now) (sym t ∙ f) longer;
       short =
-        omega (
-          arith,
-          ap length (sym f ∙ t),
-          length-append rest (drop head_limit piece),
-          ap length g,
-          length-drop head_limit piece,
-        );
+          omega (
+            arith,
+            ap length (sym f ∙ t),
+            length-append rest (drop head_limit piece),
+            ap length g,
+            length-drop head_limit piece,
+          );
     }
 head_end_is piece w rest tail ls (Open open') e h stuck t (f, none) =
     let whole : w ++ drop head_limit piece ≡ piece = ap (λ (x : List ℕ). x ++ drop head_limit piece) e ∙ take-append-drop head_limit piece in
     let longer : Chain ReadsLine piece ls (rest ++ drop head_limit piece) =
-        subst (λ (x : List ℕ). Chain ReadsLine x ls (rest ++ drop head_limit piece)) whole (lines_longer w ls rest (drop head_limit piece) h) in
-    (chain_end ReadsLine piece ls (rest ++ drop head_limit piece) open'.now (sym t ∙ sym f) longer,
-     λ ls' content k.
-       let c : (c : List ℕ) × (rest ≡ line_end ++ c) = content_in_window piece w rest ls e h stuck ls' content k in none c.0 c.1,
-     λ short.
-       let all : open'.now ≡ rest = f ∙ (t ∙ (ap (λ (x : List ℕ). rest ++ x) (drop_all head_limit piece short) ∙ append-nil rest)) in
-       subst (λ (x : List ℕ). HasNoStep ReadsLine x) (sym all) stuck)
+    subst (λ (x : List ℕ). Chain ReadsLine x ls (rest ++ drop head_limit piece)) whole (lines_longer w ls rest (drop head_limit piece) h) in (
+      chain_end ReadsLine piece ls (rest ++ drop head_limit piece) open'.now (sym t ∙ sym f) longer,
+      λ ls' content k.
+          let c : (c : List ℕ) × (rest ≡ line_end ++ c) = content_in_window piece w rest ls e h stuck ls' content k in none c.0 c.1,
+      λ short.
+          let all : open'.now ≡ rest = f ∙ (t ∙ (ap (λ (x : List ℕ). rest ++ x) (drop_all head_limit piece short) ∙ append-nil rest)) in
+          subst (λ (x : List ℕ). HasNoStep ReadsLine x) (sym all) stuck,
+    )
 
 -- the values of a name in one line more
 values_named_line : (name : List ℕ) (l : LineText) (ls : List LineText) → lower l.name ≡ lower name → values_of name (l ∷ ls) ≡ trimmed l.raw ∷ values_of name ls
@@ -230,30 +231,30 @@ pub values_hit : (name : List ℕ) (ls : List LineText) (l : LineText) → lower
 values_hit name [] l e = values_named_line name l [] e
 values_hit name (m ∷ ls) l e =
     elim (cases_bool (bytes_eq (lower m.name) (lower name))) [
-      inl is ↦
-        let same : lower m.name ≡ lower name = (bytes_eq-Decides (lower m.name) (lower name)).0 is in
-        values_named_line name m (ls ++ l ∷ []) same
-        ∙ (ap (λ (x : List (List ℕ)). trimmed m.raw ∷ x) (values_hit name ls l e)
-        ∙ ap (λ (x : List (List ℕ)). x ++ trimmed l.raw ∷ []) (sym (values_named_line name m ls same)))
-    | inr other ↦
-        values_other_line name m (ls ++ l ∷ []) other
-        ∙ (values_hit name ls l e ∙ ap (λ (x : List (List ℕ)). x ++ trimmed l.raw ∷ []) (sym (values_other_line name m ls other)))
+      | inl is ↦
+          let same : lower m.name ≡ lower name = (bytes_eq-Decides (lower m.name) (lower name)).0 is in
+          values_named_line name m (ls ++ l ∷ []) same
+          ∙ (ap (λ (x : List (List ℕ)). trimmed m.raw ∷ x) (values_hit name ls l e)
+          ∙ ap (λ (x : List (List ℕ)). x ++ trimmed l.raw ∷ []) (sym (values_named_line name m ls same)))
+      | inr other ↦
+          values_other_line name m (ls ++ l ∷ []) other
+          ∙ (values_hit name ls l e ∙ ap (λ (x : List (List ℕ)). x ++ trimmed l.raw ∷ []) (sym (values_other_line name m ls other)))
     ]
 
 pub values_miss : (name : List ℕ) (ls : List LineText) (l : LineText) → ¬ (lower l.name ≡ lower name) → values_of name (ls ++ l ∷ []) ≡ values_of name ls
 values_miss name [] l h =
     elim (cases_bool (bytes_eq (lower l.name) (lower name))) [
-      inl is ↦ absurd (h ((bytes_eq-Decides (lower l.name) (lower name)).0 is))
-    | inr other ↦ values_other_line name l [] other
+      | inl is ↦ absurd (h ((bytes_eq-Decides (lower l.name) (lower name)).0 is))
+      | inr other ↦ values_other_line name l [] other
     ]
 values_miss name (m ∷ ls) l h =
     elim (cases_bool (bytes_eq (lower m.name) (lower name))) [
-      inl is ↦
-        let same : lower m.name ≡ lower name = (bytes_eq-Decides (lower m.name) (lower name)).0 is in
-        values_named_line name m (ls ++ l ∷ []) same
-        ∙ (ap (λ (x : List (List ℕ)). trimmed m.raw ∷ x) (values_miss name ls l h) ∙ sym (values_named_line name m ls same))
-    | inr other ↦
-        values_other_line name m (ls ++ l ∷ []) other ∙ (values_miss name ls l h ∙ sym (values_other_line name m ls other))
+      | inl is ↦
+          let same : lower m.name ≡ lower name = (bytes_eq-Decides (lower m.name) (lower name)).0 is in
+          values_named_line name m (ls ++ l ∷ []) same
+          ∙ (ap (λ (x : List (List ℕ)). trimmed m.raw ∷ x) (values_miss name ls l h) ∙ sym (values_named_line name m ls same))
+      | inr other ↦
+          values_other_line name m (ls ++ l ∷ []) other ∙ (values_miss name ls l h ∙ sym (values_other_line name m ls other))
     ]
 
 -- what the loop over the lines keeps

@@ -1,18 +1,17 @@
 -- What a parameter is, by its parts, and that a text begins with one parameter at most.
-use Rattle.std.proofs.Common.{◌≡◌, ◌≢◌, ℕ, zero, suc, ◌+◌, ◌-◌, ◌<◌, ◌≤◌, List, [], ◌∷◌, ◌++◌, length, take, drop, get_or, map, Bool, true, false, cond, sym, refl, ap, ◌∙◌, subst, arith, append_assoc, MatchOption, IsTrue, ◌↔◌, Option, Some, None, ◌⊎◌, inl, inr}
-use Rattle.std.specs.List.{AllPass}
+use Rattle.std.proofs.Common.{◌≡◌, ◌≢◌, ℕ, zero, suc, ◌<◌, ◌≤◌, List, [], ◌∷◌, ◌++◌, length, get_or, Bool, true, false, sym, refl, ap, ◌∙◌, subst, arith, Some, None, ◌⊎◌, inl, inr}
 use Rattle.std.specs.Str.{bytes_eq}
-use Rattle.std.proofs.lemmas.List.{append_cancel_left, append-nil, length-append, get_or_append_left, get_or_at, nil_from_length}
+use Rattle.std.proofs.lemmas.List.{length-append, get_or_append_left, get_or_at, nil_from_length}
 use Rattle.std.proofs.lemmas.Bool.{cases_eq}
-use Rattle.std.proofs.lemmas.Bool.Decides.{nat_tests, Decides-eqb}
+use Rattle.std.proofs.lemmas.Bool.Decides.{nat_tests}
 use Rattle.std.proofs.lemmas.Slice.Eq.{bytes_eq-Decides}
-use Rattle.std.proofs.lemmas.List.Elements.{All-head, All-cons, All-nil}
+use Rattle.std.proofs.lemmas.List.Elements.{All-head}
 use Rattle.std.proofs.lemmas.List.Quantifiers.{all_pairs_push}
 use Rattle.soc_multipart.specs.Chains.{Chain, HasNoStep}
 use Rattle.soc_multipart.specs.Delimiters.{PartsRun, is_blank}
 use Rattle.soc_multipart.specs.Params.{is_token_byte, IsToken, quote, backslash, SpellsByte, EndsQuoted, EndsToken, BeginsWithValue, ReadsValue, SkipsGap, ReadsName, ParamText, ReadsParam, AreParams, AreDistinct, lower, value_of}
-use Rattle.soc_multipart.proofs.Basics.{Stops, stops_nil, stops_cons, parts_once, run_once}
-use Rattle.soc_multipart.proofs.ChainLemmas.{chain_once, chain_goes_on, chain_push, chain_end}
+use Rattle.soc_multipart.proofs.Basics.{Stops, stops_cons, parts_once, run_once}
+use Rattle.soc_multipart.proofs.ChainLemmas.{chain_once, chain_goes_on, chain_end}
 
 heads : (x y : ℕ) (xs ys : List ℕ) → x ∷ xs ≡ y ∷ ys → (x ≡ y) × (xs ≡ ys)
 heads x y xs ys e = (cc, cc)
@@ -51,7 +50,7 @@ quoted_by_parts t out rest behind h e = chain_end SpellsByte t out rest (quote �
 pub quoted_once : (t out rest value rest' : List ℕ) → EndsQuoted t out rest → EndsQuoted t value rest' → (out ≡ value) × (rest ≡ rest')
 quoted_once t out rest value rest' h k =
     let both : (out ≡ value) × (quote ∷ rest ≡ quote ∷ rest') =
-        chain_once SpellsByte spells_once t out value (quote ∷ rest) (quote ∷ rest') h (quote_spells_none rest) k (quote_spells_none rest') in
+    chain_once SpellsByte spells_once t out value (quote ∷ rest) (quote ∷ rest') h (quote_spells_none rest) k (quote_spells_none rest') in
     (both.0, (heads quote quote rest rest' both.1).1)
 
 -- the quote that ends a quoted text is followed by a byte of a token
@@ -100,14 +99,13 @@ tab_no_token = refl
 token_no_blank : (b : ℕ) → is_token_byte b ≡ true → is_blank b ≡ false
 token_no_blank b h =
     elim (cases_eq b 32) [
-      inl is ↦ absurd (not_both (is_token_byte b) h (ap is_token_byte is ∙ space_no_token))
-    | inr apart ↦
-        elim (cases_eq b 9) [
-          inl is ↦ absurd (not_both (is_token_byte b) h (ap is_token_byte is ∙ tab_no_token))
-        | inr other ↦ grind (arith, nat_tests)
-        ]
+      | inl is ↦ absurd (not_both (is_token_byte b) h (ap is_token_byte is ∙ space_no_token))
+      | inr apart ↦
+          elim (cases_eq b 9) [
+            | inl is ↦ absurd (not_both (is_token_byte b) h (ap is_token_byte is ∙ tab_no_token))
+            | inr other ↦ grind (arith, nat_tests)
+          ]
     ]
-
 
 -- a token begins with a byte of a token
 token_stops_blank : (name rest : List ℕ) → IsToken name → Stops is_blank (name ++ rest)
@@ -130,16 +128,16 @@ name_parts spaced t g tail pad tail2 name tail3 name' rest' s stops e p q r =
     let whole : g ≡ 59 ∷ (r.pad ++ (name' ++ (61 ∷ rest'))) = gap_once spaced t g (r.pad ++ (name' ++ (61 ∷ rest'))) s stops r.skips in
     let behind : tail ≡ r.pad ++ (name' ++ (61 ∷ rest')) = (heads 59 59 tail (r.pad ++ (name' ++ (61 ∷ rest'))) (sym e ∙ whole)).1 in
     let rest2 : tail2 ≡ name' ++ (61 ∷ rest') =
-        (parts_once is_blank tail pad tail2 r.pad (name' ++ (61 ∷ rest')) p behind r.blanks (token_stops_blank name' (61 ∷ rest') r.token)).1 in
+    (parts_once is_blank tail pad tail2 r.pad (name' ++ (61 ∷ rest')) p behind r.blanks (token_stops_blank name' (61 ∷ rest') r.token)).1 in
     parts_once is_token_byte tail2 name tail3 name' (61 ∷ rest') q rest2 r.token.passes (stops_cons is_token_byte 61 rest' equals_no_token)
 
 pub name_once : (spaced : Bool) (t n r n' r' : List ℕ) → ReadsName spaced t n r → ReadsName spaced t n' r' → (n ≡ n') × (r ≡ r')
 name_once spaced t n r n' r' a b =
     let both : (n ≡ n') × (61 ∷ r ≡ 61 ∷ r') =
-        name_parts spaced t (59 ∷ (a.pad ++ (n ++ (61 ∷ r)))) (a.pad ++ (n ++ (61 ∷ r))) a.pad (n ++ (61 ∷ r)) n (61 ∷ r) n' r'
-        a.skips (λ is. stops_cons is_blank 59 (a.pad ++ (n ++ (61 ∷ r))) refl) refl
-        (record { whole = refl; passes = a.blanks; stops = token_stops_blank n (61 ∷ r) a.token })
-        (record { whole = refl; passes = a.token.passes; stops = stops_cons is_token_byte 61 r equals_no_token }) b in
+    name_parts spaced t (59 ∷ (a.pad ++ (n ++ (61 ∷ r)))) (a.pad ++ (n ++ (61 ∷ r))) a.pad (n ++ (61 ∷ r)) n (61 ∷ r) n' r'
+    a.skips (λ is. stops_cons is_blank 59 (a.pad ++ (n ++ (61 ∷ r))) refl) refl
+    (record { whole = refl; passes = a.blanks; stops = token_stops_blank n (61 ∷ r) a.token })
+    (record { whole = refl; passes = a.token.passes; stops = stops_cons is_token_byte 61 r equals_no_token }) b in
     (both.0, (heads 61 61 r r' both.1).1)
 
 pub no_semicolon : (spaced : Bool) (t g : List ℕ) → SkipsGap spaced t g → (spaced ≡ true → Stops is_blank g) → ((r : List ℕ) → ¬ (g ≡ 59 ∷ r))
@@ -218,7 +216,7 @@ pub param_once : (spaced : Bool) (t : List ℕ) (p q : ParamText) (r s : List �
 param_once spaced t p q r s a b =
     let names : (p.name ≡ q.name) × (a.later ≡ b.later) = name_once spaced t p.name a.later q.name b.later a.named b.named in
     let values : (p.value ≡ q.value) × (r ≡ s) =
-        value_once a.later p.value r q.value s a.valued (subst (λ (x : List ℕ). ReadsValue x q.value s) (sym names.1) b.valued) in
+    value_once a.later p.value r q.value s a.valued (subst (λ (x : List ℕ). ReadsValue x q.value s) (sym names.1) b.valued) in
     (param_same p q names.0 values.0, values.1)
 
 pub no_param_name : (spaced : Bool) (t : List ℕ) → ((n r : List ℕ) → ¬ (ReadsName spaced t n r)) → HasNoStep (ReadsParam spaced) t
@@ -267,8 +265,8 @@ value_named name p ps e = rw ((bytes_eq-Decides (lower p.name) (lower name)).1 e
 pub value_other : (name : List ℕ) (p : ParamText) (ps : List ParamText) → ¬ (lower p.name ≡ lower name) → value_of name (p ∷ ps) ≡ value_of name ps
 value_other name p ps h =
     elim (cases_bool (bytes_eq (lower p.name) (lower name))) [
-      inl is ↦ absurd (h ((bytes_eq-Decides (lower p.name) (lower name)).0 is))
-    | inr other ↦ rw other refl
+      | inl is ↦ absurd (h ((bytes_eq-Decides (lower p.name) (lower name)).0 is))
+      | inr other ↦ rw other refl
     ]
 
 pub none_named : (name : List ℕ) (ps : List ParamText) → value_of name ps ≡ None → (k : ℕ) (d : ParamText) → k < length ps → ¬ (lower (get_or ps k d).name ≡ lower name)
@@ -276,21 +274,21 @@ none_named name [] e k d l = absurd (omega arith)
 none_named name (p ∷ ps) e zero d l = λ same. some_not_none p.value (sym (value_named name p ps same) ∙ e)
 none_named name (p ∷ ps) e (suc k) d l =
     elim (cases_bool (bytes_eq (lower p.name) (lower name))) [
-      inl is ↦ absurd (some_not_none p.value (sym (value_named name p ps ((bytes_eq-Decides (lower p.name) (lower name)).0 is)) ∙ e))
-    | inr other ↦
-        let apart : ¬ (lower p.name ≡ lower name) = λ same. not_both (bytes_eq (lower p.name) (lower name)) ((bytes_eq-Decides (lower p.name) (lower name)).1 same) other in
-        none_named name ps (sym (value_other name p ps apart) ∙ e) k d (omega arith)
+      | inl is ↦ absurd (some_not_none p.value (sym (value_named name p ps ((bytes_eq-Decides (lower p.name) (lower name)).0 is)) ∙ e))
+      | inr other ↦
+          let apart : ¬ (lower p.name ≡ lower name) = λ same. not_both (bytes_eq (lower p.name) (lower name)) ((bytes_eq-Decides (lower p.name) (lower name)).1 same) other in
+          none_named name ps (sym (value_other name p ps apart) ∙ e) k d (omega arith)
     ]
 
 some_named : (name v : List ℕ) (ps : List ParamText) → value_of name ps ≡ Some v → (k : ℕ) × (k < length ps) × ((d : ParamText) → lower (get_or ps k d).name ≡ lower name)
 some_named name v [] e = absurd (some_not_none v (sym e))
 some_named name v (p ∷ ps) e =
     elim (cases_bool (bytes_eq (lower p.name) (lower name))) [
-      inl is ↦ (0, omega arith, λ d. (bytes_eq-Decides (lower p.name) (lower name)).0 is)
-    | inr other ↦
-        let apart : ¬ (lower p.name ≡ lower name) = λ same. not_both (bytes_eq (lower p.name) (lower name)) ((bytes_eq-Decides (lower p.name) (lower name)).1 same) other in
-        let later : (k : ℕ) × (k < length ps) × ((d : ParamText) → lower (get_or ps k d).name ≡ lower name) = some_named name v ps (sym (value_other name p ps apart) ∙ e) in
-        (suc later.0, omega (arith, later.1), later.2)
+      | inl is ↦ (0, omega arith, λ d. (bytes_eq-Decides (lower p.name) (lower name)).0 is)
+      | inr other ↦
+          let apart : ¬ (lower p.name ≡ lower name) = λ same. not_both (bytes_eq (lower p.name) (lower name)) ((bytes_eq-Decides (lower p.name) (lower name)).1 same) other in
+          let later : (k : ℕ) × (k < length ps) × ((d : ParamText) → lower (get_or ps k d).name ≡ lower name) = some_named name v ps (sym (value_other name p ps apart) ∙ e) in
+          (suc later.0, omega (arith, later.1), later.2)
     ]
 
 pub distinct_push : (ps : List ParamText) (p : ParamText) → AreDistinct ps → value_of p.name ps ≡ None → AreDistinct (ps ++ p ∷ [])

@@ -1,7 +1,7 @@
 -- What a piece between two delimiters is, and what one is that the body's end cuts off.
-use Rattle.std.proofs.Common.{◌≡◌, ◌≢◌, ℕ, zero, suc, ◌+◌, ◌-◌, ◌<◌, ◌≤◌, List, [], ◌∷◌, ◌++◌, length, take, drop, Bool, true, false, sym, refl, ap, ◌∙◌, subst, arith, Option, Some, None, MatchOption, MatchBool, is_some, IsTrue, ◌↔◌, ◌⊎◌, inl, inr, append_assoc}
-use Rattle.std.proofs.lemmas.List.{append_cancel_left, append-nil, length-append, take-append-drop, drop_at}
-use Rattle.memchr.specs.Find.{OccursAt, FindsNeedle, NoneBefore, IsFirst}
+use Rattle.std.proofs.Common.{◌≡◌, ℕ, ◌+◌, ◌<◌, ◌≤◌, List, [], ◌∷◌, ◌++◌, length, take, drop, Bool, false, sym, refl, ap, ◌∙◌, subst, arith, Option, Some, None, MatchOption, MatchBool, is_some, IsTrue, ◌↔◌, inl, inr, append_assoc}
+use Rattle.std.proofs.lemmas.List.{append_cancel_left, take-append-drop, drop_at}
+use Rattle.memchr.specs.Find.{OccursAt, FindsNeedle, IsFirst}
 use Rattle.std.proofs.Common.{Bor}
 use Rattle.soc_multipart.specs.declared.heads.Line.{Line}
 use Rattle.soc_multipart.specs.Views.{line_texts}
@@ -10,7 +10,7 @@ use Rattle.soc_multipart.specs.declared.heads.HeadEnd.TheVariants.{Content, Open
 use Rattle.soc_multipart.specs.Chains.{Chain, HasNoStep}
 use Rattle.soc_multipart.specs.Delimiters.{line_end}
 use Rattle.soc_multipart.specs.Heads.{head_limit, LineText, ReadsLine, IsHead, MayBeHead, EndsInContent, HasNoContent, IsHeadEnd}
-use Rattle.soc_multipart.specs.Parts.{PartText, EndsHead, HoldsHead, IsPart, HasNoLineEnd, CutsContent, CutsHead, MayBePart}
+use Rattle.soc_multipart.specs.Parts.{PartText, EndsHead, HoldsHead, IsPart, HasNoLineEnd, CutsHead, MayBePart}
 use Rattle.soc_multipart.proofs.ChainLemmas.{chain_once}
 use Rattle.soc_multipart.proofs.DispositionLemmas.{head_once}
 use Rattle.soc_multipart.proofs.DelimiterLemmas.{occurs_from_at, at_from_occurs}
@@ -33,7 +33,7 @@ ends_once tail c d (inr e) (inr g) = append_cancel_left line_end c d (sym e ∙ 
 pub holds_once : (piece : List ℕ) (ls ms : List LineText) (c d : List ℕ) → HoldsHead piece ls c → HoldsHead piece ms d → (ls ≡ ms) × (c ≡ d)
 holds_once piece ls ms c d a b =
     let both : (ls ≡ ms) × (a.tail ≡ b.tail) =
-        chain_once ReadsLine line_once piece ls ms a.tail b.tail a.in_order (ends_stuck a.tail c a.ends) b.in_order (ends_stuck b.tail d b.ends) in
+    chain_once ReadsLine line_once piece ls ms a.tail b.tail a.in_order (ends_stuck a.tail c a.ends) b.in_order (ends_stuck b.tail d b.ends) in
     (both.0, ends_once b.tail c d (subst (λ (x : List ℕ). EndsHead x c) both.1 a.ends) b.ends)
 
 -- a head that is open holds no content, unless its lines are the whole piece
@@ -77,15 +77,15 @@ pub part_once : (piece : List ℕ) (p q : PartText) → IsPart piece p → IsPar
 part_once piece p q a b =
     let both : (a.lines ≡ b.lines) × (p.content ≡ q.content) = holds_once piece a.lines b.lines p.content q.content a.holds b.holds in
     let heads : (p.name ≡ q.name) × (p.file ≡ q.file) × (p.kind ≡ q.kind) =
-        head_once b.lines p.name q.name p.kind q.kind p.file q.file
-        (subst (λ (x : List LineText). IsHead x p.name p.file p.kind) both.0 a.says) b.says in
+    head_once b.lines p.name q.name p.kind q.kind p.file q.file
+    (subst (λ (x : List LineText). IsHead x p.name p.file p.kind) both.0 a.says) b.says in
     part_same p q heads.0 heads.1 heads.2 both.1
 
 -- a line end in a text
 pub no_line_end_found : (text : List ℕ) → IsFirst (OccursAt text line_end) 0 (length text + 1) None → HasNoLineEnd text
 no_line_end_found text none front back e =
     let at : drop (0 + length front) text ≡ line_end ++ back =
-        ap (λ (n : ℕ). drop n text) (omega arith) ∙ (ap (drop (length front)) e ∙ drop_at front (line_end ++ back) (length front) refl) in
+    ap (λ (n : ℕ). drop n text) (omega arith) ∙ (ap (drop (length front)) e ∙ drop_at front (line_end ++ back) (length front) refl) in
     let o : OccursAt text line_end (length front) = occurs_from_at line_end text 0 (length front) back (omega arith) at in
     none (length front) (omega arith) (omega (arith, o.fits)) o
 
@@ -109,15 +109,16 @@ may_content piece c ls head r name file kind a h e = (forth head r h e, back hea
     forth : (head : Option _) (r : Bool) → MatchOption head ((name kind : List ℕ) (file : Option (List ℕ)) → ¬ (IsHead ls name file kind)) (λ x. IsHead ls (name x) (file x) (kind x)) → r ≡ is_some head → IsTrue r → MayBePart piece
     forth None r h e is = absurd (let clash : ⊥ = cc in clash)
     forth (Some x) r h e is = inl (record { lines = ls; content = c; name = name x; file = file x; kind = kind x; ends = a; says = h })
+
     back : (head : Option _) (r : Bool) → MatchOption head ((name kind : List ℕ) (file : Option (List ℕ)) → ¬ (IsHead ls name file kind)) (λ x. IsHead ls (name x) (file x) (kind x)) → r ≡ is_some head → MayBePart piece → IsTrue r
     back (Some x) r h e m = e
     back None r h e (inl k) =
         let same : ls ≡ k.lines =
-            (chain_once ReadsLine line_once piece ls k.lines (line_end ++ c) (line_end ++ k.content) a.in_order (line_end_stuck c) k.ends.in_order (line_end_stuck k.content)).0 in
+        (chain_once ReadsLine line_once piece ls k.lines (line_end ++ c) (line_end ++ k.content) a.in_order (line_end_stuck c) k.ends.in_order (line_end_stuck k.content)).0 in
         absurd (h k.name k.kind k.file (subst (λ (x : List LineText). IsHead x k.name k.file k.kind) (sym same) k.says))
     back None r h e (inr k) =
         let tails : line_end ++ c ≡ k.tail =
-            (chain_once ReadsLine line_once piece ls k.lines (line_end ++ c) k.tail a.in_order (line_end_stuck c) k.in_order (open_line_stuck k.tail k.open_line)).1 in
+        (chain_once ReadsLine line_once piece ls k.lines (line_end ++ c) k.tail a.in_order (line_end_stuck c) k.in_order (open_line_stuck k.tail k.open_line)).1 in
         absurd (k.open_line [] c (sym tails))
 
 pub long_open : (piece tail : List ℕ) (ls : List LineText) → Chain ReadsLine piece ls tail × HasNoContent piece × (length piece ≤ head_limit → HasNoStep ReadsLine tail)

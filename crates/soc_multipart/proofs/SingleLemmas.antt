@@ -1,5 +1,5 @@
 -- How the parts of a body with one short field are found again.
-use Rattle.std.proofs.Common.{◌≡◌, ℕ, List, ◌∷◌, ◌++◌, length, take, drop, codes, Bool, true, false, sym, refl, ap, ◌∙◌, subst, arith, MatchOption, IsTrue, ◌↔◌, Option, Some, None}
+use Rattle.std.proofs.Common.{◌≡◌, ℕ, List, ◌∷◌, ◌++◌, length, take, drop, codes, sym, refl, ap, ◌∙◌, subst, arith}
 use Rattle.std.specs.List.{prefix_len, AllPass}
 use Rattle.std.specs.Char.{is_ascii_alphabetic}
 use Rattle.std.proofs.lemmas.List.{append_cancel_left, append_cancel_right, take_at, drop_at, get_or_append_left, get_or_at, length-append, take-append-drop}

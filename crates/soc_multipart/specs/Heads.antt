@@ -1,6 +1,6 @@
 -- The head of a part (RFC 2046, section 5.1; RFC 7578, section 4), in this project's profile: lines of
 -- a token, a colon and a value, of which one is `Content-Disposition` and at most one `Content-Type`.
-use Rattle.std.specs.Prelude.{◌≡◌, ◌≢◌, ℕ, ◌+◌, ◌-◌, ◌<◌, ◌≤◌, ◌⊎◌, Bool, false, ◌||◌, ◌==◌, not, List, [], ◌∷◌, ◌++◌, length, take, drop, codes, Option, Some, if◌then◌else◌, ⊤}
+use Rattle.std.specs.Prelude.{◌≡◌, ℕ, ◌+◌, ◌-◌, ◌≤◌, Bool, false, ◌||◌, ◌==◌, not, List, [], ◌∷◌, ◌++◌, length, take, drop, codes, Option, Some, if◌then◌else◌, ⊤}
 use Rattle.std.specs.List.{AllPass, prefix_len, suffix_len}
 use Rattle.std.specs.Option.{option_map}
 use Rattle.std.specs.Str.{bytes_eq}

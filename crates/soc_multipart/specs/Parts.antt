@@ -1,6 +1,6 @@
 -- The parts of a multipart body (RFC 2046, section 5.1.1; RFC 7578) in this project's profile, and the
 -- first reason why a body has none.
-use Rattle.std.specs.Prelude.{◌≡◌, ◌≢◌, ℕ, ◌+◌, ◌<◌, ◌≤◌, ◌⊎◌, List, [], ◌∷◌, ◌++◌, length, Option}
+use Rattle.std.specs.Prelude.{◌≡◌, ◌≢◌, ℕ, ◌+◌, ◌<◌, ◌≤◌, ◌⊎◌, List, [], ◌++◌, length, Option}
 use Rattle.soc_multipart.specs.declared.parts.PartsError.{PartsError}
 use Rattle.soc_multipart.specs.declared.parts.PartsError.TheVariants.{BadBoundary, NoFirst, BadPartHead, NoClose, TooManyParts, NoMemory}
 use Rattle.soc_multipart.specs.Chains.{Chain}

@@ -3,8 +3,8 @@ ghost use Rattle.std.specs.Prelude.{◌≡◌, ◌++◌, ◌↔◌, List, ℕ, I
 ghost use Rattle.std.specs.List.{prefix_len};
 ghost use Rattle.soc_multipart.specs.Delimiters.{BeginsAt, EndsAs, EndsClosing, EndsLine, EndsNowise, EndsOpening, HasNoDelimiter, IsAt, IsAtDelimiter, IsBoundary, MeetsFirst, PartsRun, is_blank, is_boundary_byte as passes_boundary, line_end, mark_of};
 
-use crate::fronts::{after, strip_back, strip_front};
 use memchr::memmem::Finder;
+use soc_text::{after, strip_back, strip_front};
 
 /// The longest boundary, in bytes.
 const BOUNDARY_LIMIT: usize = 70;
@@ -65,7 +65,11 @@ pub fn next_delimiter<'a>(finder: &Finder<'_>, text: &'a [u8]) -> Option<Found<'
 
 /// How the first delimiter of a body ends, where it has one. The body is looked at as if CRLF stood
 /// before it.
-pub fn first_delimiter<'a>(finder: &Finder<'_>, boundary: &[u8], body: &'a [u8]) -> Option<Ending<'a>>
+pub fn first_delimiter<'a>(
+    finder: &Finder<'_>,
+    boundary: &[u8],
+    body: &'a [u8],
+) -> Option<Ending<'a>>
     requires { finder.now ≡ mark_of boundary.now }
     ensures { MatchOption result (HasNoDelimiter (mark_of boundary.now) (line_end ++ body.now)) (λ end. BeginsAt (mark_of boundary.now) (line_end ++ body.now) end) }
 {
@@ -133,5 +137,7 @@ pub fn split_blanks(text: &[u8]) -> (&[u8], &[u8])
 pub fn blanks_len(text: &[u8]) -> usize
     ensures { result ≡ prefix_len is_blank text.now }
 {
-    text.iter().take_while(|c| **c == b' ' || **c == b'\t').count()
+    text.iter()
+        .take_while(|c| **c == b' ' || **c == b'\t')
+        .count()
 }

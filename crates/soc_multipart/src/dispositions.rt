@@ -6,10 +6,10 @@ ghost use Rattle.soc_multipart.specs.Heads.{IsDisposition, IsHead, IsKind, MayBe
 ghost use Rattle.soc_multipart.specs.Params.{value_of};
 ghost use Rattle.soc_multipart.specs.Views.{line_texts, param_texts};
 
-use crate::fronts::strip_front;
 use crate::heads::{Line, Named, values_named};
 use crate::params::{Param, find_param, params};
 use soc_raw::{NoMemory, Text};
+use soc_text::strip_front;
 use std::alloc::Global;
 
 /// What a `Content-Disposition` line says.

@@ -7,9 +7,9 @@ ghost use Rattle.soc_multipart.specs.Heads.{IsHeadEnd, LineText, ReadsLine, head
 ghost use Rattle.soc_multipart.specs.Views.{EndsSo, HasValues, line_text, line_texts};
 
 use crate::delimiters::blanks_len;
-use crate::fronts::{after, strip_front};
 use crate::params::split_token;
 use soc_raw::NoMemory;
+use soc_text::{after, strip_front};
 use std::alloc::Global;
 
 /// The most bytes that a head has, its empty line counted.
@@ -122,7 +122,9 @@ fn split_line_bytes(text: &[u8]) -> (&[u8], &[u8])
 fn line_bytes_len(text: &[u8]) -> usize
     ensures { result ≡ prefix_len is_line_byte text.now }
 {
-    text.iter().take_while(|byte| !(**byte == b'\r' || **byte == b'\n')).count()
+    text.iter()
+        .take_while(|byte| !(**byte == b'\r' || **byte == b'\n'))
+        .count()
 }
 
 /// The values of the lines of this name, without regard to ASCII case.
@@ -159,5 +161,8 @@ pub fn trim_blanks(text: &[u8]) -> &[u8]
 fn end_blanks_len(text: &[u8]) -> usize
     ensures { result ≡ suffix_len is_blank text.now }
 {
-    text.iter().rev().take_while(|c| **c == b' ' || **c == b'\t').count()
+    text.iter()
+        .rev()
+        .take_while(|c| **c == b' ' || **c == b'\t')
+        .count()
 }

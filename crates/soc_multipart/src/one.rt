@@ -4,8 +4,8 @@ ghost use Rattle.std.specs.List.{prefix_len, AllPass};
 ghost use Rattle.std.specs.Char.{is_ascii_alphabetic};
 ghost use Rattle.soc_multipart.specs.Single.{IsMiddle, IsOneField, IsPlainBoundary, IsPlainName, IsSingle, SplitsAfterLetters, closed, is_printable, opened};
 
-use crate::fronts::{strip_back, strip_front};
 use soc_raw::{NoMemory, Text};
+use soc_text::{strip_back, strip_front};
 use std::alloc::Global;
 
 /// A name and its value.

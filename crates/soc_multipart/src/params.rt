@@ -6,8 +6,8 @@ ghost use Rattle.soc_multipart.specs.Params.{AreParams, EndsQuoted, EndsToken, P
 ghost use Rattle.soc_multipart.specs.Views.{param_text, param_texts};
 
 use crate::delimiters::split_blanks;
-use crate::fronts::strip_front;
 use soc_raw::NoMemory;
+use soc_text::strip_front;
 use std::alloc::Global;
 
 /// A parameter.
@@ -34,7 +34,11 @@ struct ReadParam<'a> {
 
 /// The parameters that `text` consists of, no two of one name. Where the form is spaced, blanks may
 /// stand before a semicolon.
-pub fn params<'a>(alloc: Global, spaced: bool, text: &'a [u8]) -> Result<Option<Vec<Param<'a>>>, NoMemory>
+pub fn params<'a>(
+    alloc: Global,
+    spaced: bool,
+    text: &'a [u8],
+) -> Result<Option<Vec<Param<'a>>>, NoMemory>
     ensures { IfOk result (λ found. MatchOption found ((params : List ParamText) → ¬ (AreParams spaced text.now params)) (λ params. AreParams spaced text.now (param_texts params.items))) }
 {
     let mut found = Vec::new(alloc);
@@ -53,7 +57,11 @@ pub fn params<'a>(alloc: Global, spaced: bool, text: &'a [u8]) -> Result<Option<
     Ok(Some(found))
 }
 
-fn read_param<'a>(alloc: Global, spaced: bool, text: &'a [u8]) -> Result<Option<ReadParam<'a>>, NoMemory>
+fn read_param<'a>(
+    alloc: Global,
+    spaced: bool,
+    text: &'a [u8],
+) -> Result<Option<ReadParam<'a>>, NoMemory>
     ensures { IfOk result (λ found. MatchOption found ((param : ParamText) (rest : List ℕ) → ¬ (ReadsParam spaced text.now param rest)) (λ read. ReadsParam spaced text.now (param_text read.param) read.rest.now)) }
 {
     let Some((name, later)) = read_name(spaced, text) else {
@@ -121,7 +129,10 @@ fn read_quoted<'a>(alloc: Global, text: &'a [u8]) -> Result<Option<ReadValue<'a>
             if begins_with_token_byte(behind) {
                 return Ok(None);
             }
-            return Ok(Some(ReadValue { value, rest: behind }));
+            return Ok(Some(ReadValue {
+                value,
+                rest: behind,
+            }));
         }
         let Some((byte, later)) = spelled_byte(rest) else {
             return Ok(None);

@@ -86,7 +86,11 @@ pub type Parts<'a> = Vec<Part<'a>>;
 
 /// The parts of `body`, which is a message's whole body, by its boundary (RFC 2046, section 5.1.1).
 /// Each content is a slice of the body. The refusal that stands first in the body decides.
-pub fn read_whole<'a>(alloc: Global, boundary: &[u8], body: &'a [u8]) -> Result<Parts<'a>, PartsError>
+pub fn read_whole<'a>(
+    alloc: Global,
+    boundary: &[u8],
+    body: &'a [u8],
+) -> Result<Parts<'a>, PartsError>
     ensures found { IfOk result (λ parts. Cut boundary.now body.now (part_texts parts.items)) }
     // Want of memory is free.
     ensures refused { IfErr result (λ error. (error ≡ WantsMemory) ⊎ CutFault boundary.now body.now error) }
@@ -116,14 +120,12 @@ pub fn read_whole<'a>(alloc: Global, boundary: &[u8], body: &'a [u8]) -> Result<
 /// At most one list of parts is the body's.
 pub fn cut_is_one()
     ensures { IsOneCut }
-{
-}
+{}
 
 /// A body has parts or a refusal, never both, and one refusal at most.
 pub fn fault_is_one()
     ensures { IsOneFault }
-{
-}
+{}
 
 /// A part, and how the delimiter ends that follows it.
 #[derive(Debug, Drop)]
@@ -133,7 +135,12 @@ struct ReadPart<'a> {
 }
 
 /// The part that `rest` begins with, which so many parts come before.
-fn read_part<'a>(alloc: Global, finder: &Finder<'_>, rest: &'a [u8], count: usize) -> Result<ReadPart<'a>, PartsError>
+fn read_part<'a>(
+    alloc: Global,
+    finder: &Finder<'_>,
+    rest: &'a [u8],
+    count: usize,
+) -> Result<ReadPart<'a>, PartsError>
     requires mark { 0 < length finder.now }
     requires few { count < parts_limit }
     ensures found { IfOk result (λ read. MeetsPart finder.now rest.now (part_text read.part) read.end) }

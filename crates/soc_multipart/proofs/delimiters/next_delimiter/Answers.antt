@@ -17,6 +17,6 @@ pub loop-at-preserved : goal.loop-at-preserved
 loop-at-preserved c = (
   found_inside _ _ _ _ c.loop-at.invariant.0 c.requires (found_in_rest _ _ _ _ c.after.ensures c.in-Some.ensures),
   clear_more _ _ _ _ c.requires c.loop-at.invariant.1
-  (found_in_rest _ _ _ _ c.after.ensures c.in-Some.ensures)
-  (subst EndsNowise (behind _ _ _ _ _ c.needle.ensures c.after-in-Some.ensures) c.in_default-end_of.ensures),
+      (found_in_rest _ _ _ _ c.after.ensures c.in-Some.ensures)
+      (subst EndsNowise (behind _ _ _ _ _ c.needle.ensures c.after-in-Some.ensures) c.in_default-end_of.ensures),
 )

@@ -1,4 +1,4 @@
-use Rattle.std.proofs.Common.{ℕ, ◌+◌, ◌-◌, ◌<◌, ◌≤◌, length, drop}
+use Rattle.std.proofs.Common.{ℕ, ◌-◌, ◌<◌, ◌≤◌, length, drop}
 use Rattle.soc_multipart.specs.Delimiters.{IsAtDelimiter}
 use Rattle.soc_multipart.proofs.delimiters.next_delimiter.Given as goal
 

@@ -28,10 +28,10 @@ loop-rest-preserved c =
     let now = texts_push _ c.loop-rest.found.items c.in-Some.read.param (pushed (c.in-Some.read.param ∷ []) refl c.in_ok-push.was c.push.ensures.items) in
     record {
       in_order =
-        chain_grow (ReadsParam c.args.spaced) _ _ _ _ _ _ c.loop-rest.invariant.in_order
-        (match_some _ _ _ _ c.in_ok-read.ensures c.in-Some.is) now;
+          chain_grow (ReadsParam c.args.spaced) _ _ _ _ _ _ c.loop-rest.invariant.in_order
+          (match_some _ _ _ _ c.in_ok-read.ensures c.in-Some.is) now;
       distinct =
-        subst AreDistinct (sym now)
-        (distinct_push _ (param_text c.in-Some.read.param) c.loop-rest.invariant.distinct
-        (absent_among _ _ _ c.as_slice.ensures.value (none_by_test _ _ _ _ c.find_param.ensures c.is_some.ensures c.if-is_some.false)));
+          subst AreDistinct (sym now)
+          (distinct_push _ (param_text c.in-Some.read.param) c.loop-rest.invariant.distinct
+          (absent_among _ _ _ c.as_slice.ensures.value (none_by_test _ _ _ _ c.find_param.ensures c.is_some.ensures c.if-is_some.false)));
     }

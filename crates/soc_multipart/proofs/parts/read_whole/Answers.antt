@@ -1,4 +1,4 @@
-use Rattle.std.proofs.Common.{[], ◌∷◌, refl, ◌∙◌, arith, rules, sym, ℕ, ◌≡◌, ◌<◌, ◌≤◌, length}
+use Rattle.std.proofs.Common.{[], ◌∷◌, refl, ◌∙◌, arith, rules, ◌≡◌, ◌<◌, length}
 use Rattle.std.proofs.lemmas.Result.{err_from_is_err_and}
 use Rattle.std.proofs.lemmas.Slice.{pushed}
 use Rattle.soc_multipart.specs.Parts.{parts_limit}
@@ -19,6 +19,6 @@ pub loop-end-preserved : goal.loop-end-preserved
 loop-end-preserved c = record {
   few = search rules;
   held =
-    held_more _ _ _ _ _ c.in_ok-read.read.part _ _ _ (c.new-finder.ensures ∙ (c.as_slice.ensures.value ∙ c.in_ok-mark.ensures)) c.in-Opening.is
-    c.loop-end.invariant.held c.in_ok-read.ensures.found (pushed (c.in_ok-read.read.part ∷ []) refl c.in_ok-push.was c.push.ensures.items);
+      held_more _ _ _ _ _ c.in_ok-read.read.part _ _ _ (c.new-finder.ensures ∙ (c.as_slice.ensures.value ∙ c.in_ok-mark.ensures)) c.in-Opening.is
+      c.loop-end.invariant.held c.in_ok-read.ensures.found (pushed (c.in_ok-read.read.part ∷ []) refl c.in_ok-push.was c.push.ensures.items);
 }
