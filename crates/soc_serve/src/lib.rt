@@ -13,3 +13,6 @@ mod words;
 
 pub use ending::End;
 pub use words::run_words;
+
+#[cfg(test)]
+mod tests;
