@@ -10,3 +10,4 @@ pub mod Memory
 pub mod Identity
 pub mod Registers
 pub mod Names
+pub mod Examples

@@ -17,6 +17,8 @@ mod part;
 pub mod registers;
 mod streams;
 mod system;
+#[cfg(test)]
+mod tests;
 mod thread;
 mod word;
 
