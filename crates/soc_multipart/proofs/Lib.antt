@@ -5,6 +5,7 @@ pub mod DelimiterLemmas
 pub mod DispositionLemmas
 pub mod EndLemmas
 pub mod FindLemmas
+pub mod FormLemmas
 pub mod HeadLemmas
 pub mod ParamLemmas
 pub mod PartLemmas

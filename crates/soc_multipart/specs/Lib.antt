@@ -1,8 +1,13 @@
 pub mod Chains
 pub mod Delimiters
+pub mod FieldViews
+pub mod Fields
+pub mod FormErrors
+pub mod FormLines
 pub mod Heads
 pub mod Params
 pub mod PartViews
 pub mod Parts
+pub mod Reasons
 pub mod Single
 pub mod Views

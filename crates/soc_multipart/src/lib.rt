@@ -4,12 +4,20 @@
 
 mod delimiters;
 mod dispositions;
+mod fields;
+mod form_error;
+mod form_lines;
 mod heads;
 mod one;
 mod params;
 mod parts;
+mod reasons;
 #[cfg(test)]
 mod tests;
 
+pub use fields::{Fields, dumps_of, plain_fields};
+pub use form_error::FormError;
+pub use form_lines::boundary_of;
 pub use one::{Field, single, single_is_one};
 pub use parts::{Part, Parts, PartsError, cut_is_one, fault_is_one, read_whole};
+pub use reasons::Reason;
