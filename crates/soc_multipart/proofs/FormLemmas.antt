@@ -28,7 +28,7 @@ unnamed_no_boundary value rest ps e a none b k =
 pub bad_no_boundary : (value rest c : List ℕ) (ps : List ParamText) → rest ≡ params_of value → AreParams true rest ps → value_of (codes "boundary") ps ≡ Some c → ¬ (IsBoundary c) → (b : List ℕ) → ¬ (HasBoundary value b)
 bad_no_boundary value rest c ps e a found bad b k =
     let same : b ≡ c =
-        some_same b c (sym k.named ∙ (ap (value_of (codes "boundary")) (sym (params_once true (params_of value) ps k.params (in_rest value rest ps e a) k.in_order)) ∙ found)) in
+    some_same b c (sym k.named ∙ (ap (value_of (codes "boundary")) (sym (params_once true (params_of value) ps k.params (in_rest value rest ps e a) k.in_order)) ∙ found)) in
     bad (subst IsBoundary same k.good)
 
 pub boundary_by_parts : (value rest c b : List ℕ) (ps : List ParamText) → rest ≡ params_of value → AreParams true rest ps → value_of (codes "boundary") ps ≡ Some c → IsBoundary c → b ≡ c → HasBoundary value b
@@ -44,6 +44,6 @@ pub one_type : (encoding : Option (List ℕ)) (kinds : List (List ℕ × List �
 one_type encoding [] n v value len p e f g h = absurd (omega arith)
 one_type encoding (k ∷ []) n v value len p e f g h =
     let whole : ◌≡◌ {A = List (List ℕ × List ℕ)} (k ∷ []) ((n, value) ∷ []) =
-        ap (λ (x : List ℕ × List ℕ). x ∷ []) (same_Some k (n, v) g ∙ ap (λ (y : List ℕ). (n, y)) (sym h)) in
+    ap (λ (x : List ℕ × List ℕ). x ∷ []) (same_Some k (n, v) g ∙ ap (λ (y : List ℕ). (n, y)) (sym h)) in
     record { name = n; plain = p; one = whole }
 one_type encoding (k ∷ m ∷ kinds) n v value len p e f g h = absurd (omega arith)

@@ -17,7 +17,11 @@ use std::alloc::Global;
 
 /// The boundary that the lines of a message name: its `Content-Encoding`, if it has one, and its
 /// `Content-Type` lines.
-pub fn boundary_of(alloc: Global, encoding: Option<&str>, kinds: &Pairs) -> Result<Vec<u8>, FormError>
+pub fn boundary_of(
+    alloc: Global,
+    encoding: Option<&str>,
+    kinds: &Pairs,
+) -> Result<Vec<u8>, FormError>
     ensures found { IfOk result (λ boundary. AreFormLines (option_copied encoding.entry) kinds.now boundary.items) }
     ensures refused { IfErr result (λ error. LinesRefusal (option_copied encoding.entry) kinds.now error) }
 {
