@@ -111,76 +111,112 @@ static TABLE: [Entry; 36] = [
 ];
 
 impl Field {
+    /// The field `abort_message`.
     pub const ABORT_MESSAGE: Field = Field { place: 0 };
 
+    /// The field `adapter_device_id`.
     pub const ADAPTER_DEVICE_ID: Field = Field { place: 1 };
 
+    /// The field `adapter_vendor_id`.
     pub const ADAPTER_VENDOR_ID: Field = Field { place: 2 };
 
+    /// The field `addons`.
     pub const ADDONS: Field = Field { place: 3 };
 
+    /// The field `address`.
     pub const ADDRESS: Field = Field { place: 4 };
 
+    /// The field `async_shutdown_timeout`.
     pub const ASYNC_SHUTDOWN_TIMEOUT: Field = Field { place: 5 };
 
+    /// The field `available_page_file`.
     pub const AVAILABLE_PAGE_FILE: Field = Field { place: 6 };
 
+    /// The field `build_id`.
     pub const BUILD_ID: Field = Field { place: 7 };
 
+    /// The field `cpu_arch`.
     pub const CPU_ARCH: Field = Field { place: 8 };
 
+    /// The field `cpu_count`.
     pub const CPU_COUNT: Field = Field { place: 9 };
 
+    /// The field `crashing_thread`.
     pub const CRASHING_THREAD: Field = Field { place: 10 };
 
+    /// The field `date`.
     pub const DATE: Field = Field { place: 11 };
 
+    /// The field `email`.
     pub const EMAIL: Field = Field { place: 12 };
 
+    /// The field `frame_count`.
     pub const FRAME_COUNT: Field = Field { place: 13 };
 
+    /// The field `install_age`.
     pub const INSTALL_AGE: Field = Field { place: 14 };
 
+    /// The field `ipc_channel_error`.
     pub const IPC_CHANNEL_ERROR: Field = Field { place: 15 };
 
+    /// The field `module_count`.
     pub const MODULE_COUNT: Field = Field { place: 16 };
 
+    /// The field `moz_crash_reason`.
     pub const MOZ_CRASH_REASON: Field = Field { place: 17 };
 
+    /// The field `notes`.
     pub const NOTES: Field = Field { place: 18 };
 
+    /// The field `oom_allocation_size`.
     pub const OOM_ALLOCATION_SIZE: Field = Field { place: 19 };
 
+    /// The field `platform`.
     pub const PLATFORM: Field = Field { place: 20 };
 
+    /// The field `platform_version`.
     pub const PLATFORM_VERSION: Field = Field { place: 21 };
 
+    /// The field `process_type`.
     pub const PROCESS_TYPE: Field = Field { place: 22 };
 
+    /// The field `product`.
     pub const PRODUCT: Field = Field { place: 23 };
 
+    /// The field `proto_signature`.
     pub const PROTO_SIGNATURE: Field = Field { place: 24 };
 
+    /// The field `reason`.
     pub const REASON: Field = Field { place: 25 };
 
+    /// The field `release_channel`.
     pub const RELEASE_CHANNEL: Field = Field { place: 26 };
 
+    /// The field `signature`.
     pub const SIGNATURE: Field = Field { place: 27 };
 
+    /// The field `startup_crash`.
     pub const STARTUP_CRASH: Field = Field { place: 28 };
 
+    /// The field `success`.
     pub const SUCCESS: Field = Field { place: 29 };
 
+    /// The field `throttle_rule`.
     pub const THROTTLE_RULE: Field = Field { place: 30 };
 
+    /// The field `uptime`.
     pub const UPTIME: Field = Field { place: 31 };
 
+    /// The field `url`.
     pub const URL: Field = Field { place: 32 };
 
+    /// The field `user_comments`.
     pub const USER_COMMENTS: Field = Field { place: 33 };
 
+    /// The field `uuid`.
     pub const UUID: Field = Field { place: 34 };
 
+    /// The field `version`.
     pub const VERSION: Field = Field { place: 35 };
 
     /// How many fields there are.

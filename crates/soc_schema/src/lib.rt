@@ -22,3 +22,6 @@ pub use row::Row;
 pub use sight::{granted, visible};
 pub use token::{Token, TokenError, Tokens};
 pub use value::{Cell, Value};
+
+#[cfg(test)]
+mod tests;

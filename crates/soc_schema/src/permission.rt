@@ -20,10 +20,14 @@ pub enum Permission {
 /// A set of permissions. `Permission::Public` is in each.
 #[derive(Clone, Copy, PartialEq, Eq, Debug)]
 pub struct Permissions {
-    protected_data: bool,
-    view_rawdump: bool,
-    reprocess_crashes: bool,
-    operate: bool,
+    /// Whether the set has `Permission::ProtectedData`.
+    pub protected_data: bool,
+    /// Whether the set has `Permission::ViewRawdump`.
+    pub view_rawdump: bool,
+    /// Whether the set has `Permission::ReprocessCrashes`.
+    pub reprocess_crashes: bool,
+    /// Whether the set has `Permission::Operate`.
+    pub operate: bool,
 }
 
 impl Permissions {
