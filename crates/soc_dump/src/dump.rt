@@ -1,5 +1,5 @@
 // A whole dump.
-ghost use Rattle.std.specs.Prelude.{◌≡◌, ◌≤◌, map, option_map};
+ghost use Rattle.std.specs.Prelude.{◌≡◌, ◌<◌, ◌≤◌, ◌^◌, IfSome, map, option_map};
 ghost use Rattle.soc_dump.specs.Checks.{IsRead};
 ghost use Rattle.soc_dump.specs.Dump.{dump_checks, contents_of, contents_checks, contents_in};
 ghost use Rattle.soc_dump.specs.Directory.{AllInside};
@@ -110,7 +110,8 @@ impl<'a> Dump<'a> {
     pub fn word_at(&self, address: u64, width: u8) -> Option<u64>
         requires some { 1 ≤ width }
         requires fits { width ≤ 8 }
-        ensures { result ≡ word_in (regions_of self.now) address width }
+        ensures value { result ≡ word_in (regions_of self.now) address width }
+        ensures small { IfSome result (λ word. word < 256 ^ width) }
     {
         find_word(
             self.memory.as_slice(),

@@ -1,8 +1,8 @@
 // The registers of a processor's context.
-ghost use Rattle.std.specs.Prelude.{◌≡◌, ◌<◌, ◌≤◌, ◌^◌};
+ghost use Rattle.std.specs.Prelude.{◌≡◌, ◌<◌, ◌≤◌, ◌^◌, IfSome};
 ghost use Rattle.soc_dump.specs.Registers.{register_of, amd64_register_of, x86_register_of};
 
-use crate::field::{Field, wide};
+use crate::field::{Field, narrow, wide};
 
 /// The least number of bytes of an AMD64 context.
 pub const AMD64_CONTEXT_SIZE: usize = 1232;
@@ -157,7 +157,8 @@ pub fn register(context: &[u8], field: Field) -> Option<u64>
     requires some { 1 ≤ field.width }
     requires fits { field.width ≤ 8 }
     requires small { field.offset < 2 ^ 32 }
-    ensures { result ≡ register_of context.now field }
+    ensures value { result ≡ register_of context.now field }
+    ensures fit { IfSome result (λ number. number < 256 ^ field.width) }
 {
     if field.offset + field.width <= context.len() {
         Some(wide(context, field))
@@ -179,10 +180,11 @@ pub fn amd64_register(context: &[u8], index: usize) -> Option<u64>
 
 /// The same of an x86 context.
 pub fn x86_register(context: &[u8], index: usize) -> Option<u64>
-    ensures { result ≡ x86_register_of context.now index }
+    ensures value { result ≡ x86_register_of context.now index }
+    ensures fit { IfSome result (λ number. number < 2 ^ 32) }
 {
     if context.len() < X86_CONTEXT_SIZE || X86_REGISTERS.len() <= index {
         return None;
     }
-    Some(wide(context, X86_REGISTERS[index]))
+    Some(narrow(context, X86_REGISTERS[index]) as u64)
 }

@@ -1,11 +1,11 @@
 // Words of the process's memory.
-ghost use Rattle.std.specs.Prelude.{◌≡◌, ◌≤◌, ◌++◌, IsTrue, find, map};
+ghost use Rattle.std.specs.Prelude.{◌≡◌, ◌<◌, ◌≤◌, ◌^◌, ◌++◌, IsTrue, IfSome, find, map};
 ghost use Rattle.soc_dump.specs.Memory.{holds_word, word_of, word_in, stack_of};
 ghost use Rattle.soc_dump.specs.Views.{memory_entry, thread_entry};
 
+use crate::field::{Field, wide};
 use crate::memory::Region;
 use crate::thread::Thread;
-use byteorder::{ByteOrder, LittleEndian};
 
 /// Whether a region has all bytes of a word.
 fn holds(region: Region<'_>, address: u64, width: usize) -> bool
@@ -24,10 +24,11 @@ fn word_of_region(region: Region<'_>, address: u64, width: usize) -> u64
     requires some { 1 ≤ width }
     requires fits { width ≤ 8 }
     requires held { IsTrue (holds_word address width (memory_entry region)) }
-    ensures { result ≡ word_of address width (memory_entry region.entry) }
+    ensures value { result ≡ word_of address width (memory_entry region.entry) }
+    ensures small { result < 256 ^ width }
 {
-    let offset = address - region.start;
-    LittleEndian::read_uint(&region.bytes[offset as usize..], width)
+    let offset = (address - region.start) as usize;
+    wide(region.bytes, Field { offset, width })
 }
 
 /// The stack of a thread.
@@ -70,7 +71,8 @@ pub fn find_word(
 ) -> Option<u64>
     requires some { 1 ≤ width }
     requires fits { width ≤ 8 }
-    ensures { result ≡ word_in (map memory_entry regions.now ++ map stack_of (map thread_entry threads.now)) address width }
+    ensures value { result ≡ word_in (map memory_entry regions.now ++ map stack_of (map thread_entry threads.now)) address width }
+    ensures small { IfSome result (λ word. word < 256 ^ width) }
 {
     if let Some(region) = find_region(regions, address, width) {
         return Some(word_of_region(region, address, width));

@@ -8,13 +8,13 @@ pub word_of_region-requires-clause-held : goal.word_of_region-requires-clause-he
 word_of_region-requires-clause-held c =
     find-passes (λ r. holds_word c.args.address c.args.width (memory_entry r)) c.args.regions.now c.in-Some.region c.in-Some.ensures
 
-pub returns-in-Some : goal.returns-in-Some
-returns-in-Some c =
-    ap Some c.word_of_region.ensures
+pub returns-in-Some-clause-value : goal.returns-in-Some-clause-value
+returns-in-Some-clause-value c =
+    ap Some c.word_of_region.ensures.value
     ∙ word_in-memory c.args.regions.now c.args.threads.now c.args.address c.args.width c.in-Some.region c.in-Some.ensures
 
-pub returns-in_err-thread : goal.returns-in_err-thread
-returns-in_err-thread c =
+pub returns-in_err-thread-clause-value : goal.returns-in_err-thread-clause-value
+returns-in_err-thread-clause-value c =
     c.from_residual.ensures
     ∙ word_in-none c.args.regions.now c.args.threads.now c.args.address c.args.width c.in_default.ensures c.in_err-thread.ensures
 
@@ -22,7 +22,7 @@ pub word_of_region-requires-2-clause-held : goal.word_of_region-requires-2-claus
 word_of_region-requires-2-clause-held c =
     holds_word-same c.args.address c.args.width _ (stack_of (thread_entry c.in_ok-thread.thread)) c.stack_region.ensures (find-passes (λ t. holds_word c.args.address c.args.width (stack_of (thread_entry t))) c.args.threads.now c.in_ok-thread.thread c.in_ok-thread.ensures)
 
-pub returns : goal.returns
-returns c =
-    ap Some (c.word_of_region-2.ensures ∙ ap (word_of c.args.address c.args.width) c.stack_region.ensures)
+pub returns-clause-value : goal.returns-clause-value
+returns-clause-value c =
+    ap Some (c.word_of_region-2.ensures.value ∙ ap (word_of c.args.address c.args.width) c.stack_region.ensures)
     ∙ word_in-stack c.args.regions.now c.args.threads.now c.args.address c.args.width c.in_ok-thread.thread c.in_default.ensures c.in_ok-thread.ensures
