@@ -6,3 +6,4 @@ pub mod BlockLemmas
 pub mod WindowLemmas
 pub mod HeadLemmas
 pub mod BodyLemmas
+pub mod BoundLemmas

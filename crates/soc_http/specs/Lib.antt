@@ -8,3 +8,4 @@ pub mod Pieces
 pub mod Query
 pub mod Route
 pub mod Body
+pub mod Examples

@@ -1,5 +1,5 @@
 -- What the head of a request says of its message (RFC 9112, sections 3 and 6; RFC 9110, section 8.6), as far as this service takes it.
-use Rattle.std.specs.Prelude.{ℕ, ◌==◌, Bool, true, false, ◌&&◌, ◌||◌, if◌then◌else◌, nat_lt, nat_le, List, [], ◌∷◌, length, map, filter, codes, Result, Ok, Err, bytes_eq}
+use Rattle.std.specs.Prelude.{ℕ, ◌≤◌, ◌==◌, Bool, true, false, ◌&&◌, ◌||◌, if◌then◌else◌, nat_lt, nat_le, List, [], ◌∷◌, length, map, filter, codes, Result, Ok, Err, bytes_eq}
 use Rattle.std.specs.List.{list_all, list_any, before_first, after_first}
 use Rattle.std.specs.Char.{is_ascii_digit}
 use Rattle.std.specs.Str.{str_eq_ignore_ascii_case}
@@ -7,6 +7,7 @@ use Rattle.std.specs.Str.Parse.{digits_value}
 use Rattle.std.specs.Str.Lossy.{utf8_lossy}
 use Rattle.httparse.specs.Grammar.{RequestHead}
 use Rattle.httparse.specs.Spans.{name_and_value}
+use Rattle.soc_http.specs.Block.{block_limit}
 use Rattle.soc_http.specs.declared.verb.Verb.{Verb}
 use Rattle.soc_http.specs.declared.verb.Verb.TheVariants.{Get, Post, Other}
 use Rattle.soc_http.specs.declared.framing.Stated.{Stated}
@@ -100,3 +101,8 @@ head_of bytes request length = record {
   bytes = bytes;
   last = is_last request;
 }
+
+-- the head and its body are no larger than they may be
+pub record IsWithinLimits (head : Head) : Type 0 where
+  pub length : head.length ≤ body_limit
+  pub bytes : head.bytes ≤ block_limit

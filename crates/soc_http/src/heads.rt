@@ -1,6 +1,7 @@
 // Reading heads from a source.
-ghost use Rattle.std.specs.Prelude.{◌≡◌, ◌≤◌, IfErr};
+ghost use Rattle.std.specs.Prelude.{◌≡◌, ◌≤◌, IfOk, IfErr, IfSome};
 ghost use Rattle.soc_edge.specs.Faults.{Rose};
+ghost use Rattle.soc_http.specs.Request.{IsWithinLimits};
 ghost use Rattle.soc_http.specs.Reading.{Fills, IsSearched, ReadsHeadFrom, ReadsHeadAhead, ahead};
 
 use crate::block::read_block;
@@ -83,6 +84,7 @@ pub fn read_head<S: Source>(
 ) -> Result<Option<Head>, HeadError>
     ensures reads { ReadsHeadAhead (ahead buffer.old (S.left source.old)) result (ahead buffer.new (S.left source.new)) }
     ensures from { ReadsHeadFrom (S.left source.old) (S.left source.new) buffer.old result buffer.new }
+    ensures within { IfOk result (λ found. IfSome found IsWithinLimits) }
     ensures cause { IfErr result
         (λ error. error ≡ HeadError.ReadFault → Rose (S.read_faults source.old) (S.read_faults source.new)) }
     ensures never_falls { S.read_faults source.old ≤ S.read_faults source.new }
