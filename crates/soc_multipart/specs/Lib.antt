@@ -1,5 +1,6 @@
 pub mod Chains
 pub mod Delimiters
+pub mod Extras
 pub mod FieldViews
 pub mod Fields
 pub mod FormErrors

@@ -4,6 +4,7 @@
 
 mod delimiters;
 mod dispositions;
+mod extras;
 mod fields;
 mod form_error;
 mod form_lines;
