@@ -1,5 +1,5 @@
 -- The boundary among the parameters of a `Content-Type`.
-use Rattle.std.proofs.Common.{◌≡◌, ◌≢◌, ℕ, List, [], ◌∷◌, length, Bool, true, false, sym, refl, ap, ◌∙◌, subst, codes, Option, Some, None}
+use Rattle.std.proofs.Common.{◌≡◌, ℕ, List, [], ◌∷◌, length, true, sym, ap, ◌∙◌, subst, codes, Option, Some, None}
 use Rattle.soc_multipart.specs.Delimiters.{IsBoundary}
 use Rattle.soc_multipart.specs.Params.{ParamText, AreParams, value_of}
 use Rattle.std.proofs.Common.{drop, slice_get, arith}

@@ -9,4 +9,6 @@ pub mod FormLemmas
 pub mod HeadLemmas
 pub mod ParamLemmas
 pub mod PartLemmas
+pub mod RefusalLemmas
 pub mod SingleLemmas
+pub mod SubmissionLemmas

@@ -1,5 +1,5 @@
 -- The JSON part of a form, as `serde_json` reads it (RFC 8259), in this project's profile.
-use Rattle.std.specs.Prelude.{◌≡◌, ℕ, Bool, false, List, Option, None, Some, IsUtf8, unwrap_or}
+use Rattle.std.specs.Prelude.{◌≡◌, ℕ, false, List, Some, IsUtf8, unwrap_or}
 use Rattle.serde_json.specs.Data.{Data, object, Members, no_members, member}
 use Rattle.serde_json.specs.Read.{read as read_text}
 use Rattle.serde_json.specs.Find.{as_str}

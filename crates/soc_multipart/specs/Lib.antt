@@ -11,4 +11,6 @@ pub mod PartViews
 pub mod Parts
 pub mod Reasons
 pub mod Single
+pub mod SubmissionViews
+pub mod Submissions
 pub mod Views

@@ -38,7 +38,11 @@ pub fn read_extra(alloc: Global, content: &[u8]) -> Result<Option<Value>, NoMemo
 }
 
 /// The fields with each member of the object.
-pub fn with_members(alloc: Global, fields: Fields, members: &Map<String, Value>) -> Result<Fields, NoMemory>
+pub fn with_members(
+    alloc: Global,
+    fields: Fields,
+    members: &Map<String, Value>,
+) -> Result<Fields, NoMemory>
     requires { members_have_float (members_view members.now.entries) ≡ false }
     ensures { IfOk result (λ new. fields_text new ≡ with_members (fields_text fields) (members_view members.now.entries)) }
 {

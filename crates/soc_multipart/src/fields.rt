@@ -1,6 +1,6 @@
 // What the parts of a form add up to: annotations and dumps.
 ghost use Rattle.std.specs.Prelude.{◌≡◌, IfOk};
-ghost use Rattle.soc_multipart.specs.Fields.{dump_step, dumps_of, is_dump, is_extra, is_plain, plain_fields, plain_step, put};
+ghost use Rattle.soc_multipart.specs.Fields.{dump_step, dumps_of, is_dump, is_extra, is_plain, no_fields, plain_fields, plain_step, put};
 ghost use Rattle.soc_multipart.specs.FieldViews.{fields_text};
 ghost use Rattle.soc_multipart.specs.PartViews.{part_text, part_texts};
 
@@ -18,14 +18,21 @@ pub struct Fields {
     pub annotations: Texts,
 }
 
+/// No fields yet.
+pub fn no_fields(alloc: Global) -> Fields
+    ensures { fields_text result ≡ no_fields }
+{
+    Fields {
+        sent: None,
+        annotations: Texts::new(alloc),
+    }
+}
+
 /// What the plain parts say.
 pub fn plain_fields(alloc: Global, parts: &[Part<'_>]) -> Result<Fields, NoMemory>
     ensures { IfOk result (λ fields. fields_text fields ≡ plain_fields (part_texts parts.now)) }
 {
-    let mut fields = Fields {
-        sent: None,
-        annotations: Texts::new(alloc),
-    };
+    let mut fields = no_fields(alloc);
     for part in parts {
         fields = plain_step(alloc, fields, part)?;
     }

@@ -13,12 +13,12 @@ mod one;
 mod params;
 mod parts;
 mod reasons;
+mod submissions;
 #[cfg(test)]
 mod tests;
 
-pub use fields::{Fields, dumps_of, plain_fields};
 pub use form_error::FormError;
-pub use form_lines::boundary_of;
 pub use one::{Field, single, single_is_one};
 pub use parts::{Part, Parts, PartsError, cut_is_one, fault_is_one, read_whole};
 pub use reasons::Reason;
+pub use submissions::{Submission, read_submission};

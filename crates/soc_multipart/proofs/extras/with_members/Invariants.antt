@@ -10,6 +10,6 @@ abbrev pub invariant-loop-key : goal.invariant-loop-key
 invariant-loop-key l = record {
   exact : members_have_float (members_view l.key-iterator) ≡ false;
   same :
-    with_members (fields_text l.new) (members_view l.key-iterator)
-    ≡ with_members (fields_text l.initial.new) (members_view l.initial.key-iterator);
+      with_members (fields_text l.new) (members_view l.key-iterator)
+      ≡ with_members (fields_text l.initial.new) (members_view l.initial.key-iterator);
 }
