@@ -26,6 +26,12 @@ const MESSAGE: &[u8] =
 const REPLY: &[u8] =
     b"HTTP/1.1 200 OK\r\nContent-Type: text/plain\r\nContent-Length: 48\r\n\r\nCrashID=bp-de1bb258-cbbf-4589-a673-34f800160918\n";
 
+const MESSAGE_AND_MORE: &[u8] =
+    b"POST /submit HTTP/1.1\r\nHost: h\r\nContent-Type: multipart/form-data; boundary=b\r\nContent-Length: 75\r\n\r\n--b\r\nContent-Disposition: form-data; name=\"ProductName\"\r\n\r\nFirefox\r\n--b--\r\nx";
+
+const REPLY_AND_REFUSAL: &[u8] =
+    b"HTTP/1.1 200 OK\r\nContent-Type: text/plain\r\nContent-Length: 48\r\n\r\nCrashID=bp-de1bb258-cbbf-4589-a673-34f800160918\nHTTP/1.1 501 Not Implemented\r\nContent-Type: text/plain\r\nContent-Length: 10\r\nConnection: close\r\n\r\nnot built\n";
+
 const REPLY_TO_ONES: &[u8] =
     b"HTTP/1.1 200 OK\r\nContent-Type: text/plain\r\nContent-Length: 48\r\n\r\nCrashID=bp-ffffffff-ffff-4fff-bfff-fffff0160918\n";
 
@@ -100,6 +106,16 @@ fn other_input(rt: HostRuntime) -> Result<(), Fail> {
     let get = b"GET / HTTP/1.1\r\nHost: h\r\n\r\n";
     let refused = run(rt.alloc(), "replay", get, None, None, MORNING, DRAW);
     expect(&rt, refused, 1, NOT_BUILT)?;
+    let more = run(
+        rt.alloc(),
+        "replay",
+        MESSAGE_AND_MORE,
+        None,
+        None,
+        MORNING,
+        DRAW,
+    );
+    expect(&rt, more, 1, REPLY_AND_REFUSAL)?;
     let words = run(rt.alloc(), "play", b"", None, None, MORNING, DRAW);
     expect(
         &rt,
@@ -113,6 +129,18 @@ fn other_input(rt: HostRuntime) -> Result<(), Fail> {
 fn faults(rt: HostRuntime) -> Result<(), Fail> {
     let read = run(rt.alloc(), "replay", MESSAGE, Some(0), None, MORNING, DRAW);
     expect(&rt, read, 6, b"")?;
+    let part = run(
+        rt.alloc(),
+        "replay",
+        &MESSAGE[..100],
+        Some(1),
+        None,
+        MORNING,
+        DRAW,
+    );
+    expect(&rt, part, 6, b"")?;
+    let behind = run(rt.alloc(), "replay", MESSAGE, Some(1), None, MORNING, DRAW);
+    expect(&rt, behind, 6, REPLY)?;
     let write = run(rt.alloc(), "replay", MESSAGE, None, Some(1), MORNING, DRAW);
     expect(&rt, write, 7, &REPLY[..76])
 }

@@ -1,4 +1,5 @@
 //! The system's clock.
+ghost use Rattle.std.specs.Prelude.{◌≡◌, max, min};
 ghost use Rattle.soc_raw.specs.Day.{IsMoment};
 
 use soc_edge::Clock;
@@ -45,7 +46,8 @@ fn seconds<R: time::Clock>(rt: &R) -> u64 {
 
 /// The nearest moment of the years 2000 to 2099.
 fn held(seconds: u64) -> u64
-    ensures { IsMoment result }
+    ensures range { IsMoment result }
+    ensures nearest { result ≡ max 946_684_800 (min seconds 4_102_444_799) }
 {
     seconds.clamp(FIRST, LAST)
 }

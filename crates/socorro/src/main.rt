@@ -4,6 +4,8 @@
 mod clock;
 mod draws;
 mod streams;
+#[cfg(test)]
+mod tests;
 
 use clock::SystemClock;
 use draws::SystemDraws;
