@@ -1,0 +1,5 @@
+pub mod LogLemmas
+pub mod MemoryLemmas
+pub mod PlaceLemmas
+pub mod StepLemmas
+pub mod ViewLemmas

@@ -1,0 +1,8 @@
+pub mod Basis
+pub mod Desk
+pub mod Kinds
+pub mod Laws
+pub mod Log
+pub mod Memory
+pub mod View
+mod Examples
