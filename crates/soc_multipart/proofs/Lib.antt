@@ -7,6 +7,7 @@ pub mod EndLemmas
 pub mod FindLemmas
 pub mod FormLemmas
 pub mod HeadLemmas
+pub mod LawLemmas
 pub mod ParamLemmas
 pub mod PartLemmas
 pub mod RefusalLemmas

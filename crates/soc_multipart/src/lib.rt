@@ -1,5 +1,5 @@
-//! The bodies of `multipart/form-data` messages (RFC 2046, section 5.1.1; RFC 7578): the parts of a whole
-//! body, and bodies of one short field alone.
+//! Messages of `multipart/form-data` (RFC 2046, section 5.1.1; RFC 7578): the parts of a whole body, the
+//! submission that a message is, and bodies of one short field alone.
 #![tactic(auto)]
 
 mod delimiters;
@@ -21,4 +21,4 @@ pub use form_error::FormError;
 pub use one::{Field, single, single_is_one};
 pub use parts::{Part, Parts, PartsError, cut_is_one, fault_is_one, read_whole};
 pub use reasons::Reason;
-pub use submissions::{Submission, read_submission};
+pub use submissions::{Submission, read_submission, submission_is_one};

@@ -7,7 +7,7 @@ ghost use Rattle.soc_multipart.specs.FieldViews.{fields_text};
 ghost use Rattle.soc_multipart.specs.Fields.{is_extra as is_extra_text, is_plain as is_plain_text};
 ghost use Rattle.soc_multipart.specs.Parts.{CutFault};
 ghost use Rattle.soc_multipart.specs.PartViews.{part_texts};
-ghost use Rattle.soc_multipart.specs.Submissions.{BodyRefusal, IsSentId, SaysFields, SaysRefusal, SaysSubmission, SubmissionOf, SubmissionRefusal};
+ghost use Rattle.soc_multipart.specs.Submissions.{BodyRefusal, IsOneSubmission, IsSentId, SaysFields, SaysRefusal, SaysSubmission, SubmissionOf, SubmissionRefusal};
 ghost use Rattle.soc_multipart.specs.SubmissionViews.{HasNextExtra, submission_text};
 
 use crate::extras::{read_extra, with_members};
@@ -56,6 +56,11 @@ pub fn read_submission(
         Err(error) => Err(error),
     }
 }
+
+/// A message is one submission at most, and none that has a reason to be refused.
+pub fn submission_is_one()
+    ensures { IsOneSubmission }
+{}
 
 fn form_error(error: PartsError) -> FormError
     ensures { (boundary body : List ℕ) → IsBoundary boundary → (error ≡ WantsMemory) ⊎ CutFault boundary body error → BodyRefusal boundary body result }
