@@ -22,8 +22,8 @@ use Rattle.soc_book.specs.declared.entry.Entry.TheVariants.{Held, Done}
 use Rattle.soc_schema.specs.declared.caller.Caller.{Caller}
 use Rattle.soc_book.specs.View.{view_of}
 use Rattle.soc_book.specs.Basis.{Basis}
-use Rattle.soc_book.specs.Log.{Change, keep, done, stop, Kept, accept, ask, withdraw, report, Accepted, is_accept_of, was_accepted, was_withdrawn, is_of_run, raw_of, due_since, due_since_back, due_after, row_in, row_back, row_after, due_of, is_due_at_once, IsLegal, IsLegalBack, IsLegalNext, accept_count, accepted_in, crashes_of, has_stop, is_ask}
-use Rattle.soc_book.specs.Memory.{log_of, change_of, place_of, IsMemoryDesk}
+use Rattle.soc_book.specs.Log.{Change, keep, done, stop, Kept, accept, ask, withdraw, report, Accepted, is_accept_of, was_accepted, was_withdrawn, is_of_run, raw_of, due_since, due_since_back, due_after, row_in, row_back, row_after, due_of, is_due_at_once, IsLegal, IsLegalBack, IsLegalNext, accept_count, accepted_in, crashes_of, has_stop, is_ask, rows_of}
+use Rattle.soc_book.specs.Memory.{log_of, change_of, place_of, has_row, IsMemoryDesk}
 use Rattle.soc_book.proofs.LogLemmas.{reverse-more, row_in-more, due_of-accept, due_of-first_done, first_is_due}
 use Rattle.soc_book.proofs.PlaceLemmas.{none-some, or_left, or_right, list_any-reverse, find-none, position_from-new, position_from-none, none-position_from, position_from-other, position_from-at, FoundAt}
 use Rattle.soc_book.proofs.ViewLemmas.{value_of-with_value, turned_eq, has_id, IsApart, seen_at, view_finds}
@@ -321,3 +321,42 @@ pub no_ask : (entries : List Entry) → list_any is_ask (log_of entries) ≡ fal
 no_ask [] = refl
 no_ask (Held raw ∷ entries) = no_ask entries
 no_ask (Done id ∷ entries) = no_ask entries
+
+-- ---- counts
+
+count-cons : {A : Type 0} (p : A → Bool) (x : A) (xs : List A) → count_by p (x ∷ xs) ≡ (if p x then 1 else 0) + count_by p xs
+count-cons p x xs = sum_by-append (λ y. cond (p y) 1 0) (x ∷ []) xs ∙ ap (λ n. n + count_by p xs) (zero-add (cond (p x) 1 0))
+
+pub asks_none : (entries : List Entry) → count_by is_ask (log_of entries) ≡ 0
+asks_none [] = refl
+asks_none (Held raw ∷ entries) = count-cons is_ask (change_of (Held raw)) (log_of entries) ∙ (zero-add (count_by is_ask (log_of entries)) ∙ asks_none entries)
+asks_none (Done id ∷ entries) = count-cons is_ask (change_of (Done id)) (log_of entries) ∙ (zero-add (count_by is_ask (log_of entries)) ∙ asks_none entries)
+
+-- a crash and its row, where it has one
+abbrev row_found : Basis → List Change → Accepted → Option (List ℕ × List Cell)
+row_found basis log crash = option_map (λ (row : List Cell). (crash.id, row)) (row_in basis log crash.id)
+
+count_of_row : (basis : Basis) (log : List Change) (rows : List (List ℕ × List Cell)) (crash : Accepted) (rest : List (List ℕ × List Cell)) → value_of rows crash.id ≡ row_in basis log crash.id
+    → length (cons_option (row_found basis log crash) rest) ≡ (if is_some (value_of rows crash.id) then 1 else 0) + length rest
+count_of_row basis log rows crash rest same =
+    elim (row_in basis log crash.id) as (λ o. length (cons_option (option_map (λ (row : List Cell). (crash.id, row)) o) rest) ≡ (if is_some o then 1 else 0) + length rest) [
+      | None ↦ sym (zero-add (length rest))
+      | Some row ↦ let e : length ((crash.id, row) ∷ rest) ≡ 1 + length rest = omega arith in e
+    ] ∙ sym (ap (λ o. (if is_some o then 1 else 0) + length rest) same)
+
+rows_counted : (basis : Basis) (log : List Change) (rows : List (List ℕ × List Cell)) → ((id : List ℕ) → value_of rows id ≡ row_in basis log id) → ((id : List ℕ) → was_withdrawn log id ≡ false)
+    → (entries : List Entry) → length (filter_map (row_found basis log) (filter (stays log) (filter_map accepted_in (log_of entries)))) ≡ count_by (has_row rows) entries
+rows_counted basis log rows same here [] = refl
+rows_counted basis log rows same here (Held raw ∷ entries) =
+    let crash : Accepted = record { id = raw.id; raw = Some (crash_of raw) } in
+    let others : List Accepted = filter (stays log) (filter_map accepted_in (log_of entries)) in
+    ap (λ b. length (filter_map (row_found basis log) (cond (not b) (crash ∷ others) others))) (here raw.id)
+    ∙ (count_of_row basis log rows crash (filter_map (row_found basis log) others) (same raw.id)
+    ∙ (ap (λ n. (if is_some (value_of rows raw.id) then 1 else 0) + n) (rows_counted basis log rows same here entries)
+    ∙ sym (count-cons (has_row rows) (Held raw) entries)))
+rows_counted basis log rows same here (Done id ∷ entries) =
+    rows_counted basis log rows same here entries ∙ (sym (zero-add (count_by (has_row rows) entries)) ∙ sym (count-cons (has_row rows) (Done id) entries))
+
+pub reports_counted : (basis : Basis) (entries : List Entry) (places : List (List ℕ × ℕ)) (rows : List (List ℕ × List Cell)) (due : List (List ℕ)) (crashes : ℕ)
+    → IsMemoryDesk basis entries places rows due crashes → count_by (has_row rows) entries ≡ length (rows_of basis (log_of entries))
+reports_counted basis entries places rows due crashes desk = sym (rows_counted basis (log_of entries) rows desk.reports (no_withdrawal entries) entries)

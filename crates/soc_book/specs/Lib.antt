@@ -4,5 +4,6 @@ pub mod Kinds
 pub mod Laws
 pub mod Log
 pub mod Memory
+pub mod Small
 pub mod View
 mod Examples

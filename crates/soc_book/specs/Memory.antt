@@ -1,5 +1,5 @@
 -- The desk in memory: what contracts see of it, and how its entries, its index and its queue stand to its log.
-use Rattle.std.specs.Prelude.{◌≡◌, ℕ, List, [], ◌∷◌, ◌++◌, map, length, Option, Some, None, MatchOption, Bool, true, false}
+use Rattle.std.specs.Prelude.{◌≡◌, ℕ, List, [], ◌∷◌, ◌++◌, map, length, Option, Some, None, MatchOption, is_some, Bool, true, false}
 use Rattle.std.specs.List.{position_from}
 use Rattle.soc_raw.specs.Names.{value_of}
 use Rattle.soc_raw.specs.RawCrash.{crash_of}
@@ -41,6 +41,11 @@ change_of (Done id) = done id
 
 abbrev pub log_of : List Entry → List Change
 log_of entries = map change_of entries
+
+-- the entry is a crash that has a row
+abbrev pub has_row : List (List ℕ × List Cell) → Entry → Bool
+has_row rows (Held raw) = is_some (value_of rows raw.id)
+has_row rows (Done id) = false
 
 -- the place of the crash of an id
 abbrev pub place_of : List ℕ → List Change → Option ℕ

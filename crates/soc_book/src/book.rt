@@ -1,12 +1,12 @@
 // The desk in memory.
-ghost use Rattle.std.specs.Prelude.{◌≡◌, ◌<◌, ◌++◌, ◌∷◌, [], length, Some, OnOk, OnErr, false, option_map, if◌then◌else◌, slice_get};
+ghost use Rattle.std.specs.Prelude.{◌≡◌, ◌<◌, ◌++◌, ◌∷◌, [], length, count_by, Some, OnOk, OnErr, false, option_map, if◌then◌else◌, slice_get};
 ghost use Rattle.std.specs.VecDeque.{deque_len, deque_capacity};
 ghost use Rattle.soc_raw.specs.RawCrash.{crash_of};
 ghost use Rattle.soc_schema.specs.declared.caller.Caller.{Caller};
 ghost use Rattle.soc_book.specs.Desk.{DrainsBy, StepProcessed, accepting, settled};
 ghost use Rattle.soc_book.specs.Kinds.{IsReplyTo};
-ghost use Rattle.soc_book.specs.Log.{IsLegal, keep, accept_count, due_of, has_stop, is_due_at_once, raw_of, was_accepted, was_withdrawn};
-ghost use Rattle.soc_book.specs.Memory.{IsFound, StepsInMemory, TurnsFirst, desk_basis, log_of, place_of};
+ghost use Rattle.soc_book.specs.Log.{IsLegal, keep, accept_count, due_of, has_stop, is_ask, is_due_at_once, raw_of, rows_of, was_accepted, was_withdrawn};
+ghost use Rattle.soc_book.specs.Memory.{IsFound, StepsInMemory, TurnsFirst, desk_basis, has_row, log_of, place_of};
 
 use crate::desk::{Command, Desk, Limits, Receipt, Refusal, Reply};
 use crate::entry::Entry;
@@ -59,9 +59,10 @@ impl<'a, R: Reporter> Book<'a, R> {
         }
     }
 
-    /// How many changes the log has.
+    /// How many changes the log has. Each of them was legal at its place.
     pub fn front(&self) -> u64
-        ensures { result ≡ length self.now.log }
+        ensures count { result ≡ length self.now.log }
+        ensures legal { IsLegal (desk_basis R.row_of R.digest_of self.now) self.now.log }
     {
         self.entries.len() as u64
     }
@@ -71,6 +72,21 @@ impl<'a, R: Reporter> Book<'a, R> {
         ensures { result ≡ accept_count self.now.log }
     {
         self.crashes
+    }
+
+    /// How many crashes have a report.
+    pub fn reports(&self) -> usize
+        ensures { result ≡ length (rows_of (desk_basis R.row_of R.digest_of self.now) self.now.log) }
+    {
+        report_count(&self.entries, &self.rows)
+    }
+
+    /// How often a crash was asked for: a desk in memory is never asked.
+    pub fn asks(&self) -> u64
+        ensures { result ≡ count_by is_ask self.now.log }
+    {
+        let _ = &self.entries;
+        0
     }
 
     /// How many crashes are due.
@@ -85,6 +101,14 @@ impl<'a, R: Reporter> Book<'a, R> {
         ensures { result ≡ slice_get (due_of (desk_basis R.row_of R.digest_of self.now) self.now.log) 0 }
     {
         first(&self.due)
+    }
+
+    /// The due crash at this place, from 0.
+    pub fn due_at(&self, i: usize) -> CrashId
+        requires { i < length (due_of (desk_basis R.row_of R.digest_of self.now) self.now.log) }
+        ensures { slice_get (due_of (desk_basis R.row_of R.digest_of self.now) self.now.log) i ≡ Some result }
+    {
+        at(&self.due, i)
     }
 
     /// Whether the log has a stop: a desk in memory has none yet.
@@ -234,6 +258,31 @@ impl<'a, R: Reporter> Desk for Book<'a, R> {
             reply,
         }
     }
+}
+
+/// How many of the crashes have a row.
+fn report_count(entries: &[Entry], rows: &BTreeMap<CrashId, Row>) -> usize
+    ensures { result ≡ count_by (has_row rows.now.entries) entries.now }
+{
+    entries.iter().filter(|entry| has_row(rows, entry)).count()
+}
+
+/// Whether the entry is a crash that has a row.
+fn has_row(rows: &BTreeMap<CrashId, Row>, entry: &Entry) -> bool
+    ensures { result ≡ has_row rows.now.entries entry.now }
+{
+    match entry {
+        Entry::Held(raw) => rows.get(&raw.id).is_some(),
+        Entry::Done(_) => false,
+    }
+}
+
+/// The due crash at this place.
+fn at(due: &VecDeque<CrashId>, i: usize) -> CrashId
+    requires { i < length due.now.items }
+    ensures { slice_get due.now.items i ≡ Some result }
+{
+    due[i]
 }
 
 /// The first due crash.

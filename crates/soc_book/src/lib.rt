@@ -5,9 +5,11 @@ mod book;
 mod desk;
 mod entry;
 mod laws;
+mod small;
 #[cfg(test)]
 mod tests;
 
 pub use book::Book;
 pub use desk::{Command, Desk, Limits, Receipt, Refusal, Reply};
 pub use laws::{drains_all, reads_show_the_view};
+pub use small::Small;

@@ -1,7 +1,7 @@
 // The desk's tables, row by row.
-use crate::{Book, Command, Desk, Limits, Refusal, Reply};
+use crate::{Book, Command, Desk, Limits, Refusal, Reply, Small};
 use soc_raw::{CrashId, RawCrash, Text, TextList};
-use soc_schema::{Bare, Caller, Permission, Permissions, Products};
+use soc_schema::{Caller, Permission, Permissions, Products};
 use std::alloc::Global;
 use std::test::Fail;
 
@@ -54,7 +54,7 @@ fn limited(alloc: Global) -> Result<Caller, Fail> {
 #[test]
 fn submissions(rt: HostRuntime) -> Result<(), Fail> {
     let alloc = rt.alloc();
-    let mut book = Book::new(alloc, &Bare, LIMITS);
+    let mut book = Book::new(alloc, &Small, LIMITS);
     let stored = book.submit(crash(alloc, FIREFOX)?);
     assert!(rt; matches!(stored, Reply::Stored { due: true, .. }));
     let repeated = book.submit(crash(alloc, FIREFOX)?);
@@ -76,7 +76,7 @@ fn too_many_crashes(rt: HostRuntime) -> Result<(), Fail> {
         journal_bytes: 64,
         crashes: 1,
     };
-    let mut book = Book::new(alloc, &Bare, limits);
+    let mut book = Book::new(alloc, &Small, limits);
     let _stored = book.submit(crash(alloc, FIREFOX)?);
     let full = book.submit(crash(alloc, DEFERRED)?);
     assert!(rt; matches!(full, Reply::Refused(Refusal::TooManyCrashes)));
@@ -86,8 +86,8 @@ fn too_many_crashes(rt: HostRuntime) -> Result<(), Fail> {
 #[test]
 fn reports(rt: HostRuntime) -> Result<(), Fail> {
     let alloc = rt.alloc();
-    let mut book = Book::new(alloc, &Bare, LIMITS);
-    let raw = crash(alloc, FIREFOX)?;
+    let mut book = Book::new(alloc, &Small, LIMITS);
+    let raw = crash(alloc, OTHER)?;
     let id = raw.id;
     let _stored = book.submit(raw);
     let early = book.processed(&public(), id);
@@ -101,16 +101,40 @@ fn reports(rt: HostRuntime) -> Result<(), Fail> {
             })
         )
     );
+    if book.due() > 0 {
+        assert_eq!(rt; book.due_at(0).as_str(), id.as_str());
+    }
     let drained = book.ask(Command::Drain { caller: operator() });
     assert!(rt; matches!(drained.reply, Reply::Drained(1)));
     assert_eq!(rt; drained.front, 2);
     assert!(rt; book.take_due().is_none());
+    assert_eq!(rt; book.reports(), 1);
+    assert_eq!(rt; book.asks(), 0);
     let again = book.drain();
     assert!(rt; matches!(again, Reply::Drained(0)));
-    match book.processed(&public(), id) {
-        Reply::Row(row) => assert_eq!(rt; row.len(), 2),
-        _ => return Err("no row".into()),
+    Ok(())
+}
+
+/// How many fields of the report a caller is shown, if any.
+fn shown(book: &Book<'_, Small>, caller: &Caller, id: CrashId) -> Option<usize> {
+    match book.processed(caller, id) {
+        Reply::Row(row) => Some(row.len()),
+        _ => None,
     }
+}
+
+#[test]
+fn reports_by_permission(rt: HostRuntime) -> Result<(), Fail> {
+    let alloc = rt.alloc();
+    let mut book = Book::new(alloc, &Small, LIMITS);
+    let raw = crash(alloc, OTHER)?;
+    let id = raw.id;
+    let _stored = book.submit(raw);
+    let _drained = book.drain();
+    let mut trusted = public();
+    trusted.permissions.add(Permission::ProtectedData);
+    assert_eq!(rt; shown(&book, &public(), id), Some(1));
+    assert_eq!(rt; shown(&book, &trusted, id), Some(2));
     let hidden = book.processed(&limited(alloc)?, id);
     assert!(rt; matches!(hidden, Reply::Refused(Refusal::NoCrash)));
     let never = CrashId::parse("00000000-0000-4000-8000-000000160918").ok_or("no id")?;
