@@ -12,6 +12,8 @@ mod query;
 mod reply;
 mod route;
 mod search;
+#[cfg(test)]
+mod tests;
 mod verb;
 
 pub use body::{BodyError, body_piece, read_body};
