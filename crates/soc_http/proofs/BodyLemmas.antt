@@ -48,16 +48,15 @@ Passes-failed a b c u v w n left count error past ready less = record {
     whole : text ≡ past.skips.front ++ (v ++ ready.given)
     whole = joined u v past.given ready.given past.skips.front past.skips.whole
 
-    failed : (e : BodyError) → IsPiece (v ++ ready.given) left (Err e) w → PassesOver text count (Err e) w
-    failed B.CutShort p =
+    few : (v ++ ready.given ≡ []) × (w ≡ []) → (length text < count) × (w ≡ [])
+    few p =
         let all : text ≡ past.skips.front = whole ∙ ap (λ l. past.skips.front ++ l) p.0 ∙ append-nil past.skips.front in
         let len : length text ≡ length past.skips.front = ap length all in
         (omega (arith, past.skips.counted), p.1)
-    failed B.ReadFault p = record {
-      front = past.skips.front;
-      whole = whole ∙ ap (λ l. past.skips.front ++ l) (sym p);
-      fewer = omega (arith, past.skips.counted);
-    }
+
+    failed : (e : BodyError) → IsPiece (v ++ ready.given) left (Err e) w → PassesOver text count (Err e) w
+    failed B.CutShort p = few p
+    failed B.ReadFault p = few p
     failed B.NoMemory p = absurd p
 
     ended : (e : BodyError) → IfCut {A = ℕ} (Err e) (IsAtEnd c) → IfCut {A = Unit {0}} (Err e) (IsAtEnd c)

@@ -8,7 +8,7 @@ use Rattle.soc_http.specs.declared.head.HeadError.{HeadError}
 use Rattle.soc_http.specs.declared.head.HeadError.TheVariants as H
 use Rattle.soc_http.specs.Block.{EndsInEmptyLine, IsBlock, HasNoBlock, HasFewLines, block_limit}
 use Rattle.soc_http.specs.Message.{HeadOf, RefusesBlock, TakesBlock, TakesHead, BeginsRefused, EndsInHead, HasNoBlockInLimit, RefusesHead, ByText, OrNoMemory, ReadsHead}
-use Rattle.soc_http.specs.Reading.{Fills, ahead, IfEnded, ReadsHeadFrom, ReadsHeadAhead, IsSearched}
+use Rattle.soc_http.specs.Reading.{Fills, ahead, IfEnded, IfFault, IsWithinHead, ReadsHeadFrom, ReadsHeadAhead, IsSearched}
 
 -- ---- the search
 
@@ -101,6 +101,7 @@ ReadsHeadFrom-found a b old new block rest end head fills found is few says behi
     says = says;
   });
   ended = tt;
+  unfinished = tt;
 }
 
 begins-refused : (text window block : List ℕ) (end : ℕ) (error : HeadError) → text ≡ window → block ≡ take end window → end ≤ length window
@@ -131,6 +132,15 @@ not_ended block H.CutShort P refused = absurd refused
 not_ended block H.ReadFault P refused = tt
 not_ended block H.NoMemory P refused = tt
 
+not_faulty : (block : List ℕ) (error : HeadError) (P : Type 0) → OrNoMemory error (RefusesBlock block error) → IfFault (Err error) P
+not_faulty block H.BadHead P refused = tt
+not_faulty block H.HeadTooLarge P refused = tt
+not_faulty block H.NoLength P refused = tt
+not_faulty block H.BodyTooLarge P refused = tt
+not_faulty block H.CutShort P refused = tt
+not_faulty block H.ReadFault P refused = absurd refused
+not_faulty block H.NoMemory P refused = tt
+
 -- a block that is refused
 pub ReadsHeadFrom-refused : (a b : Option (List ℕ)) (old new block : List ℕ) (end : ℕ) (error : HeadError) → Fills a b old new
     → IsSearched new b (Ok (Some end)) → block ≡ take end new → OrNoMemory error (RefusesBlock block error)
@@ -144,6 +154,7 @@ ReadsHeadFrom-refused a b old new block end error fills found is refused = recor
         (λ e r. begins-refused _ new block end e (sym fills.grown) is found.0 found.1 found.2 r) refused,
   );
   ended = not_ended block error (IsAtEnd b) refused;
+  unfinished = not_faulty block error (IsWithinHead new) refused;
 }
 
 -- a search that found no block
@@ -154,6 +165,7 @@ ReadsHeadFrom-searched a b old new error fills found = record {
   gives = fills.gives;
   reads = (fills.grown, subst (λ text. ByText error (RefusesHead text error)) fills.grown (searched error found));
   ended = ended error found;
+  unfinished = unfinished error found;
 }
   where
     searched : (e : HeadError) → IsSearched new b (Err e) → ByText e (RefusesHead new e)
@@ -173,6 +185,15 @@ ReadsHeadFrom-searched a b old new error fills found = record {
     ended H.CutShort f = f.1
     ended H.ReadFault f = tt
     ended H.NoMemory f = tt
+
+    unfinished : (e : HeadError) → IsSearched new b (Err e) → IfFault (Err e) (IsWithinHead new)
+    unfinished H.BadHead f = tt
+    unfinished H.HeadTooLarge f = tt
+    unfinished H.NoLength f = tt
+    unfinished H.BodyTooLarge f = tt
+    unfinished H.CutShort f = tt
+    unfinished H.ReadFault f = f
+    unfinished H.NoMemory f = tt
 
 -- ---- all that is ahead
 

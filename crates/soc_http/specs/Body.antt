@@ -25,6 +25,13 @@ ReadsBody text count (Err B.CutShort) rest = (length text < count) × (rest ≡ 
 ReadsBody text count (Err B.ReadFault) rest = StopsEarly text count rest
 ReadsBody text count (Err B.NoMemory) rest = Skips text count rest
 
+-- the same with the bytes that were read: a fault comes only where they are too few, and all of them were taken
+abbrev pub ReadsBodyFrom : List ℕ → ℕ → Result (List ℕ) BodyError → List ℕ → Type 0
+ReadsBodyFrom text count (Ok body) rest = ReadsBody text count (Ok body) rest
+ReadsBodyFrom text count (Err B.CutShort) rest = ReadsBody text count (Err B.CutShort) rest
+ReadsBodyFrom text count (Err B.ReadFault) rest = (length text < count) × (rest ≡ [])
+ReadsBodyFrom text count (Err B.NoMemory) rest = ReadsBody text count (Err B.NoMemory) rest
+
 -- the body is cut short only where the input ends
 abbrev pub IfCut : {A : Type 0} → Result A BodyError → Type 0 → Type 0
 IfCut (Ok x) P = Unit {0}
@@ -37,7 +44,7 @@ pub record BodyFrom
     (before after : Option (List ℕ)) (old : List ℕ) (count : ℕ) (result : Result (List ℕ) BodyError) (new : List ℕ) : Type 0 where
   pub given : List ℕ
   pub gives : Gives before after given
-  pub reads : ReadsBody (old ++ given) count result new
+  pub reads : ReadsBodyFrom (old ++ given) count result new
   pub ended : IfCut result (IsAtEnd after)
 
 -- the same over all that is ahead, where it is told
@@ -52,7 +59,7 @@ ReadsBodyAhead (Some text) count result (Some rest) = ReadsBody text count resul
 abbrev pub IsPiece : List ℕ → ℕ → Result ℕ BodyError → List ℕ → Type 0
 IsPiece text left (Ok count) window = (window ≡ text) × (0 < count) × (count ≤ left) × (count ≤ length window)
 IsPiece text left (Err B.CutShort) window = (text ≡ []) × (window ≡ [])
-IsPiece text left (Err B.ReadFault) window = window ≡ text
+IsPiece text left (Err B.ReadFault) window = (text ≡ []) × (window ≡ [])
 IsPiece text left (Err B.NoMemory) window = ⊥
 
 pub record IsPieceReady
@@ -67,7 +74,7 @@ pub record IsPieceReady
 abbrev pub PassesOver : List ℕ → ℕ → Result (Unit {0}) BodyError → List ℕ → Type 0
 PassesOver text count (Ok done) rest = Skips text count rest
 PassesOver text count (Err B.CutShort) rest = (length text < count) × (rest ≡ [])
-PassesOver text count (Err B.ReadFault) rest = StopsEarly text count rest
+PassesOver text count (Err B.ReadFault) rest = (length text < count) × (rest ≡ [])
 PassesOver text count (Err B.NoMemory) rest = ⊥
 
 pub record Passes
@@ -88,7 +95,7 @@ pub record Past (before after : Option (List ℕ)) (old new : List ℕ) (count :
 abbrev pub ReadsInto : List ℕ → List ℕ → Result (Unit {0}) BodyError → List ℕ → Type 0
 ReadsInto text body (Ok done) rest = text ≡ body ++ rest
 ReadsInto text body (Err B.CutShort) rest = (length text < length body) × (rest ≡ [])
-ReadsInto text body (Err B.ReadFault) rest = StopsEarly text (length body) rest
+ReadsInto text body (Err B.ReadFault) rest = (length text < length body) × (rest ≡ [])
 ReadsInto text body (Err B.NoMemory) rest = ⊥
 
 pub record IntoFrom
@@ -111,7 +118,7 @@ pub record IsFilledTo (before after : Option (List ℕ)) (old body new : List �
 abbrev pub ReadsPiece : List ℕ → Result (Bor (List ℕ)) BodyError → List ℕ → Type 0
 ReadsPiece text (Ok piece) rest = text ≡ piece.now ++ rest
 ReadsPiece text (Err B.CutShort) rest = (text ≡ []) × (rest ≡ [])
-ReadsPiece text (Err B.ReadFault) rest = rest ≡ text
+ReadsPiece text (Err B.ReadFault) rest = (text ≡ []) × (rest ≡ [])
 ReadsPiece text (Err B.NoMemory) rest = ⊥
 
 -- the source gave bytes, and with them the window's text begins with the piece, whatever else the source has left

@@ -6,7 +6,7 @@ use Rattle.soc_http.specs.declared.head.Head.{Head}
 use Rattle.soc_http.specs.declared.head.HeadError.{HeadError}
 use Rattle.soc_http.specs.declared.head.HeadError.TheVariants as H
 use Rattle.soc_http.specs.Message.{ReadsHead, EndsInHead, HasNoBlockInLimit}
-use Rattle.soc_http.specs.Block.{IsBlock, block_limit}
+use Rattle.soc_http.specs.Block.{IsBlock, HasNoBlock, block_limit}
 
 -- what is ahead, where the source tells it
 abbrev pub ahead : List ℕ → Option (List ℕ) → Option (List ℕ)
@@ -30,6 +30,21 @@ IfEnded (Err H.BodyTooLarge) P = ⊤
 IfEnded (Err H.ReadFault) P = ⊤
 IfEnded (Err H.NoMemory) P = ⊤
 
+-- an answer for which the source failed
+abbrev pub IfFault : Result (Option Head) HeadError → Type 0 → Type 0
+IfFault (Ok found) P = ⊤
+IfFault (Err H.ReadFault) P = P
+IfFault (Err H.BadHead) P = ⊤
+IfFault (Err H.HeadTooLarge) P = ⊤
+IfFault (Err H.NoLength) P = ⊤
+IfFault (Err H.BodyTooLarge) P = ⊤
+IfFault (Err H.CutShort) P = ⊤
+IfFault (Err H.NoMemory) P = ⊤
+
+-- no head has ended yet, and one that isn't too large may still end
+abbrev pub IsWithinHead : List ℕ → Type 0
+IsWithinHead window = (length window ≤ block_limit) × HasNoBlock window
+
 -- the source gave bytes, and with them the window's text gives this answer, whatever else the source has left
 pub record ReadsHeadFrom
     (before after : Option (List ℕ)) (old : List ℕ) (result : Result (Option Head) HeadError) (new : List ℕ) : Type 0 where
@@ -37,6 +52,7 @@ pub record ReadsHeadFrom
   pub gives : Gives before after given
   pub reads : ReadsHead (old ++ given) result new
   pub ended : IfEnded result (IsAtEnd after)
+  pub unfinished : IfFault result (IsWithinHead new)
 
 -- the same over all that is ahead, where it is told: what isn't told is not told afterwards
 abbrev pub ReadsHeadAhead : Option (List ℕ) → Result (Option Head) HeadError → Option (List ℕ) → Type 0
@@ -50,7 +66,7 @@ IsSearched window after (Ok None) = (window ≡ []) × IsAtEnd after
 IsSearched window after (Ok (Some end)) = (end ≤ length window) × (end ≤ block_limit) × IsBlock (take end window)
 IsSearched window after (Err H.CutShort) = EndsInHead window × IsAtEnd after
 IsSearched window after (Err H.HeadTooLarge) = HasNoBlockInLimit window
-IsSearched window after (Err H.ReadFault) = ⊤
+IsSearched window after (Err H.ReadFault) = IsWithinHead window
 IsSearched window after (Err H.BadHead) = ⊥
 IsSearched window after (Err H.NoLength) = ⊥
 IsSearched window after (Err H.BodyTooLarge) = ⊥

@@ -1,5 +1,6 @@
-use Rattle.std.proofs.Common.{refl, ◌∙◌, arith}
+use Rattle.std.proofs.Common.{refl, sym, subst, ◌∙◌, arith}
 use Rattle.soc_http.proofs.HeadLemmas.{Fills-none, Fills-more, HasNoBlock-empty, HasNoBlock-grown, HasNoBlockInLimit-late, HasNoBlockInLimit-none, EndsInHead-at}
+use Rattle.soc_http.specs.Reading.{IsWithinHead}
 use Rattle.soc_http.proofs.heads.find_block.Goals as goal
 
 pub loop-end-init : goal.loop-end-init
@@ -29,6 +30,12 @@ returns-else-searched-eq0-clause-found g c =
       EndsInHead-at _ _ _ _ _ c.in-Ok.ensures.fills c.in-Ok.ensures.count c.if-count-eq0.true begun within none,
       c.in-Ok.ensures.ended c.if-count-eq0.true,
     )
+
+pub returns-in_default-fill-clause-found : goal.returns-in_default-fill-clause-found
+returns-in_default-fill-clause-found g c =
+    let none = rw c.unread-unread.ensures.value at c.in_default.ensures in
+    let within = rw c.unread-unread.ensures.value at c.if-searched-gt-BLOCK_LIMIT.false in
+    subst IsWithinHead (sym c.in_default-fill.ensures.kept) (omega arith, none)
 
 pub loop-end-preserved : goal.loop-end-preserved
 loop-end-preserved g c =
