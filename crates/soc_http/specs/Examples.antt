@@ -1,15 +1,14 @@
 -- Worked rows of the definitions, computed.
-use Rattle.std.specs.Prelude.{◌≡◌, [], ◌∷◌, ◌++◌, codes, true, None, Some, Ok, Err, refl, count_by, ◌==◌}
+use Rattle.std.specs.Prelude.{◌≡◌, [], ◌∷◌, codes, true, None, Ok, Err, refl}
 use Rattle.std.specs.Fmt.{digits}
-use Rattle.std.specs.List.{before_first, after_first}
-use Rattle.soc_http.specs.declared.verb.Verb.TheVariants.{Get, Post, Other}
-use Rattle.soc_http.specs.declared.framing.Stated.TheVariants.{Length, Bad}
+use Rattle.std.specs.List.{after_first}
+use Rattle.soc_http.specs.declared.verb.Verb.TheVariants.{Get, Post}
+use Rattle.soc_http.specs.declared.framing.Stated.TheVariants.{Bad}
 use Rattle.soc_http.specs.declared.head.HeadError.TheVariants.{BadHead, NoLength, BodyTooLarge}
 use Rattle.soc_http.specs.declared.reply.Kind.TheVariants.{Plain}
-use Rattle.soc_http.specs.declared.route.Route.TheVariants.{Submit, Report}
+use Rattle.soc_http.specs.declared.route.Route.TheVariants.{Report}
 use Rattle.soc_http.specs.declared.route.RouteError.TheVariants.{NoRoute, WrongVerb}
-use Rattle.soc_http.specs.Block.{line_feed}
-use Rattle.soc_http.specs.Request.{stated, length_by_lines, is_close, is_query_mark}
+use Rattle.soc_http.specs.Request.{stated, length_by_lines, is_query_mark}
 use Rattle.soc_http.specs.Reply.{reply_text}
 use Rattle.soc_http.specs.Route.{route_of}
 
