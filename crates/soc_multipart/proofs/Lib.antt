@@ -5,11 +5,16 @@ pub mod DelimiterLemmas
 pub mod DispositionLemmas
 pub mod EndLemmas
 pub mod FindLemmas
+pub mod FitLemmas
 pub mod FormLemmas
 pub mod HeadLemmas
+pub mod JsonSizes
 pub mod LawLemmas
+pub mod LexSizes
 pub mod ParamLemmas
 pub mod PartLemmas
+pub mod PartSizes
 pub mod RefusalLemmas
 pub mod SingleLemmas
 pub mod SubmissionLemmas
+pub mod TokenSizes

@@ -3,6 +3,7 @@ pub mod Delimiters
 pub mod Extras
 pub mod FieldViews
 pub mod Fields
+pub mod Fits
 pub mod FormErrors
 pub mod FormLines
 pub mod Heads

@@ -5,6 +5,7 @@ ghost use Rattle.soc_multipart.specs.declared.parts.PartsError.TheVariants.{NoMe
 ghost use Rattle.soc_multipart.specs.Delimiters.{IsBoundary};
 ghost use Rattle.soc_multipart.specs.FieldViews.{fields_text};
 ghost use Rattle.soc_multipart.specs.Fields.{is_extra as is_extra_text, is_plain as is_plain_text};
+ghost use Rattle.soc_multipart.specs.Fits.{FitsCrash};
 ghost use Rattle.soc_multipart.specs.Parts.{CutFault};
 ghost use Rattle.soc_multipart.specs.PartViews.{part_texts};
 ghost use Rattle.soc_multipart.specs.Submissions.{BodyRefusal, IsOneSubmission, IsSentId, SaysFields, SaysRefusal, SaysSubmission, SubmissionOf, SubmissionRefusal};
@@ -41,6 +42,7 @@ pub fn read_submission(
     body: &[u8],
 ) -> Result<Submission, FormError>
     ensures found { IfOk result (λ said. SubmissionOf (option_copied encoding.entry) kinds.now body.now (submission_text said)) }
+    ensures fits { IfOk result (λ said. length body.now ≤ 16777216 → FitsCrash (submission_text said)) }
     ensures refused { IfErr result (λ error. SubmissionRefusal (option_copied encoding.entry) kinds.now body.now error) }
 {
     let boundary = match boundary_of(alloc, encoding, kinds) {
