@@ -1,0 +1,400 @@
+-- One message of a session after another.
+use Rattle.std.proofs.Common.{◌≡◌, ℕ, ◌+◌, ◌-◌, ◌<◌, List, [], ◌∷◌, ◌++◌, length, take, map, Option, None, Some, Ok, Err, Bool, true, false, refl, sym, ap, subst, ◌∙◌, append_assoc, append-nil, length-append, inl, inr, arith}
+use Rattle.std.proofs.lemmas.List.{map-append}
+use Rattle.std.specs.Prelude.{if◌then◌else◌, ◌||◌}
+use Rattle.std.specs.List.{flat_map}
+use Rattle.soc_edge.specs.Told.{Gives, Takes, TakesFront, Outlook, HandsAll}
+use Rattle.soc_edge.proofs.Told.{Gives-append, Gives-none, Takes-append, Takes-none}
+use Rattle.soc_edge.proofs.Ahead.{Hands-none, Hands-append}
+use Rattle.soc_http.specs.declared.head.Head.{Head}
+use Rattle.soc_http.specs.declared.head.HeadError.{HeadError}
+use Rattle.soc_http.specs.declared.head.HeadError.TheVariants as H
+use Rattle.soc_http.specs.declared.reply.Answered.{Answered}
+use Rattle.soc_http.specs.Message.{Message, TakesHead, TakesMessage}
+use Rattle.soc_http.specs.Reply.{reply_text}
+use Rattle.soc_http.proofs.HeadLemmas.{ReadsHead-more}
+use Rattle.soc_book.specs.declared.desk.Command.{Command}
+use Rattle.soc_book.specs.declared.desk.Receipt.{Receipt}
+use Rattle.soc_session.specs.declared.arrivals.Incoming.{Incoming}
+use Rattle.soc_session.specs.declared.answers.Outcome.{Outcome}
+use Rattle.soc_session.specs.declared.connection.Next.{Next}
+use Rattle.soc_session.specs.declared.connection.Next.TheVariants.{Ends}
+use Rattle.soc_session.specs.declared.ending.SessionEnd.{SessionEnd}
+use Rattle.soc_session.specs.declared.ending.SessionEnd.TheVariants.{Ended, Closed, Stopped, Refused, ReadFault, WriteFault, TooLong, NoMemory}
+use Rattle.soc_session.specs.declared.rules.Rules.{Rules}
+use Rattle.soc_session.specs.Arrivals.{Arrives, IsMessage, ReadsMessage}
+use Rattle.soc_session.specs.Desk.{Exchange, IsExchange, StepsDesk, says_stopped}
+use Rattle.soc_session.specs.Messages.{RefusedAt}
+use Rattle.soc_session.specs.Plan.{Drawn}
+use Rattle.soc_session.specs.Replies.{closing}
+use Rattle.soc_session.specs.Session.{Around, CutsReply, EndsAtEdge, EndsBehind, HandsTurns, IsEnd, Leaves, Serves, Turn, Writes, met, refused, turn_bytes, turn_text, closing_of, is_last, replies_text, drawn_for}
+use Rattle.soc_session.specs.Steps.{Exchanges, Halts, IsNext, Refuses, Responds, ServesFrom, StepsOn, WritesNext, next_of}
+use Rattle.soc_session.specs.Tasks.{Answers, HandsDrawn, reply_of}
+
+-- ---- no turn
+
+-- the session ends at a message's edge
+pub Serves-edge : {K : Type 0} (asks : K → Command → Receipt → K → Type 0) (rules : Rules) (window : List ℕ) (budget : ℕ) (desk : K) (x : Outlook) (left left' held held' : Option (List ℕ)) (end : SessionEnd) (given : List ℕ)
+    → Gives left left' given → Leaves end (window ++ given) left' → Writes end held held' [] → IsEnd end budget []
+    → ServesFrom asks rules window budget (record { left = left; held = held; desk = desk; outlook = x }) (record { left = left'; held = held'; desk = desk; outlook = x }) end
+Serves-edge {K} asks rules window budget desk x left left' held held' end given gives leaves writes ends = record {
+  turns = [];
+  by_rules = tt;
+  runs = refl;
+  given = given;
+  gives = gives;
+  rest = window ++ given;
+  holds = refl;
+  leaves = leaves;
+  writes = writes;
+  hands = Hands-none x;
+  ends = ends;
+}
+
+pub Serves-ended : {K : Type 0} (asks : K → Command → Receipt → K → Type 0) (rules : Rules) (window behind : List ℕ) (desk : K) (x : Outlook) (left left' held held' : Option (List ℕ))
+    → Arrives left left' window (Ok None) behind → held' ≡ held → (budget : ℕ) → 0 < budget
+    → ServesFrom asks rules window budget (record { left = left; held = held; desk = desk; outlook = x }) (record { left = left'; held = held'; desk = desk; outlook = x }) Ended
+Serves-ended asks rules window behind desk x left left' held held' p stays budget some =
+    Serves-edge asks rules window budget desk x left left' held held' Ended p.given p.gives (p.reads.0, p.reads.2) (Takes-none held held' stays)
+    (record { over = budget; goes_on = refl; ends = some })
+
+pub Serves-failed : {K : Type 0} (asks : K → Command → Receipt → K → Type 0) (rules : Rules) (window behind : List ℕ) (desk : K) (x : Outlook) (left left' held held' : Option (List ℕ))
+    → Arrives left left' window (Err H.ReadFault) behind → held' ≡ held → (budget : ℕ) → 0 < budget
+    → ServesFrom asks rules window budget (record { left = left; held = held; desk = desk; outlook = x }) (record { left = left'; held = held'; desk = desk; outlook = x }) ReadFault
+Serves-failed asks rules window behind desk x left left' held held' p stays budget some =
+    Serves-edge asks rules window budget desk x left left' held held' ReadFault p.given p.gives p.reads (Takes-none held held' stays)
+    (record { over = budget; goes_on = refl; ends = some })
+
+pub Serves-wanting : {K : Type 0} (asks : K → Command → Receipt → K → Type 0) (rules : Rules) (window behind : List ℕ) (desk : K) (x : Outlook) (left left' held held' : Option (List ℕ)) (error : HeadError)
+    → Arrives left left' window (Err error) behind → held' ≡ held → (budget : ℕ) → 0 < budget
+    → ServesFrom asks rules window budget (record { left = left; held = held; desk = desk; outlook = x }) (record { left = left'; held = held'; desk = desk; outlook = x }) NoMemory
+Serves-wanting asks rules window behind desk x left left' held held' error p stays budget some =
+    Serves-edge asks rules window budget desk x left left' held held' NoMemory p.given p.gives tt (Takes-none held held' stays)
+    (record { over = budget; goes_on = refl; ends = tt })
+
+-- ---- a refusal
+
+whole : (held held' : Option (List ℕ)) (turn : Turn) → Takes held held' (turn_text turn) → Takes held held' (replies_text (turn ∷ []))
+whole held held' turn takes = subst (Takes held held') (sym (append-nil (turn_text turn))) takes
+
+cuts : (held held' : Option (List ℕ)) (turn : Turn) → TakesFront held held' (turn_text turn) → CutsReply held held' (turn ∷ [])
+cuts held held' turn front = record {
+  whole = [];
+  last = turn;
+  turns_are = refl;
+  count = front.count;
+  not_all = front.not_all;
+  takes = front.takes;
+}
+
+behind-one : (budget : ℕ) (turn : Turn) (P : Turn → Type 0) → 0 < budget → P turn → EndsBehind budget (turn ∷ []) P
+behind-one budget turn P some p = record { before = []; last = turn; turns_are = refl; over = budget; goes_on = refl; some = some; ends = p }
+
+refused-turn : {K : Type 0} (asks : K → Command → Receipt → K → Type 0) (rules : Rules) (window : List ℕ) (budget : ℕ) (desk : K) (x : Outlook) (left left' held held' : Option (List ℕ)) (end : SessionEnd) (error : HeadError) (given : List ℕ)
+    → Gives left left' given → RefusedAt (window ++ given) left' error → Leaves end (window ++ given) left' → Writes end held held' (refused error ∷ []) → IsEnd end budget (refused error ∷ [])
+    → ServesFrom asks rules window budget (record { left = left; held = held; desk = desk; outlook = x }) (record { left = left'; held = held'; desk = desk; outlook = x }) end
+refused-turn {K} asks rules window budget desk x left left' held held' end error given gives refusal leaves writes ends = record {
+  turns = refused error ∷ [];
+  by_rules = (tt, tt);
+  runs = refl;
+  given = given;
+  gives = gives;
+  rest = window ++ given;
+  holds = (refusal, refl, refl);
+  leaves = leaves;
+  writes = writes;
+  hands = Hands-none x;
+  ends = ends;
+}
+
+refused-at : (text rest : List ℕ) (left : Option (List ℕ)) (error : HeadError) → (error ≡ H.ReadFault → ⊥) → (error ≡ H.NoMemory → ⊥) → ReadsMessage text (Err error) rest left → RefusedAt text left error
+refused-at text rest left H.BadHead n m p = p
+refused-at text rest left H.HeadTooLarge n m p = p
+refused-at text rest left H.NoLength n m p = p
+refused-at text rest left H.BodyTooLarge n m p = p
+refused-at text rest left H.CutShort n m p = p
+refused-at text rest left H.ReadFault n m p = absurd (n refl)
+refused-at text rest left H.NoMemory n m p = absurd (m refl)
+
+pub Serves-refused : {K : Type 0} (asks : K → Command → Receipt → K → Type 0) (rules : Rules) (window behind : List ℕ) (desk : K) (x : Outlook) (left left' held held' : Option (List ℕ)) (error : HeadError) (end : SessionEnd)
+    → (error ≡ H.ReadFault → ⊥) → (error ≡ H.NoMemory → ⊥) → Arrives left left' window (Err error) behind → Refuses held held' error end → (budget : ℕ) → 0 < budget
+    → ServesFrom asks rules window budget (record { left = left; held = held; desk = desk; outlook = x }) (record { left = left'; held = held'; desk = desk; outlook = x }) end
+Serves-refused asks rules window behind desk x left left' held held' error Refused n m p how budget some =
+    refused-turn asks rules window budget desk x left left' held held' Refused error p.given p.gives (refused-at _ _ left' error n m p.reads) tt
+    (whole held held' (refused error) how) (behind-one budget (refused error) _ some refl)
+Serves-refused asks rules window behind desk x left left' held held' error WriteFault n m p how budget some =
+    refused-turn asks rules window budget desk x left left' held held' WriteFault error p.given p.gives (refused-at _ _ left' error n m p.reads) tt
+    (cuts held held' (refused error) how) (behind-one budget (refused error) _ some tt)
+Serves-refused asks rules window behind desk x left left' held held' error NoMemory n m p how budget some =
+    Serves-wanting asks rules window behind desk x left left' held held' error p how budget some
+Serves-refused asks rules window behind desk x left left' held held' error Ended n m p how budget some = absurd how
+Serves-refused asks rules window behind desk x left left' held held' error Closed n m p how budget some = absurd how
+Serves-refused asks rules window behind desk x left left' held held' error Stopped n m p how budget some = absurd how
+Serves-refused asks rules window behind desk x left left' held held' error ReadFault n m p how budget some = absurd how
+Serves-refused asks rules window behind desk x left left' held held' error TooLong n m p how budget some = absurd how
+
+-- ---- a message
+
+hands-one : (x y : Outlook) (exchange : Exchange) → HandsDrawn x y exchange.drawn → HandsTurns x y (met exchange ∷ [])
+hands-one x y exchange hands = subst (HandsDrawn x y) (sym (append-nil exchange.drawn)) hands
+
+met-turn : {K : Type 0} (asks : K → Command → Receipt → K → Type 0) (rules : Rules) (window behind : List ℕ) (budget : ℕ) (desk desk' : K) (x y : Outlook) (left left' held held' : Option (List ℕ)) (end : SessionEnd) (exchange : Exchange) (given : List ℕ)
+    → IsExchange rules exchange → StepsDesk asks desk exchange.asked desk' → Gives left left' given → TakesMessage (window ++ given) exchange.message behind → HandsDrawn x y exchange.drawn
+    → Leaves end behind left' → Writes end held held' (met exchange ∷ []) → IsEnd end budget (met exchange ∷ [])
+    → ServesFrom asks rules window budget (record { left = left; held = held; desk = desk; outlook = x }) (record { left = left'; held = held'; desk = desk'; outlook = y }) end
+met-turn {K} asks rules window behind budget desk desk' x y left left' held held' end exchange given is steps gives takes hands leaves writes ends = record {
+  turns = met exchange ∷ [];
+  by_rules = (is, tt);
+  runs = (desk', steps, refl);
+  given = given;
+  gives = gives;
+  rest = behind;
+  holds = (behind, takes, refl);
+  leaves = leaves;
+  writes = writes;
+  hands = hands-one x y exchange hands;
+  ends = ends;
+}
+
+closing_by : (stopped last : Bool) (end : SessionEnd) → Option SessionEnd
+closing_by stopped last end = if stopped then Some Stopped else (if last then Some Closed else None)
+
+next-on : {K : Type 0} (asks : K → Command → Receipt → K → Type 0) (rules : Rules) (window behind : List ℕ) (desk desk' : K) (x y : Outlook) (left left' held held' : Option (List ℕ)) (exchange : Exchange) (given : List ℕ) (stopped last : Bool)
+    → says_stopped exchange.asked ≡ stopped → exchange.message.head.last ≡ last
+    → IsExchange rules exchange → StepsDesk asks desk exchange.asked desk' → Gives left left' given → TakesMessage (window ++ given) exchange.message behind → HandsDrawn x y exchange.drawn
+    → Takes held held' (turn_text (met exchange))
+    → StepsOn asks rules window (record { left = left; held = held; desk = desk; outlook = x }) behind (record { left = left'; held = held'; desk = desk'; outlook = y }) (next_of stopped last (turn_bytes (met exchange)))
+next-on asks rules window behind desk desk' x y left left' held held' exchange given true last s l is steps gives takes hands wrote = λ budget some.
+    met-turn asks rules window behind budget desk desk' x y left left' held held' Stopped exchange given is steps gives takes hands tt
+    (whole held held' (met exchange) wrote) (behind-one budget (met exchange) _ some (rw s refl))
+next-on asks rules window behind desk desk' x y left left' held held' exchange given false true s l is steps gives takes hands wrote = λ budget some.
+    met-turn asks rules window behind budget desk desk' x y left left' held held' Closed exchange given is steps gives takes hands tt
+    (whole held held' (met exchange) wrote) (behind-one budget (met exchange) _ some (rw (s, l) refl))
+next-on asks rules window behind desk desk' x y left left' held held' exchange given false false s l is steps gives takes hands wrote = record {
+  exchange = exchange;
+  is = is;
+  steps = steps;
+  given = given;
+  gives = gives;
+  takes = takes;
+  writes = wrote;
+  hands = hands;
+  goes_on = rw (s, l) refl;
+  bytes_are = refl;
+}
+
+written-on : {K : Type 0} (asks : K → Command → Receipt → K → Type 0) (rules : Rules) (window behind : List ℕ) (desk desk' : K) (x y : Outlook) (left left' held held' : Option (List ℕ)) (exchange : Exchange) (given : List ℕ) (next : Next)
+    → IsExchange rules exchange → StepsDesk asks desk exchange.asked desk' → Gives left left' given → TakesMessage (window ++ given) exchange.message behind → HandsDrawn x y exchange.drawn
+    → WritesNext held held' exchange next
+    → StepsOn asks rules window (record { left = left; held = held; desk = desk; outlook = x }) behind (record { left = left'; held = held'; desk = desk'; outlook = y }) next
+written-on asks rules window behind desk desk' x y left left' held held' exchange given next is steps gives takes hands (inl (wrote, by)) =
+    subst (StepsOn asks rules window (record { left = left; held = held; desk = desk; outlook = x }) behind (record { left = left'; held = held'; desk = desk'; outlook = y })) (sym by)
+    (next-on asks rules window behind desk desk' x y left left' held held' exchange given _ _ refl refl is steps gives takes hands wrote)
+written-on asks rules window behind desk desk' x y left left' held held' exchange given next is steps gives takes hands (inr (front, by)) =
+    subst (StepsOn asks rules window (record { left = left; held = held; desk = desk; outlook = x }) behind (record { left = left'; held = held'; desk = desk'; outlook = y })) (sym by)
+    (λ budget some. met-turn asks rules window behind budget desk desk' x y left left' held held' WriteFault exchange given is steps gives takes hands tt
+    (cuts held held' (met exchange) front) (behind-one budget (met exchange) _ some tt))
+
+-- a message that came whole was answered
+pub Steps-on : {K : Type 0} (asks : K → Command → Receipt → K → Type 0) (rules : Rules) (window behind : List ℕ) (desk desk' : K) (x y : Outlook) (left middle left' held middle_held held' : Option (List ℕ)) (incoming : Incoming) (next : Next)
+    → Arrives left middle window (Ok (Some incoming)) behind → left' ≡ middle → middle_held ≡ held → Responds asks rules incoming desk desk' x y middle_held held' next
+    → StepsOn asks rules window (record { left = left; held = held; desk = desk; outlook = x }) behind (record { left = left'; held = held'; desk = desk'; outlook = y }) next
+Steps-on {K} asks rules window behind desk desk' x y left middle left' held middle_held held' incoming next p same same_held responds =
+    let message = p.reads.0 in
+    let reply = responds.reply message p.reads.1 in
+    let exchange = reply.0 in
+    let gives : Gives left left' p.given = subst (λ (l : Option (List ℕ)). Gives left l p.given) (sym same) p.gives in
+    let takes : TakesMessage (window ++ p.given) exchange.message behind = subst (λ (m : Message). TakesMessage (window ++ p.given) m behind) (sym reply.1) p.reads.2 in
+    let wrote : WritesNext held held' exchange next = subst (λ (h : Option (List ℕ)). WritesNext h held' exchange next) same_held reply.5 in
+    written-on asks rules window behind desk desk' x y left left' held held' exchange p.given next reply.2 reply.3 gives takes reply.4 wrote
+
+pub Serves-halted : {K : Type 0} (asks : K → Command → Receipt → K → Type 0) (rules : Rules) (window behind : List ℕ) (desk : K) (x : Outlook) (left middle left' held middle_held held' : Option (List ℕ)) (error : HeadError) (end : SessionEnd)
+    → Arrives left middle window (Err error) behind → left' ≡ middle → middle_held ≡ held → Halts middle_held held' error end → (budget : ℕ) → 0 < budget
+    → ServesFrom asks rules window budget (record { left = left; held = held; desk = desk; outlook = x }) (record { left = left'; held = held'; desk = desk; outlook = x }) end
+Serves-halted asks rules window behind desk x left middle left' held middle_held held' error end p same same_held how budget some =
+    halted error end (subst (λ (l : Option (List ℕ)). Arrives left l window (Err error) behind) (sym same) p) (subst (λ (h : Option (List ℕ)). Halts h held' error end) same_held how)
+  where
+    halted : (error : HeadError) (end : SessionEnd) → Arrives left left' window (Err error) behind → Halts held held' error end
+        → ServesFrom asks rules window budget (record { left = left; held = held; desk = desk; outlook = x }) (record { left = left'; held = held'; desk = desk; outlook = x }) end
+    halted error end p (inl (is, ends, stays)) =
+        subst (λ (e : SessionEnd). ServesFrom asks rules window budget (record { left = left; held = held; desk = desk; outlook = x }) (record { left = left'; held = held'; desk = desk; outlook = x }) e) (sym ends)
+        (Serves-failed asks rules window behind desk x left left' held held' (subst (λ (e : HeadError). Arrives left left' window (Err e) behind) is p) stays budget some)
+    halted error end p (inr (inl (is, ends, stays))) =
+        subst (λ (e : SessionEnd). ServesFrom asks rules window budget (record { left = left; held = held; desk = desk; outlook = x }) (record { left = left'; held = held'; desk = desk; outlook = x }) e) (sym ends)
+        (Serves-wanting asks rules window behind desk x left left' held held' error p stays budget some)
+    halted error end p (inr (inr (n, m, refuses))) = Serves-refused asks rules window behind desk x left left' held held' error end n m p refuses budget some
+
+-- ---- one message, and then the rest
+
+TakesMessage-more : (text rest more : List ℕ) (message : Message) → TakesMessage text message rest → TakesMessage (text ++ more) message (rest ++ more)
+TakesMessage-more text rest more message p =
+    let P : List ℕ → Type 0 = λ behind. TakesHead (text ++ more) message.head behind in
+    record {
+      head = subst P (append_assoc message.body rest more) (ReadsHead-more text (message.body ++ rest) more (Ok (Some message.head)) tt p.head);
+      whole = p.whole;
+    }
+
+hands-cons : (x y z : Outlook) (exchange : Exchange) (turns : List Turn) → HandsDrawn x y exchange.drawn → HandsTurns y z turns → HandsTurns x z (met exchange ∷ turns)
+hands-cons x y z exchange turns first later =
+    let more = flat_map drawn_for turns in
+    let drawn = exchange.drawn in
+    let moment = λ (d : Drawn). d.moment in
+    let throttle = λ (d : Drawn). d.throttle in
+    let draw = λ (d : Drawn). d.draw in
+    let all = Hands-append x y z (map moment drawn) (map moment more) (map throttle drawn) (map throttle more) (map draw drawn) (map draw more) first later in
+    record {
+      by_clock = subst (HandsAll x.moments z.moments) (sym (map-append moment drawn more)) all.by_clock;
+      by_throttle = subst (HandsAll x.throttles z.throttles) (sym (map-append throttle drawn more)) all.by_throttle;
+      by_id = subst (HandsAll x.ids z.ids) (sym (map-append draw drawn more)) all.by_id;
+    }
+
+writes-cons : (end : SessionEnd) (a b c : Option (List ℕ)) (turn : Turn) (turns : List Turn) → Takes a b (turn_text turn) → Writes end b c turns → Writes end a c (turn ∷ turns)
+writes-cons Ended a b c turn turns first later = Takes-append a b c (turn_text turn) (replies_text turns) first later
+writes-cons Closed a b c turn turns first later = Takes-append a b c (turn_text turn) (replies_text turns) first later
+writes-cons Stopped a b c turn turns first later = Takes-append a b c (turn_text turn) (replies_text turns) first later
+writes-cons Refused a b c turn turns first later = Takes-append a b c (turn_text turn) (replies_text turns) first later
+writes-cons ReadFault a b c turn turns first later = Takes-append a b c (turn_text turn) (replies_text turns) first later
+writes-cons TooLong a b c turn turns first later = Takes-append a b c (turn_text turn) (replies_text turns) first later
+writes-cons NoMemory a b c turn turns first later = Takes-append a b c (turn_text turn) (replies_text turns) first later
+writes-cons WriteFault a b c turn turns first later = record {
+  whole = turn ∷ later.whole;
+  last = later.last;
+  turns_are = ap (λ ts. turn ∷ ts) later.turns_are;
+  count = later.count;
+  not_all = later.not_all;
+  takes =
+      subst (Takes a c) (sym (append_assoc (turn_text turn) (replies_text later.whole) (take later.count (turn_text later.last))))
+      (Takes-append a b c (turn_text turn) (replies_text later.whole ++ take later.count (turn_text later.last)) first later.takes);
+}
+
+behind-cons : (budget : ℕ) (turn : Turn) (turns : List Turn) (P : Turn → Type 0) → 0 < budget → closing_of turn ≡ None → EndsBehind (budget - turn_bytes turn) turns P → EndsBehind budget (turn ∷ turns) P
+behind-cons budget turn turns P some on e = record {
+  before = turn ∷ e.before;
+  last = e.last;
+  turns_are = ap (λ ts. turn ∷ ts) e.turns_are;
+  over = e.over;
+  goes_on = (some, on, e.goes_on);
+  some = e.some;
+  ends = e.ends;
+}
+
+edge-cons : (budget : ℕ) (turn : Turn) (turns : List Turn) (P : ℕ → Type 0) → 0 < budget → closing_of turn ≡ None → EndsAtEdge (budget - turn_bytes turn) turns P → EndsAtEdge budget (turn ∷ turns) P
+edge-cons budget turn turns P some on e = record { over = e.over; goes_on = (some, on, e.goes_on); ends = e.ends }
+
+ends-cons : (end : SessionEnd) (budget : ℕ) (turn : Turn) (turns : List Turn) → 0 < budget → closing_of turn ≡ None → IsEnd end (budget - turn_bytes turn) turns → IsEnd end budget (turn ∷ turns)
+ends-cons Ended budget turn turns some on e = edge-cons budget turn turns _ some on e
+ends-cons ReadFault budget turn turns some on e = edge-cons budget turn turns _ some on e
+ends-cons NoMemory budget turn turns some on e = edge-cons budget turn turns _ some on e
+ends-cons TooLong budget turn turns some on e = edge-cons budget turn turns _ some on e
+ends-cons Closed budget turn turns some on e = behind-cons budget turn turns _ some on e
+ends-cons Stopped budget turn turns some on e = behind-cons budget turn turns _ some on e
+ends-cons Refused budget turn turns some on e = behind-cons budget turn turns _ some on e
+ends-cons WriteFault budget turn turns some on e = behind-cons budget turn turns _ some on e
+
+pub Serves-cons : {K : Type 0} (asks : K → Command → Receipt → K → Type 0) (rules : Rules) (window behind : List ℕ) (budget bytes over : ℕ) (before middle after : Around K) (end : SessionEnd)
+    → 0 < budget → Exchanges asks rules window before behind middle bytes → over ≡ budget - bytes → ServesFrom asks rules behind over middle after end
+    → ServesFrom asks rules window budget before after end
+Serves-cons {K} asks rules window behind budget bytes over before middle after end some x is s =
+    let turn : Turn = met x.exchange in
+    let ends : IsEnd end (budget - turn_bytes turn) s.turns = subst (λ b. IsEnd end b s.turns) (is ∙ ap (λ b. budget - b) x.bytes_are) s.ends in
+    record {
+      turns = turn ∷ s.turns;
+      by_rules = (x.is, s.by_rules);
+      runs = (middle.desk, x.steps, s.runs);
+      given = x.given ++ s.given;
+      gives = Gives-append before.left middle.left after.left x.given s.given x.gives s.gives;
+      rest = s.rest;
+      holds = (behind ++ s.given, subst (λ text. TakesMessage text x.exchange.message (behind ++ s.given)) (append_assoc window x.given s.given) (TakesMessage-more (window ++ x.given) behind s.given x.exchange.message x.takes), s.holds);
+      leaves = s.leaves;
+      writes = writes-cons end before.held middle.held after.held turn s.turns x.writes s.writes;
+      hands = hands-cons before.outlook middle.outlook after.outlook x.exchange s.turns x.hands s.hands;
+      ends = ends-cons end budget turn s.turns some x.goes_on ends;
+    }
+
+-- each message has some bytes
+pub bytes-some : {K : Type 0} (asks : K → Command → Receipt → K → Type 0) (rules : Rules) (window behind : List ℕ) (before middle : Around K) (bytes : ℕ) → Exchanges asks rules window before behind middle bytes → 0 < bytes
+bytes-some {K} asks rules window behind before middle bytes x =
+    let head = x.takes.head in
+    let size : x.exchange.message.head.bytes ≡ length head.block = ap (λ (h : Head). h.bytes) head.says.says in
+    let ends = head.taken.shortest.ends in
+    let parts = ap length ends.1 ∙ length-append ends.0 _ in
+    omega (arith, x.bytes_are)
+
+-- the whole session
+pub Serves-of : {K : Type 0} (asks : K → Command → Receipt → K → Type 0) (rules : Rules) (before after : Around K) (end : SessionEnd) → ServesFrom asks rules [] rules.session_bytes before after end → Serves asks rules before after end
+Serves-of {K} asks rules before after end s = record {
+  turns = s.turns;
+  by_rules = s.by_rules;
+  runs = s.runs;
+  reads = record { given = s.given; gives = s.gives; rest = s.rest; holds = s.holds; leaves = s.leaves };
+  writes = s.writes;
+  hands = s.hands;
+  ends = s.ends;
+}
+
+-- memory wanted before the first message, or the budget is used up
+pub Serves-nothing : {K : Type 0} (asks : K → Command → Receipt → K → Type 0) (rules : Rules) (window : List ℕ) (budget : ℕ) (here : Around K) (end : SessionEnd) → Leaves end window here.left → Writes end here.held here.held [] → IsEnd end budget []
+    → ServesFrom asks rules window budget here here end
+Serves-nothing {K} asks rules window budget here end leaves writes ends = record {
+  turns = [];
+  by_rules = tt;
+  runs = refl;
+  given = [];
+  gives = Gives-none here.left here.left refl;
+  rest = window ++ [];
+  holds = refl;
+  leaves = subst (λ text. Leaves end text here.left) (sym (append-nil window)) leaves;
+  writes = writes;
+  hands = Hands-none here.outlook;
+  ends = ends;
+}
+
+-- ---- the reply
+
+text-is : (exchange : Exchange) (message : Message) (incoming : Incoming) (outcome : Outcome) (last : Bool) → exchange.message ≡ message → message.head ≡ incoming.head → exchange.reply ≡ reply_of outcome.reply
+    → says_stopped exchange.asked ≡ outcome.stopped → last ≡ (outcome.stopped || incoming.head.last) → reply_text (closing last (reply_of outcome.reply)) ≡ turn_text (met exchange)
+text-is exchange message incoming outcome last m h r s l =
+    let head : exchange.message.head ≡ incoming.head = ap (λ (m : Message). m.head) m ∙ h in
+    let lasts : last ≡ is_last exchange = l ∙ ap (λ b. b || incoming.head.last) (sym s) ∙ ap (λ (h : Head). says_stopped exchange.asked || h.last) (sym head) in
+    ap (λ b. reply_text (closing b (reply_of outcome.reply))) lasts ∙ ap (λ (a : Answered). reply_text (closing (is_last exchange) a)) (sym r)
+
+next-is : (exchange : Exchange) (message : Message) (incoming : Incoming) (outcome : Outcome) (next : Next) → exchange.message ≡ message → message.head ≡ incoming.head → says_stopped exchange.asked ≡ outcome.stopped
+    → IsNext outcome.stopped incoming.head.last (incoming.head.bytes + incoming.head.length) next → IsNext (says_stopped exchange.asked) exchange.message.head.last (turn_bytes (met exchange)) next
+next-is exchange message incoming outcome next m h s is =
+    let head : incoming.head ≡ exchange.message.head = sym (ap (λ (m : Message). m.head) m ∙ h) in
+    is ∙ ap (λ b. next_of b incoming.head.last (incoming.head.bytes + incoming.head.length)) (sym s)
+    ∙ ap (λ (h : Head). next_of (says_stopped exchange.asked) h.last (h.bytes + h.length)) head
+
+pub Responds-written : {K : Type 0} (asks : K → Command → Receipt → K → Type 0) (rules : Rules) (incoming : Incoming) (desk after : K) (x y : Outlook) (held held' : Option (List ℕ)) (outcome : Outcome) (last : Bool) (next : Next)
+    → ((message : Message) → IsMessage incoming message → Answers asks rules message desk after x y outcome) → last ≡ (outcome.stopped || incoming.head.last)
+    → Takes held held' (reply_text (closing last (reply_of outcome.reply))) → IsNext outcome.stopped incoming.head.last (incoming.head.bytes + incoming.head.length) next
+    → Responds asks rules incoming desk after x y held held' next
+Responds-written {K} asks rules incoming desk after x y held held' outcome last next answers l wrote is = record {
+  reply = λ message came.
+      let a = answers message came in (
+        a.exchange,
+        a.message_is,
+        a.is,
+        a.steps,
+        a.hands,
+        inl (
+          subst (Takes held held') (text-is a.exchange message incoming outcome last a.message_is came.head a.reply_is a.stopped_is l) wrote,
+          next-is a.exchange message incoming outcome next a.message_is came.head a.stopped_is is,
+        ),
+      );
+}
+
+pub Responds-cut : {K : Type 0} (asks : K → Command → Receipt → K → Type 0) (rules : Rules) (incoming : Incoming) (desk after : K) (x y : Outlook) (held held' : Option (List ℕ)) (outcome : Outcome) (last : Bool)
+    → ((message : Message) → IsMessage incoming message → Answers asks rules message desk after x y outcome) → last ≡ (outcome.stopped || incoming.head.last)
+    → TakesFront held held' (reply_text (closing last (reply_of outcome.reply))) → Responds asks rules incoming desk after x y held held' (Ends WriteFault)
+Responds-cut {K} asks rules incoming desk after x y held held' outcome last answers l front = record {
+  reply = λ message came.
+      let a = answers message came in (
+        a.exchange,
+        a.message_is,
+        a.is,
+        a.steps,
+        a.hands,
+        inr (subst (TakesFront held held') (text-is a.exchange message incoming outcome last a.message_is came.head a.reply_is a.stopped_is l) front, refl),
+      );
+}

@@ -1,0 +1,7 @@
+pub mod AnswerLemmas
+pub mod ArrivalLemmas
+pub mod ConnectionLemmas
+pub mod LineLemmas
+pub mod ReportLemmas
+pub mod RowLemmas
+pub mod TaskLemmas

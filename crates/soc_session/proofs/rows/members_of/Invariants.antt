@@ -1,0 +1,12 @@
+use Rattle.std.proofs.Common.{◌≡◌, false, drop}
+use Rattle.serde_json.specs.Data.{no_members}
+use Rattle.serde_json.specs.View.{members_view}
+use Rattle.serde_json.specs.Written.{members_have_float}
+use Rattle.soc_session.specs.Replies.{with_cells}
+use Rattle.soc_session.proofs.rows.members_of.Given as goal
+
+-- the members so far, with the cells that are left
+abbrev pub invariant-loop-i : goal.invariant-loop-i
+invariant-loop-i l =
+    (with_cells (members_view l.members.entries) (drop l.i l.row) ≡ with_cells no_members l.row)
+    × (members_have_float (members_view l.members.entries) ≡ false)

@@ -1,0 +1,8 @@
+use Rattle.std.proofs.Common.{◌∙◌, ap}
+use Rattle.soc_session.proofs.RowLemmas.{row-text}
+use Rattle.soc_session.proofs.rows.row_text.Goals as goal
+
+pub returns : goal.returns
+returns c =
+    c.from.ensures ∙ ap (λ v. v.items) c.into_bytes.ensures.value
+    ∙ row-text c.in_ok-members.members c.args.row.now _ c.in_ok-members.ensures c.in_ok-text.ensures.text

@@ -1,0 +1,10 @@
+pub mod Arrivals
+pub mod Desk
+pub mod Lines
+pub mod Messages
+pub mod Plan
+pub mod Replies
+pub mod Rows
+pub mod Session
+pub mod Steps
+pub mod Tasks

@@ -1,0 +1,88 @@
+//! What one message is answered over a desk.
+ghost use Rattle.std.specs.Prelude.{◌≡◌, None, false};
+ghost use Rattle.soc_edge.specs.Told.{outlook};
+ghost use Rattle.soc_http.specs.Message.{Message};
+ghost use Rattle.soc_session.specs.Arrivals.{IsMessage, IsSized};
+ghost use Rattle.soc_session.specs.Tasks.{Answers, Carries};
+
+use crate::arrivals::Incoming;
+use crate::replies::Room;
+use crate::rules::Rules;
+use crate::tasks::{Task, task_of};
+use soc_book::{Command, Desk};
+use soc_edge::{Clock, Draws};
+use soc_http::{Answered, Routes};
+use soc_raw::NoMemory;
+use std::alloc::Global;
+
+/// What came of a message.
+#[derive(Drop)]
+pub(crate) struct Outcome {
+    /// `None` where memory wanted.
+    pub(crate) reply: Option<Answered>,
+    /// Whether the desk has stopped.
+    pub(crate) stopped: bool,
+}
+
+/// Answers a message that came whole.
+pub(crate) fn answer<K: Desk, C: Clock, W: Draws>(
+    alloc: Global,
+    desk: &mut K,
+    rules: &Rules,
+    routes: &Routes,
+    incoming: &Incoming,
+    clock: &mut C,
+    draws: &mut W,
+) -> Outcome
+    requires { IsSized incoming.now }
+    ensures { (message : Message) → IsMessage incoming.now message → Answers K.Asks rules.now message desk.old desk.new
+        (outlook (C.moments clock.old) (W.throttles draws.old) (W.ids draws.old))
+        (outlook (C.moments clock.new) (W.throttles draws.new) (W.ids draws.new)) result }
+{
+    let Some(body) = &incoming.body else {
+        return Outcome::wanting();
+    };
+    let body = body.as_slice();
+    match task_of(alloc, rules, routes, &incoming.head, body, clock, draws) {
+        Ok(task) => carry_out(alloc, desk, task),
+        Err(NoMemory) => Outcome::wanting(),
+    }
+}
+
+impl Outcome {
+    /// Memory wanted, before the desk was asked.
+    fn wanting() -> Outcome
+        ensures { result ≡ record { reply = None; stopped = false } }
+    {
+        Outcome {
+            reply: None,
+            stopped: false,
+        }
+    }
+}
+
+fn carry_out<K: Desk>(alloc: Global, desk: &mut K, task: Task) -> Outcome
+    ensures { Carries K.Asks task desk.old desk.new result }
+{
+    match task {
+        Task::Say(reply) => Outcome {
+            reply: Some(reply),
+            stopped: false,
+        },
+        Task::Ask(command) => ask(alloc, desk, command),
+    }
+}
+
+/// Asks the desk, once there is room for its reply.
+fn ask<K: Desk>(alloc: Global, desk: &mut K, command: Command) -> Outcome
+    ensures { Carries K.Asks (Task.Ask command) desk.old desk.new result }
+{
+    let Ok(room) = Room::new(alloc) else {
+        return Outcome::wanting();
+    };
+    let receipt = desk.ask(command);
+    Outcome {
+        stopped: receipt.stopped,
+        reply: room.desk_reply(alloc, receipt.reply).ok(),
+    }
+}

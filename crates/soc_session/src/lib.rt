@@ -1,0 +1,16 @@
+//! One connection over any desk: bytes in, replies out, in order.
+#![tactic(auto)]
+
+mod answers;
+mod arrivals;
+mod connection;
+mod ending;
+mod lines;
+mod replies;
+mod rows;
+mod rules;
+mod tasks;
+
+pub use connection::session;
+pub use ending::SessionEnd;
+pub use rules::Rules;
