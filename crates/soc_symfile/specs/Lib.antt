@@ -1,0 +1,9 @@
+pub mod Words
+pub mod Line
+pub mod Records
+pub mod Found
+pub mod Cfi
+pub mod Path
+pub mod Views
+pub mod Reading
+pub mod Examples

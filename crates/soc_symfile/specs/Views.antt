@@ -1,0 +1,34 @@
+-- What the program's values hold, without the places where their slices lie in memory.
+use Rattle.std.specs.Prelude.{ℕ, List, map, slice_range, Option, option_map}
+use Rattle.soc_symfile.specs.declared.entries.Extent.{Extent}
+use Rattle.soc_symfile.specs.declared.entries.Label.{Label}
+use Rattle.soc_symfile.specs.declared.entries.File.{File}
+use Rattle.soc_symfile.specs.declared.entries.Owner.{Owner}
+use Rattle.soc_symfile.specs.declared.cfi_span.CfiSpan.{CfiSpan}
+use Rattle.soc_symfile.specs.declared.found.Found.{Found}
+use Rattle.soc_symfile.specs.Line.{ExtentEntry, LabelEntry, FileEntry}
+use Rattle.soc_symfile.specs.Found.{Finding}
+use Rattle.soc_symfile.specs.Cfi.{Span}
+
+abbrev pub extent_entry : Extent → ExtentEntry
+extent_entry extent = record { address = extent.address; size = extent.size; text = extent.text.now }
+
+abbrev pub label_entry : Label → LabelEntry
+label_entry label = record { address = label.address; text = label.text.now }
+
+abbrev pub file_entry : File → FileEntry
+file_entry file = record { number = file.number; name = file.name.now }
+
+-- an owner with its part of the table of all parts
+abbrev pub owner_entry : {P Q : Type 0} → (P → Q) → List P → Owner → ExtentEntry × List Q
+owner_entry part parts owner = (extent_entry owner.extent, map part (slice_range parts owner.first owner.end))
+
+abbrev pub span_of : CfiSpan → Span
+span_of span = record { init = span.init.now; deltas = map label_entry span.deltas.now }
+
+abbrev pub finding_of : Found → Finding
+finding_of found = record {
+  function = option_map (λ s. s.now) found.function;
+  file = option_map (λ s. s.now) found.file;
+  line = found.line;
+}
