@@ -6,4 +6,6 @@ pub mod Cfi
 pub mod Path
 pub mod Views
 pub mod Reading
+pub mod Places
+pub mod Tables
 pub mod Examples

@@ -2,11 +2,13 @@
 use Rattle.std.specs.Prelude.{ℕ, List, map, slice_range, Option, option_map}
 use Rattle.soc_symfile.specs.declared.entries.Extent.{Extent}
 use Rattle.soc_symfile.specs.declared.entries.Label.{Label}
-use Rattle.soc_symfile.specs.declared.entries.File.{File}
+use Rattle.soc_symfile.specs.declared.entries.File.{File as NamedFile}
 use Rattle.soc_symfile.specs.declared.entries.Owner.{Owner}
+use Rattle.soc_symfile.specs.declared.entries.Line.{Line}
+use Rattle.soc_symfile.specs.declared.entries.Line.TheVariants as L
 use Rattle.soc_symfile.specs.declared.cfi_span.CfiSpan.{CfiSpan}
 use Rattle.soc_symfile.specs.declared.found.Found.{Found}
-use Rattle.soc_symfile.specs.Line.{ExtentEntry, LabelEntry, FileEntry}
+use Rattle.soc_symfile.specs.Line.{ExtentEntry, LabelEntry, FileEntry, LineEntry, Other, File, Function, Source, Public, Init, Delta}
 use Rattle.soc_symfile.specs.Found.{Finding}
 use Rattle.soc_symfile.specs.Cfi.{Span}
 
@@ -16,7 +18,7 @@ extent_entry extent = record { address = extent.address; size = extent.size; tex
 abbrev pub label_entry : Label → LabelEntry
 label_entry label = record { address = label.address; text = label.text.now }
 
-abbrev pub file_entry : File → FileEntry
+abbrev pub file_entry : NamedFile → FileEntry
 file_entry file = record { number = file.number; name = file.name.now }
 
 -- an owner with its part of the table of all parts
@@ -32,3 +34,12 @@ finding_of found = record {
   file = option_map (λ s. s.now) found.file;
   line = found.line;
 }
+
+abbrev pub line_entry : Line → LineEntry
+line_entry L.Other = Other
+line_entry (L.File file) = File (file_entry file)
+line_entry (L.Function extent) = Function (extent_entry extent)
+line_entry (L.Source line) = Source line
+line_entry (L.Public label) = Public (label_entry label)
+line_entry (L.Init extent) = Init (extent_entry extent)
+line_entry (L.Delta label) = Delta (label_entry label)

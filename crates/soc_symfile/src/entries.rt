@@ -1,4 +1,13 @@
 // The entries of the tables: one of fixed size for each record. Texts stay in the file.
+ghost use Rattle.std.specs.Prelude.{◌≡◌, ◌<◌, ◌^◌, ℕ};
+
+/// A record that is looked up by a number: its address, or a file's number.
+pub trait Keyed {
+    ghost key_of: { Self → ℕ };
+
+    fn key(&self) -> u64
+        ensures { result ≡ key_of self.now };
+}
 
 /// A function or an INIT: where it begins in its module, how many bytes it covers, and its name or
 /// rules.
@@ -54,4 +63,28 @@ pub enum Line<'a> {
     Public(Label<'a>),
     Init(Extent<'a>),
     Delta(Label<'a>),
+}
+
+impl Keyed for Owner<'_> {
+    ghost key_of = { λ owner. owner.extent.address };
+
+    fn key(&self) -> u64 {
+        self.extent.address
+    }
+}
+
+impl Keyed for Label<'_> {
+    ghost key_of = { λ label. label.address };
+
+    fn key(&self) -> u64 {
+        self.address
+    }
+}
+
+impl Keyed for File<'_> {
+    ghost key_of = { λ file. file.number };
+
+    fn key(&self) -> u64 {
+        u64::from(self.number)
+    }
 }

@@ -5,7 +5,17 @@ mod cfi_span;
 mod entries;
 mod error;
 mod found;
+mod line;
+mod lines;
+mod numbers;
+mod path;
+mod places;
+mod symfile;
+mod tables;
+mod words;
 
 pub use cfi_span::CfiSpan;
 pub use error::SymError;
 pub use found::Found;
+pub use path::symbol_path;
+pub use symfile::SymFile;

@@ -1,0 +1,8 @@
+use Rattle.std.proofs.Common.{◌≡◌, take}
+use Rattle.std.specs.Str.Parse.{digits_value, AllDigits}
+use Rattle.soc_symfile.proofs.numbers.hexadecimal.Given as goal
+
+-- the digits so far, and the number that they write
+abbrev pub invariant-loop-byte : goal.invariant-loop-byte
+invariant-loop-byte l =
+    AllDigits 16 (take l.byte-index l.bytes) × (l.value ≡ digits_value 16 (take l.byte-index l.bytes))
