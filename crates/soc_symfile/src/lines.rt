@@ -1,8 +1,9 @@
 // The lines of a text.
-ghost use Rattle.std.specs.Prelude.{◌≡◌, ◌∷◌, ◌<◌, [], length, MatchOption, List, ℕ};
+ghost use Rattle.std.specs.Prelude.{◌≡◌, ◌∷◌, ◌<◌, [], length, MatchOption};
 ghost use Rattle.std.specs.Str.Lines.{lines, strip_carriage_return};
 
 use memchr::memchr;
+use soc_text::{after, before};
 
 const CARRIAGE_RETURN: u8 = b'\r';
 
@@ -27,7 +28,7 @@ pub fn split_line(text: &[u8]) -> Option<(&[u8], &[u8])>
         return None;
     }
     match memchr(LINE_FEED, text) {
-        Some(end) => Some((strip_carriage_return(&text[..end]), &text[end + 1..])),
-        None => Some((text, &text[text.len()..])),
+        Some(end) => Some((strip_carriage_return(before(text, end)), after(text, end + 1))),
+        None => Some((text, after(text, text.len()))),
     }
 }
