@@ -1,7 +1,6 @@
 -- Sorted places of records, and what a look-up among them gives of the records' keys, which stand in the order of the
 -- file. No public clause cites these.
-use Rattle.std.specs.Prelude.{◌≡◌, ℕ, ◌<◌, ◌≤◌, ◌==◌, ◌⊎◌, true, All, List, length, slice_index, slice_index_or, Option, MatchOption}
-use Rattle.std.specs.List.{list_any}
+use Rattle.std.specs.Prelude.{◌≡◌, ℕ, ◌<◌, ◌≤◌, All, List, length, slice_index, slice_index_or, Option, MatchOption}
 use Rattle.std.specs.List.Sorted.{IsNonDecreasingBy}
 use Rattle.soc_symfile.specs.declared.places.Place.{Place}
 
@@ -9,8 +8,11 @@ use Rattle.soc_symfile.specs.declared.places.Place.{Place}
 pub record IsIndex (places : List Place) (keys : List ℕ) : Type 0 where
   pub sorted : IsNonDecreasingBy (λ place. place.key) places
   pub ties : (i j : ℕ) (d : Place) → i ≤ j → j < length places → (slice_index_or places i d).key ≡ (slice_index_or places j d).key → (slice_index_or places i d).at ≤ (slice_index_or places j d).at
-  pub real : All (λ place. (place.at < length keys) × (slice_index keys place.at ≡ place.key)) places
-  pub whole : (at : ℕ) → at < length keys → list_any (λ place. place.at == at) places ≡ true
+  pub real : (i : ℕ) (d : Place) → i < length places → ((slice_index_or places i d).at < length keys) × (slice_index keys (slice_index_or places i d).at ≡ (slice_index_or places i d).key)
+  pub whole : (at : ℕ) → at < length keys → (i : ℕ) × (i < length places) × ((d : Place) → (slice_index_or places i d).at ≡ at)
+
+abbrev pub HasNone : List ℕ → ℕ → Type 0
+HasNone keys key = (at : ℕ) → at < length keys → ¬ (slice_index keys at ≡ key)
 
 -- the key stands at the place and at none before it
 pub record IsFirstOf (keys : List ℕ) (key at : ℕ) : Type 0 where
@@ -23,6 +25,9 @@ pub record IsLastOf (keys : List ℕ) (key at : ℕ) : Type 0 where
   pub inside : at < length keys
   pub is : slice_index keys at ≡ key
   pub last : (other : ℕ) → other < length keys → slice_index keys other ≡ key → other ≤ at
+
+abbrev pub AllAbove : List ℕ → ℕ → Type 0
+AllAbove keys offset = (at : ℕ) → at < length keys → offset < slice_index keys at
 
 -- the first place of the greatest key at or below the offset
 pub record IsNearest (keys : List ℕ) (offset at : ℕ) : Type 0 where

@@ -1,7 +1,8 @@
 // Places of records, sorted by their addresses or numbers.
 ghost use Rattle.std.specs.Prelude.{◌≡◌, ◌<◌, ◌≤◌, ℕ, List, length, map, IfOk, MatchOption};
+ghost use Rattle.std.specs.List.{enumerate_from};
 ghost use Rattle.std.specs.List.Sorted.{IsNonDecreasingBy, IsPartitionPoint};
-ghost use Rattle.soc_symfile.specs.Places.{IsIndex, IsFirstOf, IsLastOf, IsNearest};
+ghost use Rattle.soc_symfile.specs.Places.{IsIndex, IsFirstOf, IsLastOf, IsNearest, HasNone, AllAbove};
 
 use crate::entries::Keyed;
 use soc_raw::NoMemory;
@@ -14,50 +15,85 @@ pub struct Place {
     pub at: usize,
 }
 
-/// The places of all records, sorted by their keys; those of one key stand in the records' order.
+/// The places of the records, in their order.
+fn places_of<R: Keyed>(alloc: Global, records: &[R]) -> Result<Vec<Place>, NoMemory>
+    ensures { IfOk result (λ places. places.items ≡ map (λ r. record { key = R.key_of r.1; at = r.0 }) (enumerate_from 0 records.now)) }
+{
+    let places: Vec<Place> = records
+        .iter()
+        .enumerate()
+        .map(|(at, record)| Place {
+            key: record.key(),
+            at,
+        })
+        .collect(alloc)?;
+    Ok(places)
+}
+
+/// The places of the records, sorted by their keys; those of one key stand in the records' order.
 pub fn index<R: Keyed>(alloc: Global, records: &[R]) -> Result<Vec<Place>, NoMemory>
     ensures { IfOk result (λ places. IsIndex places.items (map R.key_of records.now)) }
 {
-    let mut places = Vec::with_capacity(alloc, records.len())?;
-    for (at, record) in records.iter().enumerate() {
-        places.push(Place {
-            key: record.key(),
-            at,
-        })?;
-    }
+    let mut places = places_of(alloc, records)?;
     places.sort_unstable();
     Ok(places)
 }
 
 /// How many places have a key below this one.
 fn count_below(places: &[Place], key: u64) -> usize
+    ensures bound { result ≤ length places.now }
+    ensures point { IsNonDecreasingBy (λ place. place.key) places.now → IsPartitionPoint (λ place. place.key < key) (λ place. key ≤ place.key) places.now result }
 {
     places.partition_point(|place| place.key < key)
 }
 
 /// How many places have this key or one below it.
 fn count_to(places: &[Place], key: u64) -> usize
+    ensures bound { result ≤ length places.now }
+    ensures point { IsNonDecreasingBy (λ place. place.key) places.now → IsPartitionPoint (λ place. place.key ≤ key) (λ place. key < place.key) places.now result }
 {
     places.partition_point(|place| place.key <= key)
 }
 
 /// The first record of the key.
 pub fn first_of(places: &[Place], key: u64) -> Option<usize>
+    ensures { (keys : List ℕ) → IsIndex places.now keys → MatchOption result (HasNone keys key) (IsFirstOf keys key) }
 {
-    let place = places.get(count_below(places, key))?;
-    if place.key == key { Some(place.at) } else { None }
+    let count = count_below(places, key);
+    if count == places.len() {
+        return None;
+    }
+    let place = places[count];
+    if place.key == key {
+        Some(place.at)
+    } else {
+        None
+    }
 }
 
 /// The last record of the key.
 pub fn last_of(places: &[Place], key: u64) -> Option<usize>
+    ensures { (keys : List ℕ) → IsIndex places.now keys → MatchOption result (HasNone keys key) (IsLastOf keys key) }
 {
-    let place = places[..count_to(places, key)].last()?;
-    if place.key == key { Some(place.at) } else { None }
+    let count = count_to(places, key);
+    if count == 0 {
+        return None;
+    }
+    let place = places[count - 1];
+    if place.key == key {
+        Some(place.at)
+    } else {
+        None
+    }
 }
 
 /// The first record of the greatest key at or below the offset.
 pub fn nearest(places: &[Place], offset: u64) -> Option<usize>
+    ensures { (keys : List ℕ) → IsIndex places.now keys → MatchOption result (AllAbove keys offset) (IsNearest keys offset) }
 {
-    let place = places[..count_to(places, offset)].last()?;
-    first_of(places, place.key)
+    let count = count_to(places, offset);
+    if count == 0 {
+        return None;
+    }
+    first_of(places, places[count - 1].key)
 }
