@@ -1,3 +1,4 @@
+pub mod IndexLemmas
 pub mod LineLemmas
 pub mod NumberLemmas
 pub mod PlaceLemmas
