@@ -2,4 +2,5 @@ pub mod IndexLemmas
 pub mod LineLemmas
 pub mod NumberLemmas
 pub mod PlaceLemmas
+pub mod TableLemmas
 pub mod WordLemmas

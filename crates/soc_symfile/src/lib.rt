@@ -8,6 +8,7 @@ mod found;
 mod line;
 mod lines;
 mod numbers;
+mod owners;
 mod path;
 mod places;
 mod symfile;

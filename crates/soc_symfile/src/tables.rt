@@ -1,9 +1,11 @@
 // The tables of a file's records, in the order of the file.
-ghost use Rattle.std.specs.Prelude.{◌≡◌, [], IfOk};
-ghost use Rattle.soc_symfile.specs.Records.{Records, records_in};
+ghost use Rattle.std.specs.Prelude.{◌≡◌, ◌<◌, ◌++◌, ◌∷◌, [], length, nat_lt, List, OnOk};
+ghost use Rattle.soc_symfile.specs.Line.{LineEntry};
+ghost use Rattle.soc_symfile.specs.Records.{records_in};
 
 use crate::entries::{Extent, File, Label, Line, Owner, SourceLine};
 use crate::error::SymError;
+use crate::owners::{extend_last, push_owner};
 use soc_raw::NoMemory;
 use std::alloc::Global;
 use std::marker::Model;
@@ -45,5 +47,96 @@ impl<'a> Tables<'a> {
             inits: Vec::new(alloc),
             deltas: Vec::new(alloc),
         }
+    }
+
+    ghost use Rattle.soc_symfile.specs.Tables.{Adds, onto_last, with_functions, with_publics, with_files, with_inits};
+    ghost use Rattle.soc_symfile.specs.Views.{extent_entry, label_entry, file_entry, line_entry};
+
+    /// Adds a function that has no source lines yet.
+    fn add_function(&mut self, extent: Extent<'a>) -> Result<(), NoMemory>
+        ensures { OnOk result (self.new ≡ with_functions self.old (self.old.functions ++ (extent_entry extent.entry, []) ∷ [])) }
+    {
+        push_owner(&mut self.functions, extent, self.sources.len())
+    }
+
+    /// Adds a source line to the last function.
+    fn add_source(&mut self, line: SourceLine) -> Result<(), NoMemory>
+        requires { 0 < length self.old.functions }
+        ensures { OnOk result (self.new ≡ with_functions self.old (onto_last line self.old.functions)) }
+    {
+        self.sources.push(line)?;
+        extend_last(&mut self.functions, self.sources.len());
+        Ok(())
+    }
+
+    fn add_public(&mut self, label: Label<'a>) -> Result<(), NoMemory>
+        ensures { OnOk result (self.new ≡ with_publics self.old (self.old.publics ++ label_entry label.entry ∷ [])) }
+    {
+        self.publics.push(label)?;
+        Ok(())
+    }
+
+    fn add_file(&mut self, file: File<'a>) -> Result<(), NoMemory>
+        ensures { OnOk result (self.new ≡ with_files self.old (self.old.files ++ file_entry file.entry ∷ [])) }
+    {
+        self.files.push(file)?;
+        Ok(())
+    }
+
+    /// Adds an INIT that has no deltas yet.
+    fn add_init(&mut self, extent: Extent<'a>) -> Result<(), NoMemory>
+        ensures { OnOk result (self.new ≡ with_inits self.old (self.old.inits ++ (extent_entry extent.entry, []) ∷ [])) }
+    {
+        push_owner(&mut self.inits, extent, self.deltas.len())
+    }
+
+    /// Adds a delta to the last INIT.
+    fn add_delta(&mut self, label: Label<'a>) -> Result<(), NoMemory>
+        requires { 0 < length self.old.inits }
+        ensures { OnOk result (self.new ≡ with_inits self.old (onto_last (label_entry label.entry) self.old.inits)) }
+    {
+        self.deltas.push(label)?;
+        extend_last(&mut self.inits, self.deltas.len());
+        Ok(())
+    }
+
+    fn has_function(&self) -> bool
+        ensures { result ≡ nat_lt 0 (length self.now.functions) }
+    {
+        0 < self.functions.len()
+    }
+
+    fn has_init(&self) -> bool
+        ensures { result ≡ nat_lt 0 (length self.now.inits) }
+    {
+        0 < self.inits.len()
+    }
+
+    /// Adds what the line of a number says. A record that belongs to a function or an INIT is
+    /// refused where none stands before it.
+    pub fn add(&mut self, number: u64, line: Line<'a>) -> Result<(), SymError>
+        ensures { (said : List LineEntry) → self.old ≡ records_in said → Adds result said (line_entry line.entry) number self.new }
+    {
+        let bad = SymError::BadLine { line: number };
+        match line {
+            Line::Other => {}
+            Line::File(file) => self.add_file(file)?,
+            Line::Function(extent) => self.add_function(extent)?,
+            Line::Public(label) => self.add_public(label)?,
+            Line::Init(extent) => self.add_init(extent)?,
+            Line::Source(line) => {
+                if !self.has_function() {
+                    return Err(bad);
+                }
+                self.add_source(line)?;
+            }
+            Line::Delta(label) => {
+                if !self.has_init() {
+                    return Err(bad);
+                }
+                self.add_delta(label)?;
+            }
+        }
+        Ok(())
     }
 }
