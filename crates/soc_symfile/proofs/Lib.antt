@@ -1,6 +1,9 @@
 pub mod IndexLemmas
 pub mod LineLemmas
 pub mod NumberLemmas
+pub mod OwnerLemmas
 pub mod PlaceLemmas
+pub mod ReadingLemmas
+pub mod RecordLemmas
 pub mod TableLemmas
 pub mod WordLemmas

@@ -1,12 +1,13 @@
 -- How the tables hold the records, and how a line adds to them. No public clause cites these.
-use Rattle.std.specs.Prelude.{◌≡◌, ℕ, ◌≤◌, Bool, true, false, List, [], ◌∷◌, ◌++◌, length, map, Some, Result, Ok, Err, ⊤}
+use Rattle.std.specs.Prelude.{◌≡◌, ℕ, ◌≤◌, Bool, true, false, List, [], ◌∷◌, ◌++◌, length, map, filter_map, Option, Some, Result, Ok, Err, ⊤}
+use Rattle.std.specs.Str.Lines.{lines}
 use Rattle.soc_symfile.specs.declared.entries.Owner.{Owner}
 use Rattle.soc_symfile.specs.declared.entries.SourceLine.{SourceLine}
 use Rattle.soc_symfile.specs.declared.error.SymError.{SymError}
 use Rattle.soc_symfile.specs.declared.error.SymError.TheVariants.{BadLine, NoMemory}
 use Rattle.soc_symfile.specs.declared.tables.Tables.TheInside.{Inside}
-use Rattle.soc_symfile.specs.Line.{ExtentEntry, LabelEntry, FileEntry, LineEntry}
-use Rattle.soc_symfile.specs.Records.{Records, records_in, is_bad}
+use Rattle.soc_symfile.specs.Line.{ExtentEntry, LabelEntry, FileEntry, LineEntry, line_of}
+use Rattle.soc_symfile.specs.Records.{Records, records_in, is_bad, first_bad, unless_bad}
 use Rattle.soc_symfile.specs.Views.{owner_entry, label_entry, file_entry}
 
 -- each owner's part of a table of n lies in it, and the last one's reaches to its end
@@ -62,3 +63,13 @@ with_files records files = record records { files = files }
 
 abbrev pub with_inits : Records → List (ExtentEntry × List LabelEntry) → Records
 with_inits records inits = record records { inits = inits }
+
+-- what a file's lines give, of which the first ones said this and the others say that
+unfoldable pub outcome_after : List LineEntry → List (Option LineEntry) → Result Records ℕ
+outcome_after said others = unless_bad (first_bad (map Some said) others) (records_in (said ++ filter_map (λ line. line) others))
+
+-- where a reader of a text stands: this was said, and what the whole text gives is what this and the lines that are left give
+pub record ReadsOn (whole : Result Records ℕ) (tables : Records) (number : ℕ) (left : List ℕ) (said : List LineEntry) : Type 0 where
+  pub held : tables ≡ records_in said
+  pub count : number ≡ length said
+  pub same : whole ≡ outcome_after said (map line_of (lines left))

@@ -11,6 +11,7 @@ mod numbers;
 mod owners;
 mod path;
 mod places;
+mod reading;
 mod symfile;
 mod tables;
 mod words;
