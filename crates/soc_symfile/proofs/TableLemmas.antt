@@ -1,14 +1,17 @@
 -- What the tables hold.
-use Rattle.std.proofs.Common.{◌≡◌, ℕ, ◌+◌, ◌-◌, ◌<◌, ◌≤◌, Bool, true, false, List, [], ◌∷◌, ◌++◌, length, map, get_or, refl, sym, ◌∙◌, ap, arith, suc}
-use Rattle.std.specs.Prelude.{slice_set, slice_range, drop, take, Result, Ok, Err, OnOk, OnErr}
-use Rattle.std.proofs.lemmas.List.{drop-append-le, take-append-le, take_all, map-append}
+use Rattle.std.proofs.Common.{◌≡◌, ℕ, ◌+◌, ◌-◌, ◌<◌, ◌≤◌, Bool, true, false, List, [], ◌∷◌, ◌++◌, length, map, get_or, refl, sym, ◌∙◌, ap, arith, zero, suc}
+use Rattle.std.specs.Prelude.{slice_set, slice_get, slice_range, option_map, Some, None, drop, take, Result, Ok, Err, OnOk, OnErr}
+use Rattle.std.proofs.lemmas.List.{drop-append-le, take-append-le, take_all, map-append, map-id}
+use Rattle.std.proofs.lemmas.Option.{slice_get-map}
 use Rattle.std.proofs.Common.{length-append, length-drop}
+use Rattle.soc_symfile.specs.declared.entries.Extent.{Extent}
+use Rattle.soc_symfile.specs.declared.entries.Owned.{Owned}
 use Rattle.soc_symfile.specs.declared.entries.Owner.{Owner}
 use Rattle.soc_symfile.specs.declared.entries.Label.{Label}
 use Rattle.soc_symfile.specs.declared.entries.File.{File}
 use Rattle.soc_symfile.specs.declared.entries.SourceLine.{SourceLine}
 use Rattle.soc_symfile.specs.Records.{Records, records_in, owners_in}
-use Rattle.soc_symfile.specs.Tables.{same_line, with_end, AreLaidOut, onto_last}
+use Rattle.soc_symfile.specs.Tables.{same_line, with_end, AreLaidOut, onto_last, Owns}
 use Rattle.soc_symfile.specs.Views.{extent_entry, owner_entry, label_entry, file_entry}
 
 abbrev held : List Owner → List SourceLine → List Label → List File → List Owner → List Label → Records
@@ -105,3 +108,19 @@ pub part_held : {P Q : Type 0} (part : P → Q) (owners new : List Owner) (parts
 part_held part owners new parts more x end pushed is_end is laid =
     let count : end ≡ length parts + 1 = omega (arith, ap length pushed, length-append parts (x ∷ [])) in
     rw (is, pushed) (view-extend part parts x end owners count laid)
+
+-- each owner's part lies in its table
+pub laid-at : (owners : List Owner) (n at : ℕ) (d : Owner) → AreLaidOut owners n → at < length owners
+    → ((get_or owners at d).first ≤ (get_or owners at d).end) × ((get_or owners at d).end ≤ n)
+laid-at [] n at d laid inside = absurd (omega arith)
+laid-at (owner ∷ []) n zero d laid inside = (laid.0, omega (arith, laid.1))
+laid-at (owner ∷ []) n (suc at) d laid inside = absurd (omega arith)
+laid-at (owner ∷ next ∷ owners) n zero d laid inside = (laid.0, laid.1)
+laid-at (owner ∷ next ∷ owners) n (suc at) d laid inside = laid-at (next ∷ owners) n at d laid.2 (omega arith)
+
+pub function_there : (owners : List Owner) (sources : List SourceLine) (at : ℕ) (owned : Owned SourceLine) → Owns owners sources at owned
+    → slice_get (map (owner_entry same_line sources) owners) at ≡ Some (extent_entry owned.extent, owned.parts.now)
+function_there owners sources at owned owns =
+    slice_get-map (owner_entry same_line sources) owners at ∙ ap (option_map (owner_entry same_line sources)) owns.there
+    ∙ ap (λ (ps : List SourceLine). Some (extent_entry owns.owner.extent, ps)) (map-id (slice_range sources owns.owner.first owns.owner.end) ∙ sym owns.parts_are)
+    ∙ ap (λ (e : Extent). Some (extent_entry e, owned.parts.now)) (sym owns.extent)

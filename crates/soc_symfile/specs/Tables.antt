@@ -1,7 +1,8 @@
 -- How the tables hold the records, and how a line adds to them. No public clause cites these.
-use Rattle.std.specs.Prelude.{◌≡◌, ℕ, ◌≤◌, Bool, true, false, List, [], ◌∷◌, ◌++◌, length, map, filter_map, Option, Some, Result, Ok, Err, ⊤}
+use Rattle.std.specs.Prelude.{◌≡◌, ℕ, ◌≤◌, Bool, true, false, List, [], ◌∷◌, ◌++◌, length, map, filter_map, slice_get, slice_range, Option, Some, Result, Ok, Err, ⊤}
 use Rattle.std.specs.Str.Lines.{lines}
 use Rattle.soc_symfile.specs.declared.entries.Owner.{Owner}
+use Rattle.soc_symfile.specs.declared.entries.Owned.{Owned}
 use Rattle.soc_symfile.specs.declared.entries.SourceLine.{SourceLine}
 use Rattle.soc_symfile.specs.declared.error.SymError.{SymError}
 use Rattle.soc_symfile.specs.declared.error.SymError.TheVariants.{BadLine, NoMemory}
@@ -73,3 +74,20 @@ pub record ReadsOn (whole : Result Records ℕ) (tables : Records) (number : ℕ
   pub held : tables ≡ records_in said
   pub count : number ≡ length said
   pub same : whole ≡ outcome_after said (map line_of (lines left))
+
+-- what records are looked up by
+abbrev pub owner_address : {P : Type 0} → ExtentEntry × List P → ℕ
+owner_address owner = owner.0.address
+
+abbrev pub label_address : LabelEntry → ℕ
+label_address label = label.address
+
+abbrev pub file_number : FileEntry → ℕ
+file_number file = file.number
+
+-- the owner at a place, and its parts
+pub record Owns {P : Type 0} (owners : List Owner) (parts : List P) (at : ℕ) (owned : Owned P) : Type 0 where
+  pub owner : Owner
+  pub there : slice_get owners at ≡ Some owner
+  pub extent : owned.extent ≡ owner.extent
+  pub parts_are : owned.parts.now ≡ slice_range parts owner.first owner.end

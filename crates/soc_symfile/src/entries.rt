@@ -52,6 +52,13 @@ pub struct Owner<'a> {
     pub end: usize,
 }
 
+/// A function with its source lines, or an INIT with its deltas.
+#[derive(Clone, Copy, Debug)]
+pub struct Owned<'a, P> {
+    pub extent: Extent<'a>,
+    pub parts: &'a [P],
+}
+
 /// What a line says.
 #[derive(Clone, Copy, Debug)]
 pub enum Line<'a> {

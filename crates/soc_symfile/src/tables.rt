@@ -1,11 +1,12 @@
 // The tables of a file's records, in the order of the file.
-ghost use Rattle.std.specs.Prelude.{◌≡◌, ◌<◌, ◌++◌, ◌∷◌, [], length, nat_lt, List, OnOk};
+ghost use Rattle.std.specs.Prelude.{◌≡◌, ◌<◌, ◌++◌, ◌∷◌, [], length, map, nat_lt, slice_get, List, Some, IfOk, OnOk};
 ghost use Rattle.soc_symfile.specs.Line.{LineEntry};
 ghost use Rattle.soc_symfile.specs.Records.{records_in};
 
-use crate::entries::{Extent, File, Label, Line, Owner, SourceLine};
+use crate::entries::{Extent, File, Label, Line, Owned, Owner, SourceLine};
 use crate::error::SymError;
-use crate::owners::{extend_last, push_owner};
+use crate::owners::{extend_last, owned_at, push_owner};
+use crate::places::{Place, index};
 use soc_raw::NoMemory;
 use std::alloc::Global;
 use std::marker::Model;
@@ -49,6 +50,8 @@ impl<'a> Tables<'a> {
         }
     }
 
+    ghost use Rattle.soc_symfile.specs.Places.{IsIndex};
+    ghost use Rattle.soc_symfile.specs.Tables.{owner_address, label_address, file_number};
     ghost use Rattle.soc_symfile.specs.Tables.{Adds, onto_last, with_functions, with_publics, with_files, with_inits};
     ghost use Rattle.soc_symfile.specs.Views.{extent_entry, label_entry, file_entry, line_entry};
 
@@ -138,5 +141,65 @@ impl<'a> Tables<'a> {
             }
         }
         Ok(())
+    }
+
+    /// The places of the functions, by address.
+    pub fn function_places(&self, alloc: Global) -> Result<Vec<Place>, NoMemory>
+        ensures { IfOk result (λ places. IsIndex places.items (map owner_address self.now.functions)) }
+    {
+        index(alloc, self.functions.as_slice())
+    }
+
+    /// The places of the public symbols, by address.
+    pub fn public_places(&self, alloc: Global) -> Result<Vec<Place>, NoMemory>
+        ensures { IfOk result (λ places. IsIndex places.items (map label_address self.now.publics)) }
+    {
+        index(alloc, self.publics.as_slice())
+    }
+
+    /// The places of the files, by number.
+    pub fn file_places(&self, alloc: Global) -> Result<Vec<Place>, NoMemory>
+        ensures { IfOk result (λ places. IsIndex places.items (map file_number self.now.files)) }
+    {
+        index(alloc, self.files.as_slice())
+    }
+
+    /// The places of the INITs, by address.
+    pub fn init_places(&self, alloc: Global) -> Result<Vec<Place>, NoMemory>
+        ensures { IfOk result (λ places. IsIndex places.items (map owner_address self.now.inits)) }
+    {
+        index(alloc, self.inits.as_slice())
+    }
+
+    /// A function with its source lines.
+    pub fn function(&self, at: usize) -> Owned<'_, SourceLine>
+        requires { at < length self.now.functions }
+        ensures { slice_get self.now.functions at ≡ Some (extent_entry result.extent, result.parts.now) }
+    {
+        owned_at(self.functions.as_slice(), self.sources.as_slice(), at)
+    }
+
+    /// A public symbol.
+    pub fn public(&self, at: usize) -> Label<'_>
+        requires { at < length self.now.publics }
+        ensures { slice_get self.now.publics at ≡ Some (label_entry result) }
+    {
+        self.publics[at]
+    }
+
+    /// A file.
+    pub fn file(&self, at: usize) -> File<'_>
+        requires { at < length self.now.files }
+        ensures { slice_get self.now.files at ≡ Some (file_entry result) }
+    {
+        self.files[at]
+    }
+
+    /// An INIT with its deltas.
+    pub fn init(&self, at: usize) -> Owned<'_, Label<'_>>
+        requires { at < length self.now.inits }
+        ensures { slice_get self.now.inits at ≡ Some (extent_entry result.extent, map label_entry result.parts.now) }
+    {
+        owned_at(self.inits.as_slice(), self.deltas.as_slice(), at)
     }
 }

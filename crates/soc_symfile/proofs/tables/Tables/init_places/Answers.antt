@@ -1,0 +1,7 @@
+use Rattle.std.proofs.lemmas.Simd.{map-map}
+use Rattle.soc_symfile.specs.Tables.{owner_address}
+use Rattle.soc_symfile.specs.Views.{owner_entry, label_entry}
+use Rattle.soc_symfile.proofs.tables.Tables.init_places.Goals as goal
+
+pub returns : goal.returns
+returns c = rw (← c.self.view_is, map-map owner_address (owner_entry label_entry c.self.inside.deltas.items) c.self.inside.inits.items, ← c.as_slice.ensures.value) c.index.ensures
