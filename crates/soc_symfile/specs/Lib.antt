@@ -8,4 +8,5 @@ pub mod Views
 pub mod Reading
 pub mod Places
 pub mod Tables
+pub mod SymFile
 pub mod Examples

@@ -2,6 +2,7 @@
 #![tactic(auto)]
 
 mod cfi_span;
+mod covers;
 mod entries;
 mod error;
 mod found;
