@@ -139,15 +139,15 @@ nearest-some key offset at rs near =
     let keys = map key rs in
     let top = get_or (map key rs) at 0 in
     let is_top : greatest (map key (filter (λ r. nat_le (key r) offset) rs)) ≡ top =
-        ap (λ ks. fold max 0 ks) (map-filter key (λ k. nat_le k offset) rs)
-        ∙ greatest-from offset top keys 0 (omega arith) near.below near.greatest (inr (at, near.first.inside, refl)) in
+    ap (λ ks. fold max 0 ks) (map-filter key (λ k. nat_le k offset) rs)
+    ∙ greatest-from offset top keys 0 (omega arith) near.below near.greatest (inr (at, near.first.inside, refl)) in
     let earlier = λ (j : ℕ) (before : j < at) (low : get_or (map key rs) j 0 ≤ offset).
-            let inside : j < length (map key rs) = omega (arith, near.first.inside) in
-            lt_of_not-le {n = top} {m = get_or (map key rs) j 0} (λ (high : top ≤ get_or (map key rs) j 0).
-                let bound = near.greatest j inside low in
-                let same : get_or (map key rs) j 0 ≡ top = omega arith in
-                let first = near.first.first j inside same in
-                omega arith) in
+    let inside : j < length (map key rs) = omega (arith, near.first.inside) in
+    lt_of_not-le {n = top} {m = get_or (map key rs) j 0} (λ (high : top ≤ get_or (map key rs) j 0).
+    let bound = near.greatest j inside low in
+    let same : get_or (map key rs) j 0 ≡ top = omega arith in
+    let first = near.first.first j inside same in
+    omega arith) in
     ap (λ t. find (λ r. key r == t) (filter (λ r. nat_le (key r) offset) rs)) is_top
     ∙ find-filter (λ r. key r == top) (λ r. nat_le (key r) offset) rs
     ∙ find-at key (λ k. nat_le k offset && (k == top)) rs at near.first.inside (both_tests top offset top refl near.below)

@@ -26,9 +26,9 @@ split_at_end : (text : List ℕ) (end : ℕ) → NoneBefore (Passes (is_byte 10)
 split_at_end text end found =
     let inside : end < length text = found.0.high in
     let place : position_or_len (λ b. b == 10) text ≡ end =
-        position_or_len_is (λ b. b == 10) text end 0 (omega arith) (λ k below. not_passing _ (found.0.before k (omega arith) below)) (λ _. found.1) in
+    position_or_len_is (λ b. b == 10) text end 0 (omega arith) (λ k below. not_passing _ (found.0.before k (omega arith) below)) (λ _. found.1) in
     let parts : slice_split (λ b. b == 10) text ≡ take end text ∷ slice_split (λ b. b == 10) (drop (end + 1) text) =
-        rw place at (slice_split_first (λ b. b == 10) text 0 (omega arith)) in
+    rw place at (slice_split_first (λ b. b == 10) text 0 (omega arith)) in
     let some : 0 < length (slice_split (λ b. b == 10) (drop (end + 1) text)) = omega (arith, length-slice_split (λ b. b == 10) (drop (end + 1) text)) in
     ap lines_of_parts parts ∙ line_first (take end text) _ some
 

@@ -27,12 +27,14 @@ pub record IsPlaceOf (places : List Place) (keys : List ℕ) (at i : ℕ) : Type
 
 place_of : (places : List Place) (keys : List ℕ) (at : ℕ) → IsIndex places keys → at < length keys → (i : ℕ) × IsPlaceOf places keys at i
 place_of places keys at index inside =
-    let w = index.whole at inside in
-    (w.0, record {
-      inside = w.1;
-      is = w.2;
-      key = λ d. sym ((index.real w.0 d w.1).1) ∙ ap (λ k. get_or keys k 0) (w.2 d);
-    })
+    let w = index.whole at inside in (
+      w.0,
+      record {
+        inside = w.1;
+        is = w.2;
+        key = λ d. sym ((index.real w.0 d w.1).1) ∙ ap (λ k. get_or keys k 0) (w.2 d);
+      },
+    )
 
 none : Place
 none = record { key = 0; at = 0 }
@@ -54,7 +56,7 @@ first-here places keys key n d index point within is = record {
       let p = place_of places keys other index inside in
       let their_key = p.1.key d in
       let past : n < p.0 + 1 = lt_of_not-le {n = p.0 + 1} {m = n} (λ (early : p.0 + 1 ≤ n).
-          let low = point.0 p.0 d (omega arith) (omega arith) in omega arith) in
+      let low = point.0 p.0 d (omega arith) (omega arith) in omega arith) in
       let behind : n ≤ p.0 = omega arith in
       let order : (get_or places n d).at ≤ (get_or places p.0 d).at = index.ties n p.0 d behind p.1.inside (omega arith) in
       omega (arith, p.1.is d);
@@ -67,7 +69,7 @@ first-else places keys key n d index point within not = λ other inside same.
     let p = place_of places keys other index inside in
     let their_key = p.1.key d in
     let past : n < p.0 + 1 = lt_of_not-le {n = p.0 + 1} {m = n} (λ (early : p.0 + 1 ≤ n).
-        let low = point.0 p.0 d (omega arith) (omega arith) in omega arith) in
+    let low = point.0 p.0 d (omega arith) (omega arith) in omega arith) in
     let behind : n ≤ p.0 = omega arith in
     let order = index.sorted n p.0 d behind p.1.inside in
     let here = point.1 n d (omega arith) within in
@@ -93,7 +95,7 @@ last-here places keys key n d index point within some is = record {
       let p = place_of places keys other index inside in
       let their_key = p.1.key d in
       let early : p.0 < n = lt_of_not-le {n = n} {m = p.0} (λ (late : n ≤ p.0).
-          let high = point.1 p.0 d late p.1.inside in omega arith) in
+      let high = point.1 p.0 d late p.1.inside in omega arith) in
       let before : p.0 ≤ n - 1 = omega arith in
       let order : (get_or places p.0 d).at ≤ (get_or places (n - 1) d).at = index.ties p.0 (n - 1) d before (omega arith) (omega arith) in
       omega (arith, p.1.is d);
@@ -106,7 +108,7 @@ last-else places keys key n d index point within some not = λ other inside same
     let p = place_of places keys other index inside in
     let their_key = p.1.key d in
     let early : p.0 < n = lt_of_not-le {n = n} {m = p.0} (λ (late : n ≤ p.0).
-        let high = point.1 p.0 d late p.1.inside in omega arith) in
+    let high = point.1 p.0 d late p.1.inside in omega arith) in
     let before : p.0 ≤ n - 1 = omega arith in
     let order = index.sorted p.0 (n - 1) d before (omega arith) in
     let here = point.0 (n - 1) d (omega arith) (omega arith) in
@@ -126,7 +128,7 @@ nearest-there places keys offset n d (Some at) index point within some first = r
       let p = place_of places keys other index inside in
       let their_key = p.1.key d in
       let early : p.0 < n = lt_of_not-le {n = n} {m = p.0} (λ (late : n ≤ p.0).
-          let high = point.1 p.0 d late p.1.inside in omega arith) in
+      let high = point.1 p.0 d late p.1.inside in omega arith) in
       let before : p.0 ≤ n - 1 = omega arith in
       let order = index.sorted p.0 (n - 1) d before (omega arith) in
       omega (arith, first.is);

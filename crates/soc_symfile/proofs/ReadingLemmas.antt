@@ -68,12 +68,14 @@ pub read-more : (whole : Result Records ℕ) (tables new : Records) (number : �
     → ((said : List LineEntry) → tables ≡ records_in said → (is_bad (map (λ (other : LineEntry). Some other) said) (Some read) ≡ false) × (new ≡ records_in (said ++ read ∷ [])))
     → (said : List LineEntry) × ReadsOn whole new (number + 1) others said
 read-more whole tables new number left line others read so_far split is adds =
-    let added = adds so_far.0 so_far.1.held in
-    (so_far.0 ++ read ∷ [], record {
-      held = added.1;
-      count = omega (arith, so_far.1.count, length-append so_far.0 (read ∷ []));
-      same = behind whole so_far.0 left line others (Some read) so_far.1.same split.0 is ∙ outcome-good so_far.0 read (map line_of (lines others)) added.0;
-    })
+    let added = adds so_far.0 so_far.1.held in (
+      so_far.0 ++ read ∷ [],
+      record {
+        held = added.1;
+        count = omega (arith, so_far.1.count, length-append so_far.0 (read ∷ []));
+        same = behind whole so_far.0 left line others (Some read) so_far.1.same split.0 is ∙ outcome-good so_far.0 read (map line_of (lines others)) added.0;
+      },
+    )
 
 -- the first line
 says : (form : Bool) (name : Option (List ℕ)) → let said = if form then (name >>= λ _. Some Other) else None in (said ≡ None) ⊎ (said ≡ Some Other)

@@ -69,15 +69,17 @@ lt_test n some = grind (arith, nat_tests)
 
 pub adds-source : (number : ℕ) (old new : Records) (line : SourceLine) → 0 < length old.functions → new ≡ with_functions old (onto_last line old.functions) → (said : List LineEntry) → old ≡ records_in said → Adds (Ok tt) said (Source line) number new
 adds-source number old new line some made said is =
-    let owner : nat_lt 0 (length (owners_in function_in source_in said)) ≡ true = lt_test _ (rw is at some) in
-    (ap not (said_owners function_in source_in said ∙ owner),
-    rw (made, is, part_more function_in source_in said (Source line) line refl refl, none_more public_in said (Source line) refl, none_more file_in said (Source line) refl, owners_same init_in delta_in said (Source line) refl refl) refl)
+    let owner : nat_lt 0 (length (owners_in function_in source_in said)) ≡ true = lt_test _ (rw is at some) in (
+      ap not (said_owners function_in source_in said ∙ owner),
+      rw (made, is, part_more function_in source_in said (Source line) line refl refl, none_more public_in said (Source line) refl, none_more file_in said (Source line) refl, owners_same init_in delta_in said (Source line) refl refl) refl,
+    )
 
 pub adds-delta : (number : ℕ) (old new : Records) (label : LabelEntry) → 0 < length old.inits → new ≡ with_inits old (onto_last label old.inits) → (said : List LineEntry) → old ≡ records_in said → Adds (Ok tt) said (Delta label) number new
 adds-delta number old new label some made said is =
-    let owner : nat_lt 0 (length (owners_in init_in delta_in said)) ≡ true = lt_test _ (rw is at some) in
-    (ap not (said_owners init_in delta_in said ∙ owner),
-    rw (made, is, owners_same function_in source_in said (Delta label) refl refl, none_more public_in said (Delta label) refl, none_more file_in said (Delta label) refl, part_more init_in delta_in said (Delta label) label refl refl) refl)
+    let owner : nat_lt 0 (length (owners_in init_in delta_in said)) ≡ true = lt_test _ (rw is at some) in (
+      ap not (said_owners init_in delta_in said ∙ owner),
+      rw (made, is, owners_same function_in source_in said (Delta label) refl refl, none_more public_in said (Delta label) refl, none_more file_in said (Delta label) refl, part_more init_in delta_in said (Delta label) label refl refl) refl,
+    )
 
 -- a record that belongs to none
 pub lone-source : (number : ℕ) (old : Records) (line : SourceLine) (any : Bool) → any ≡ nat_lt 0 (length old.functions) → any ≡ false → (said : List LineEntry) → old ≡ records_in said

@@ -82,11 +82,11 @@ pub view-extend : {P Q : Type 0} (part : P → Q) (parts : List P) (x : P) (m : 
 view-extend part parts x m [] more laid = refl
 view-extend {P} {Q} part parts x m (owner ∷ []) more laid =
     let parts_are : map part (slice_range (parts ++ x ∷ []) owner.first m) ≡ map part (slice_range parts owner.first owner.end) ++ part x ∷ [] =
-        ap (map part) (range-more parts x owner.first owner.end m laid.0 laid.1 more) ∙ map-append part (slice_range parts owner.first owner.end) (x ∷ []) in
+    ap (map part) (range-more parts x owner.first owner.end m laid.0 laid.1 more) ∙ map-append part (slice_range parts owner.first owner.end) (x ∷ []) in
     ap (λ (ps : List Q). (extent_entry owner.extent, ps) ∷ []) parts_are
 view-extend {P} {Q} part parts x m (owner ∷ next ∷ owners) more laid =
     let head : map part (slice_range (parts ++ x ∷ []) owner.first owner.end) ≡ map part (slice_range parts owner.first owner.end) =
-        ap (map part) (range-before parts x owner.first owner.end laid.0 laid.1) in
+    ap (map part) (range-before parts x owner.first owner.end laid.0 laid.1) in
     let tail = view-extend part parts x m (next ∷ owners) more laid.2 in
     rw (head, tail) refl
 

@@ -18,7 +18,7 @@ pub text_of-bytes : (bytes : List ℕ) → ¬ (IsUtf8 bytes) → text_of bytes �
 unfolding text_of
 text_of-bytes bytes bad =
     let test : is_utf8 bytes ≡ false = elim (is_utf8 bytes) as (λ b. is_utf8 bytes ≡ b → is_utf8 bytes ≡ false)
-        [ true ↦ λ e. absurd (bad (IsUtf8-from_is_utf8 bytes e)) | false ↦ λ e. e ] refl in
+    [ true ↦ λ e. absurd (bad (IsUtf8-from_is_utf8 bytes e)) | false ↦ λ e. e ] refl in
     grind (arith, nat_tests)
 
 pub some_bytes : (bytes text : List ℕ) → false ≡ (length bytes == 0) → (text ≡ bytes) × IsUtf8 bytes → Some text ≡ text_of bytes

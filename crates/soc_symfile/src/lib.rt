@@ -15,6 +15,8 @@ mod places;
 mod reading;
 mod symfile;
 mod tables;
+#[cfg(test)]
+mod tests;
 mod words;
 
 pub use cfi_span::CfiSpan;

@@ -28,7 +28,10 @@ pub fn split_line(text: &[u8]) -> Option<(&[u8], &[u8])>
         return None;
     }
     match memchr(LINE_FEED, text) {
-        Some(end) => Some((strip_carriage_return(before(text, end)), after(text, end + 1))),
+        Some(end) => Some((
+            strip_carriage_return(before(text, end)),
+            after(text, end + 1),
+        )),
         None => Some((text, after(text, text.len()))),
     }
 }

@@ -29,7 +29,5 @@ pub fn symbol_path(alloc: Global, debug_file: &str, debug_id: &str) -> Result<Te
     ensures { IfOk result (λ path. path ≡ path_of debug_file.now debug_id.now) }
 {
     let stem = stem_of(debug_file);
-    Ok(Text::from(
-        format!(in alloc; "{debug_file}/{debug_id}/{stem}.sym")?,
-    ))
+    Ok(Text::from(format!(in alloc; "{debug_file}/{debug_id}/{stem}.sym")?))
 }
