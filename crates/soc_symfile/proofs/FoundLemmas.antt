@@ -1,6 +1,6 @@
 -- A look-up among sorted places finds what filtering all records finds.
-use Rattle.std.proofs.Common.{◌≡◌, ℕ, zero, suc, ◌+◌, ◌<◌, ◌≤◌, ◌==◌, Bool, true, false, List, [], ◌∷◌, length, map, get_or, cond, Option, Some, None, refl, sym, ◌∙◌, ap, arith, ◌⊎◌, inl, inr}
-use Rattle.std.specs.Prelude.{filter, find, fold, max, nat_lt, nat_le, ◌&&◌, ◌||◌, not, slice_get, option_map, option_and_then, if◌then◌else◌}
+use Rattle.std.proofs.Common.{◌≡◌, ℕ, zero, suc, ◌<◌, ◌≤◌, ◌==◌, Bool, true, false, List, [], ◌∷◌, length, map, get_or, cond, Option, Some, None, refl, sym, ◌∙◌, ap, arith, ◌⊎◌, inl, inr}
+use Rattle.std.specs.Prelude.{filter, find, fold, max, nat_lt, nat_le, ◌&&◌, ◌||◌, not, slice_get, option_map}
 use Rattle.std.specs.List.{list_any, last_or}
 use Rattle.std.proofs.lemmas.Bool.Decides.{nat_tests}
 use Rattle.std.proofs.Math.Nat.{lt_of_not-le}
@@ -8,7 +8,7 @@ use Rattle.soc_symfile.specs.declared.entries.SourceLine.{SourceLine}
 use Rattle.soc_symfile.specs.Line.{ExtentEntry, LabelEntry, FileEntry}
 use Rattle.soc_symfile.specs.Records.{Records}
 use Rattle.soc_symfile.specs.Found.{greatest, nearest, only_if, covers, owner_at, file_named, is_hidden, public_at}
-use Rattle.soc_symfile.specs.Places.{IsFirstOf, IsLastOf, IsNearest, HasNone, AllAbove}
+use Rattle.soc_symfile.specs.Places.{IsLastOf, IsNearest, HasNone, AllAbove}
 use Rattle.soc_symfile.specs.Tables.{owner_address, label_address, file_number}
 
 -- the first record whose key passes

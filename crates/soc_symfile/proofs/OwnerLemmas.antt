@@ -1,11 +1,9 @@
 -- Owners and their parts, as items come one by one.
-use Rattle.std.proofs.Common.{◌≡◌, ℕ, ◌+◌, ◌<◌, Bool, true, false, List, [], ◌∷◌, ◌++◌, length, map, cond, Option, Some, None, refl, sym, ◌∙◌, ap, arith}
-use Rattle.std.specs.Prelude.{filter_map, take_while, is_none, not, ◌||◌, nat_lt}
-use Rattle.std.specs.List.{cons_option, list_any}
-use Rattle.std.proofs.lemmas.Bool.Decides.{nat_tests}
+use Rattle.std.proofs.Common.{◌≡◌, List, [], ◌∷◌, ◌++◌, cond, Option, Some, None, refl, ◌∙◌, ap}
+use Rattle.std.specs.Prelude.{filter_map, take_while, is_none}
+use Rattle.std.specs.List.{cons_option}
 use Rattle.std.proofs.lemmas.List.Sums.{take_while-cons}
-use Rattle.soc_symfile.specs.Line.{LineEntry}
-use Rattle.soc_symfile.specs.Records.{onto_owner, owners_in, is_said}
+use Rattle.soc_symfile.specs.Records.{onto_owner, owners_in}
 use Rattle.soc_symfile.specs.Tables.{onto_last}
 
 -- the parts of an item and of those behind it, up to the next owner

@@ -2,7 +2,7 @@
 use Rattle.std.proofs.Common.{◌≡◌, ℕ, ◌+◌, ◌-◌, ◌<◌, ◌≤◌, List, length, get_or, Option, Some, None, true, false, MatchOption, refl, sym, ◌∙◌, ap, arith}
 use Rattle.std.specs.Prelude.{nat_lt, nat_le}
 use Rattle.std.proofs.lemmas.Bool.Decides.{nat_tests}
-use Rattle.std.specs.List.Sorted.{IsNonDecreasingBy, IsPartitionPoint}
+use Rattle.std.specs.List.Sorted.{IsPartitionPoint}
 use Rattle.std.proofs.Math.Nat.{lt_of_not-le}
 use Rattle.soc_symfile.specs.declared.places.Place.{Place}
 use Rattle.soc_symfile.specs.Places.{IsIndex, IsFirstOf, IsLastOf, IsNearest, HasNone, AllAbove}

@@ -1,17 +1,15 @@
 -- A text, line by line.
-use Rattle.std.proofs.Common.{◌≡◌, ℕ, ◌+◌, ◌<◌, ◌≤◌, Bool, true, false, List, [], ◌∷◌, ◌++◌, length, map, Option, Some, None, Result, Ok, Err, refl, sym, ◌∙◌, ap, arith, append-nil, append_assoc, length-append, ◌⊎◌, inl, inr}
+use Rattle.std.proofs.Common.{◌≡◌, ℕ, ◌+◌, ◌<◌, Bool, true, false, List, [], ◌∷◌, ◌++◌, length, map, Option, Some, None, Result, Ok, Err, refl, sym, ◌∙◌, ap, arith, append-nil, append_assoc, length-append, ◌⊎◌, inl, inr}
 use Rattle.std.proofs.lemmas.List.{map-append, length-map}
-use Rattle.std.specs.Prelude.{filter_map, option_map, is_some, if◌then◌else◌}
+use Rattle.std.specs.Prelude.{filter_map, is_some, if◌then◌else◌}
 use Rattle.std.specs.Str.Lines.{lines}
 use Rattle.soc_raw.specs.Reading.{◌>>=◌}
-use Rattle.soc_symfile.specs.declared.entries.Line.{Line}
 use Rattle.soc_symfile.specs.declared.error.SymError.{SymError}
 use Rattle.soc_symfile.specs.declared.error.SymError.TheVariants.{BadLine, NoMemory}
 use Rattle.soc_symfile.specs.Line.{LineEntry, Other, line_of, module_line}
-use Rattle.soc_symfile.specs.Records.{Records, records_in, records_of, owners_in, is_bad, first_bad, unless_bad, said_by}
-use Rattle.soc_symfile.specs.Reading.{Gives, IsRefusal}
-use Rattle.soc_symfile.specs.Tables.{Adds, IsBadLine, outcome_after, ReadsOn}
-use Rattle.soc_symfile.specs.Views.{line_entry}
+use Rattle.soc_symfile.specs.Records.{Records, records_in, records_of, owners_in, is_bad}
+use Rattle.soc_symfile.specs.Reading.{IsRefusal}
+use Rattle.soc_symfile.specs.Tables.{IsBadLine, outcome_after, ReadsOn}
 
 outcome-end : (said : List LineEntry) → outcome_after said [] ≡ Ok (records_in said)
 unfolding outcome_after

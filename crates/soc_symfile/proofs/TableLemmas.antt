@@ -1,6 +1,6 @@
 -- What the tables hold.
-use Rattle.std.proofs.Common.{◌≡◌, ℕ, ◌+◌, ◌-◌, ◌<◌, ◌≤◌, Bool, true, false, List, [], ◌∷◌, ◌++◌, length, map, get_or, refl, sym, ◌∙◌, ap, arith, zero, suc}
-use Rattle.std.specs.Prelude.{slice_set, slice_get, slice_range, option_map, Some, None, drop, take, Result, Ok, Err, OnOk, OnErr}
+use Rattle.std.proofs.Common.{◌≡◌, ℕ, ◌+◌, ◌-◌, ◌<◌, ◌≤◌, List, [], ◌∷◌, ◌++◌, length, map, get_or, refl, sym, ◌∙◌, ap, arith, zero, suc}
+use Rattle.std.specs.Prelude.{slice_set, slice_get, slice_range, option_map, Some, drop, Result, Ok, Err, OnOk, OnErr}
 use Rattle.std.proofs.lemmas.List.{drop-append-le, take-append-le, take_all, map-append, map-id}
 use Rattle.std.proofs.lemmas.Option.{slice_get-map}
 use Rattle.std.proofs.Common.{length-append, length-drop}

@@ -3,7 +3,7 @@ use Rattle.std.specs.Prelude.{ℕ, ◌+◌, not, Bool, true, false, if◌then◌
 use Rattle.std.specs.List.{list_any}
 use Rattle.std.specs.Str.Lines.{lines}
 use Rattle.soc_symfile.specs.declared.entries.SourceLine.{SourceLine}
-use Rattle.soc_symfile.specs.Line.{ExtentEntry, LabelEntry, FileEntry, LineEntry, Other, File, Function, Source, Public, Init, Delta, module_line, line_of}
+use Rattle.soc_symfile.specs.Line.{ExtentEntry, LabelEntry, FileEntry, LineEntry, File, Function, Source, Public, Init, Delta, module_line, line_of}
 
 -- all in the order of the file: functions with their source lines, public symbols, files, and INITs with their deltas
 pub record Records : Type 0 where

@@ -1,5 +1,5 @@
 -- What the program's values hold, without the places where their slices lie in memory.
-use Rattle.std.specs.Prelude.{ℕ, List, map, slice_range, Option, option_map}
+use Rattle.std.specs.Prelude.{List, map, slice_range, option_map}
 use Rattle.soc_symfile.specs.declared.entries.Extent.{Extent}
 use Rattle.soc_symfile.specs.declared.entries.Label.{Label}
 use Rattle.soc_symfile.specs.declared.entries.File.{File as NamedFile}

@@ -1,8 +1,8 @@
 -- The words and numbers of a line of a symbol file (Breakpad's symbol files), and its texts, which are UTF-8.
-use Rattle.std.specs.Prelude.{ℕ, ◌+◌, ◌^◌, ◌==◌, ◌&&◌, nat_lt, nat_le, not, Bool, if◌then◌else◌, List, length, take, drop, codes, Option, None, Some}
+use Rattle.std.specs.Prelude.{ℕ, ◌^◌, ◌==◌, ◌&&◌, nat_lt, nat_le, Bool, if◌then◌else◌, List, length, codes, Option, None, Some}
 use Rattle.std.specs.List.{list_all, before_first, after_first}
 use Rattle.std.specs.Char.{digit_value}
-use Rattle.std.specs.Str.{byte, bytes_eq, is_utf8, str_eq_ignore_ascii_case}
+use Rattle.std.specs.Str.{byte, bytes_eq, is_utf8}
 use Rattle.std.specs.Str.Parse.{digits_value}
 
 abbrev pub is_space : ℕ → Bool

@@ -1,4 +1,3 @@
-use Rattle.std.proofs.Common.{arith}
 use Rattle.soc_symfile.proofs.PlaceLemmas.{last-start, none-above, last-here, last-else}
 use Rattle.soc_symfile.proofs.places.last_of.Goals as goal
 

@@ -1,4 +1,4 @@
-use Rattle.std.proofs.Common.{◌≡◌, ◌==◌, ℕ, ◌<◌, false, get_or}
+use Rattle.std.proofs.Common.{◌≡◌, ℕ, ◌<◌, false, get_or}
 use Rattle.soc_symfile.specs.Words.{is_space}
 use Rattle.soc_symfile.proofs.words.space_place.Given as goal
 

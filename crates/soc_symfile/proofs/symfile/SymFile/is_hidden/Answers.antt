@@ -1,6 +1,6 @@
-use Rattle.std.proofs.Common.{map, sym}
+use Rattle.std.proofs.Common.{map}
 use Rattle.soc_symfile.specs.Tables.{owner_address}
-use Rattle.soc_symfile.proofs.FoundLemmas.{hidden-some, hidden-none, owner-none, owner-covers, owner-ends}
+use Rattle.soc_symfile.proofs.FoundLemmas.{hidden-some, hidden-none}
 use Rattle.soc_symfile.proofs.symfile.SymFile.is_hidden.Goals as goal
 
 pub returns-in-Some : goal.returns-in-Some

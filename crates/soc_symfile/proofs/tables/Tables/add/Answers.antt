@@ -1,4 +1,4 @@
-use Rattle.std.proofs.Common.{refl, true, arith}
+use Rattle.std.proofs.Common.{refl}
 use Rattle.soc_symfile.proofs.RecordLemmas.{adds-other, adds-file, adds-public, adds-function, adds-init, adds-source, adds-delta, lone-source, lone-delta, some_there}
 use Rattle.soc_symfile.specs.Views.{label_entry}
 use Rattle.soc_symfile.proofs.tables.Tables.add.Goals as goal

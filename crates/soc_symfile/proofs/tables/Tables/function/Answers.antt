@@ -1,4 +1,3 @@
-use Rattle.std.proofs.Common.{refl}
 use Rattle.soc_symfile.proofs.TableLemmas.{function_there}
 use Rattle.soc_symfile.proofs.tables.Tables.function.Goals as goal
 
