@@ -9,7 +9,13 @@ use Rattle.soc_symfile.specs.declared.error.SymError.TheVariants.{BadLine, NoMem
 use Rattle.soc_symfile.specs.Line.{LineEntry, Other, line_of, module_line}
 use Rattle.soc_symfile.specs.Records.{Records, records_in, records_of, owners_in, is_bad}
 use Rattle.soc_symfile.specs.Reading.{IsRefusal}
-use Rattle.soc_symfile.specs.Tables.{IsBadLine, outcome_after, ReadsOn}
+use Rattle.soc_symfile.specs.Tables.{IsBadLine, outcome_after}
+
+-- where a reader of a text stands: this was said, and what the whole text gives is what this and the lines that are left give
+pub record ReadsOn (whole : Result Records ℕ) (tables : Records) (number : ℕ) (left : List ℕ) (said : List LineEntry) : Type 0 where
+  pub held : tables ≡ records_in said
+  pub count : number ≡ length said
+  pub same : whole ≡ outcome_after said (map line_of (lines left))
 
 outcome-end : (said : List LineEntry) → outcome_after said [] ≡ Ok (records_in said)
 unfolding outcome_after

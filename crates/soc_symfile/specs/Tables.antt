@@ -1,13 +1,12 @@
 -- How the tables hold the records, and how a line adds to them. No public clause cites these.
 use Rattle.std.specs.Prelude.{◌≡◌, ℕ, ◌≤◌, true, false, List, [], ◌∷◌, ◌++◌, length, map, filter_map, slice_get, slice_range, Option, Some, Result, Ok, Err, ⊤}
-use Rattle.std.specs.Str.Lines.{lines}
 use Rattle.soc_symfile.specs.declared.entries.Owner.{Owner}
 use Rattle.soc_symfile.specs.declared.entries.Owned.{Owned}
 use Rattle.soc_symfile.specs.declared.entries.SourceLine.{SourceLine}
 use Rattle.soc_symfile.specs.declared.error.SymError.{SymError}
 use Rattle.soc_symfile.specs.declared.error.SymError.TheVariants.{BadLine, NoMemory}
 use Rattle.soc_symfile.specs.declared.tables.Tables.TheInside.{Inside}
-use Rattle.soc_symfile.specs.Line.{ExtentEntry, LabelEntry, FileEntry, LineEntry, line_of}
+use Rattle.soc_symfile.specs.Line.{ExtentEntry, LabelEntry, FileEntry, LineEntry}
 use Rattle.soc_symfile.specs.Records.{Records, records_in, is_bad, first_bad, unless_bad}
 use Rattle.soc_symfile.specs.Views.{owner_entry, label_entry, file_entry}
 
@@ -68,12 +67,6 @@ with_inits records inits = record records { inits = inits }
 -- what a file's lines give, of which the first ones said this and the others say that
 unfoldable pub outcome_after : List LineEntry → List (Option LineEntry) → Result Records ℕ
 outcome_after said others = unless_bad (first_bad (map Some said) others) (records_in (said ++ filter_map (λ line. line) others))
-
--- where a reader of a text stands: this was said, and what the whole text gives is what this and the lines that are left give
-pub record ReadsOn (whole : Result Records ℕ) (tables : Records) (number : ℕ) (left : List ℕ) (said : List LineEntry) : Type 0 where
-  pub held : tables ≡ records_in said
-  pub count : number ≡ length said
-  pub same : whole ≡ outcome_after said (map line_of (lines left))
 
 -- what records are looked up by
 abbrev pub owner_address : {P : Type 0} → ExtentEntry × List P → ℕ

@@ -41,7 +41,8 @@ impl<'a> Model for SymFile<'a> {
 }
 
 impl<'a> SymFile<'a> {
-    /// Reads a symbol file. Of the lines that say nothing of a record the first must be `MODULE`.
+    /// Reads a symbol file (Breakpad's symbol files), whose first line is `MODULE`. The first bad
+    /// line refuses it as a whole.
     pub fn read(alloc: Global, b: &'a [u8]) -> Result<SymFile<'a>, SymError>
         ensures { Gives result (records_of b.now) }
     {
@@ -129,7 +130,8 @@ impl<'a> SymFile<'a> {
         }
     }
 
-    /// What the file says of an offset in its module. It takes no memory.
+    /// What the file says of an offset in its module: the function that covers it, with its source
+    /// line, or else the public symbol before it. It takes no memory.
     pub fn find(&self, offset: u64) -> Found<'_>
         ensures { finding_of result ≡ found self.now offset }
     {
