@@ -1,0 +1,9 @@
+pub mod Examples
+pub mod Known
+pub mod Operators
+pub mod Operands
+pub mod Postfix
+pub mod Registers
+pub mod Rules
+pub mod Views
+pub mod Words

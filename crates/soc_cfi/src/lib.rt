@@ -1,0 +1,17 @@
+//! CFI rules: how a caller's registers are found from a frame's, as a symbol file tells it.
+#![tactic(auto)]
+
+mod bank;
+mod evaluation;
+mod operand;
+mod operator;
+mod registers;
+mod rules;
+mod stack;
+mod texts;
+mod words;
+
+pub use bank::{Bank, Memory};
+pub use evaluation::{eval, eval_bank};
+pub use registers::{Arch, Registers};
+pub use rules::Rules;

@@ -1,0 +1,64 @@
+// The registers of x86 and AMD64, by their names in rules.
+ghost use Rattle.std.specs.Prelude.{◌≡◌, ◌<◌, IfSome};
+ghost use Rattle.soc_cfi.specs.Registers as spec;
+
+use crate::bank::Bank;
+
+/// A processor's architecture.
+#[derive(Clone, Copy, Debug, PartialEq, Eq)]
+pub enum Arch {
+    X86,
+    Amd64,
+}
+
+/// The names of the registers of x86.
+const X86_NAMES: [&str; 9] = [
+    "$edi", "$esi", "$ebx", "$edx", "$ecx", "$eax", "$ebp", "$eip", "$esp",
+];
+
+/// The names of the registers of AMD64.
+const AMD64_NAMES: [&str; 17] = [
+    "$rax", "$rcx", "$rdx", "$rbx", "$rsp", "$rbp", "$rsi", "$rdi", "$r8", "$r9", "$r10", "$r11",
+    "$r12", "$r13", "$r14", "$r15", "$rip",
+];
+
+/// The registers of a frame.
+#[derive(Clone, Copy, Debug, PartialEq, Eq)]
+pub struct Registers {
+    pub arch: Arch,
+    /// The values that are known. On AMD64 they are rax, rcx, rdx, rbx, rsp, rbp, rsi, rdi, r8 to
+    /// r15 and rip; on x86 edi, esi, ebx, edx, ecx, eax, ebp, eip and esp, and then eight that
+    /// nothing reads. On x86 a value is below 2^32.
+    pub values: [Option<u64>; 17],
+}
+
+/// The place of a register's value.
+fn place_of(arch: Arch, name: &str) -> Option<usize>
+    ensures place { result ≡ spec.place_of arch name.now }
+    ensures within { IfSome result (λ place. place < 17) }
+{
+    match arch {
+        Arch::X86 => X86_NAMES.iter().position(|other| *other == name),
+        Arch::Amd64 => AMD64_NAMES.iter().position(|other| *other == name),
+    }
+}
+
+impl Bank for Registers {
+    ghost use Rattle.soc_cfi.specs.Registers.{width_of, register_of};
+
+    ghost width = { λ registers. width_of registers.arch };
+
+    ghost value = { register_of };
+
+    fn width(&self) -> u8 {
+        match self.arch {
+            Arch::X86 => 4,
+            Arch::Amd64 => 8,
+        }
+    }
+
+    fn value(&self, name: &str) -> Option<u64> {
+        let place = place_of(self.arch, name)?;
+        self.values[place]
+    }
+}
