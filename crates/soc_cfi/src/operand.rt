@@ -1,5 +1,9 @@
 // The tokens that push a value.
-ghost use Rattle.std.specs.Prelude.{◌≡◌, IsTrue};
+ghost use Rattle.std.specs.Prelude.{◌≡◌, ◌<◌, ◌^◌, length, IsTrue};
+ghost use Rattle.std.specs.Char.{is_ascii_digit};
+ghost use Rattle.std.specs.List.{list_all};
+ghost use Rattle.std.specs.Option.{SomeIff};
+ghost use Rattle.std.specs.Str.Parse.{digits_value};
 ghost use Rattle.soc_cfi.specs.Known.{IsWidth};
 ghost use Rattle.soc_cfi.specs.Operands as spec;
 
@@ -13,12 +17,28 @@ fn digits_of(token: &str) -> &str
     token.strip_prefix('-').unwrap_or(token)
 }
 
+/// Whether each byte of a text is a digit.
+fn has_digits_alone(text: &str) -> bool
+    ensures { result ≡ list_all is_ascii_digit text.now }
+{
+    text.bytes().all(|byte| byte.is_ascii_digit())
+}
+
 /// Whether a token is an integer.
 fn is_integer(token: &str) -> bool
     ensures { result ≡ spec.is_integer token.now }
 {
     let digits = digits_of(token);
-    !digits.is_empty() && digits.bytes().all(|byte| byte.is_ascii_digit())
+    !digits.is_empty() && has_digits_alone(digits)
+}
+
+/// The number that digits write; `None` from 2^64 on.
+fn number_of(digits: &str) -> Option<u64>
+    requires some { 0 < length digits.now }
+    requires digits { IsTrue (list_all is_ascii_digit digits.now) }
+    ensures { SomeIff result (digits_value 10 digits.now < 2 ^ 64) (digits_value 10 digits.now) }
+{
+    digits.parse::<u64>().ok()
 }
 
 /// An integer as a word; `None` where its digits write 2^64 or more.
@@ -27,7 +47,7 @@ fn integer_of(width: u8, token: &str) -> Option<u64>
     requires integer { IsTrue (spec.is_integer token.now) }
     ensures { result ≡ spec.integer_of width token.now }
 {
-    let number = digits_of(token).parse::<u64>().ok()?;
+    let number = number_of(digits_of(token))?;
     if token.starts_with('-') {
         Some(less(width, 0, number))
     } else {

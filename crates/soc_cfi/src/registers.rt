@@ -1,5 +1,6 @@
 // The registers of x86 and AMD64, by their names in rules.
-ghost use Rattle.std.specs.Prelude.{◌≡◌, ◌<◌, IfSome};
+ghost use Rattle.std.specs.Prelude.{◌≡◌, ◌<◌, length, IfSome, position};
+ghost use Rattle.std.specs.Str.{bytes_eq};
 ghost use Rattle.soc_cfi.specs.Registers as spec;
 
 use crate::bank::Bank;
@@ -32,14 +33,22 @@ pub struct Registers {
     pub values: [Option<u64>; 17],
 }
 
+/// The place of a name among others.
+fn place_among(names: &[&str], name: &str) -> Option<usize>
+    ensures place { result ≡ position (λ other. bytes_eq other.now name.now) names.now }
+    ensures within { IfSome result (λ place. place < length names.now) }
+{
+    names.iter().position(|other| *other == name)
+}
+
 /// The place of a register's value.
 fn place_of(arch: Arch, name: &str) -> Option<usize>
     ensures place { result ≡ spec.place_of arch name.now }
     ensures within { IfSome result (λ place. place < 17) }
 {
     match arch {
-        Arch::X86 => X86_NAMES.iter().position(|other| *other == name),
-        Arch::Amd64 => AMD64_NAMES.iter().position(|other| *other == name),
+        Arch::X86 => place_among(&X86_NAMES, name),
+        Arch::Amd64 => place_among(&AMD64_NAMES, name),
     }
 }
 

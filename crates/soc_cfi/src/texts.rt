@@ -1,6 +1,7 @@
 // The rules that stand in a text.
-ghost use Rattle.std.specs.Prelude.{◌≡◌};
-ghost use Rattle.std.specs.Option.{option_copied};
+ghost use Rattle.std.specs.Prelude.{◌≡◌, false};
+ghost use Rattle.std.specs.Option.{option_copied, option_map_or};
+ghost use Rattle.std.specs.Str.{bytes_eq};
 ghost use Rattle.soc_cfi.specs.Rules as spec;
 ghost use Rattle.soc_cfi.specs.Words.{parts};
 
@@ -13,6 +14,20 @@ fn named_by(part: &str) -> Option<&str>
     part.strip_suffix(':')
 }
 
+/// Whether a part names a register.
+fn is_name(part: &str) -> bool
+    ensures { result ≡ spec.is_name part.now }
+{
+    named_by(part).is_some()
+}
+
+/// Whether a part names this register.
+fn names(part: &str, register: &str) -> bool
+    ensures { result ≡ option_map_or (λ name. bytes_eq name register.now) (spec.named_by part.now) false }
+{
+    named_by(part).is_some_and(|name| name == register)
+}
+
 /// What stands before the first name, without the space before it; all where no name stands.
 fn rule_text(text: &str) -> &str
     ensures { result.now ≡ spec.rule_text (parts text.now) }
@@ -20,7 +35,7 @@ fn rule_text(text: &str) -> &str
     let mut rest = text;
     loop {
         let (part, later) = split_part(rest);
-        if named_by(part).is_some() {
+        if is_name(part) {
             let place = text.len() - rest.len();
             return &text[..place.saturating_sub(1)];
         }
@@ -39,9 +54,7 @@ pub fn find_rule<'a>(text: &'a str, register: &str) -> Option<&'a str>
     let mut rest = text;
     loop {
         let (part, later) = split_part(rest);
-        if let Some(name) = named_by(part)
-            && name == register
-        {
+        if names(part, register) {
             found = Some(later.unwrap_or(""));
         }
         let Some(later) = later else {

@@ -1,0 +1,6 @@
+pub mod FindLemmas
+pub mod NameLemmas
+pub mod OperandLemmas
+pub mod RuleLemmas
+pub mod StackLemmas
+pub mod WordLemmas
