@@ -17,7 +17,7 @@ pub or_assoc : {A : Type 0} (a b c : Option A) → option_or (option_or a b) c �
 or_assoc None b c = refl
 or_assoc (Some x) b c = refl
 
-or_none : {A : Type 0} (a : Option A) → option_or a None ≡ a
+pub or_none : {A : Type 0} (a : Option A) → option_or a None ≡ a
 or_none None = refl
 or_none (Some x) = refl
 

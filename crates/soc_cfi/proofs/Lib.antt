@@ -1,3 +1,4 @@
+pub mod DeltaLemmas
 pub mod FindLemmas
 pub mod NameLemmas
 pub mod OperandLemmas

@@ -50,3 +50,7 @@ with_delta offset rules delta = if nat_le delta.address offset then rules ++ rul
 -- of the file
 abbrev pub rules_at : Span → ℕ → List Rule
 rules_at span offset = fold (with_delta offset) (rules_of span.init) span.deltas
+
+-- the rule that a delta at or below the offset has for a register
+abbrev pub delta_rule : ℕ → LabelEntry → List ℕ → Option (List ℕ)
+delta_rule offset delta register = if nat_le delta.address offset then rule_of (rules_of delta.text) register else None

@@ -25,9 +25,7 @@ pub fn eval<M: Memory>(
     cfa: Option<u64>,
     memory: &M,
 ) -> Option<u64>
-    ensures value { result ≡ rule_value (known (width_of registers.now.arch) (register_of registers.now) cfa (M.word memory.now)) rule.now }
-    ensures word { HoldsWords (width_of registers.now.arch) (register_of registers.now) cfa
-        → IfSome result (λ value. value < values_of (width_of registers.now.arch)) }
+    ensures { result ≡ rule_value (known (width_of registers.now.arch) (register_of registers.now) cfa (M.word memory.now)) rule.now }
 {
     eval_bank(rule, registers, cfa, memory)
 }
@@ -39,9 +37,7 @@ pub fn eval_bank<B: Bank, M: Memory>(
     cfa: Option<u64>,
     memory: &M,
 ) -> Option<u64>
-    ensures value { result ≡ rule_value (known (B.width bank.now) (B.value bank.now) cfa (M.word memory.now)) rule.now }
-    ensures word { HoldsWords (B.width bank.now) (B.value bank.now) cfa
-        → IfSome result (λ value. value < values_of (B.width bank.now)) }
+    ensures { result ≡ rule_value (known (B.width bank.now) (B.value bank.now) cfa (M.word memory.now)) rule.now }
 {
     let mut stack = Stack::new();
     let mut rest = rule;

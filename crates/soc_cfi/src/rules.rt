@@ -1,8 +1,8 @@
 // The rules in force at an offset.
-ghost use Rattle.std.specs.Prelude.{◌≡◌};
+ghost use Rattle.std.specs.Prelude.{◌≡◌, ◌<◌, length, IfSome, slice_get};
 ghost use Rattle.std.specs.Option.{option_copied};
 ghost use Rattle.soc_symfile.specs.Views.{span_of};
-ghost use Rattle.soc_cfi.specs.Rules.{rule_of, rules_at};
+ghost use Rattle.soc_cfi.specs.Rules.{delta_rule, rule_of, rules_at};
 
 use crate::texts::find_rule;
 use soc_symfile::CfiSpan;
@@ -33,13 +33,22 @@ impl<'a> Rules<'a> {
         ensures { option_copied result ≡ rule_of (in_force self.now) register.now }
     {
         for i in (0..self.span.deltas()).rev() {
-            let (address, text) = self.span.delta(i);
-            if address <= self.offset
-                && let Some(rule) = find_rule(text, register)
-            {
+            if let Some(rule) = self.rule_of_delta(i, register) {
                 return Some(rule);
             }
         }
         find_rule(self.span.init(), register)
+    }
+
+    /// The rule that a delta has for a register, where the delta is in force.
+    fn rule_of_delta(&self, i: usize, register: &str) -> Option<&'a str>
+        requires { i < length (span_of self.now.span).deltas }
+        ensures { IfSome (slice_get (span_of self.now.span).deltas i) (λ delta. option_copied result ≡ delta_rule self.now.offset delta register.now) }
+    {
+        let (address, text) = self.span.delta(i);
+        if self.offset < address {
+            return None;
+        }
+        find_rule(text, register)
     }
 }

@@ -18,6 +18,6 @@ returns-in_default c =
 
 pub loop-later-preserved : goal.loop-later-preserved
 loop-later-preserved c = record {
-    utf8 = search rules;
-    reached = reached_more c.args.text.now c.loop-later.rest.now c.split_part.result.0.now c.in-Some.later.now c.loop-later.invariant.reached (sym c.is_name.ensures ∙ c.if-is_name.false) (rw c.in-Some.is at c.split_part.ensures.parts) (rw c.in-Some.is at c.split_part.ensures.text);
-  }
+  utf8 = search rules;
+  reached = reached_more c.args.text.now c.loop-later.rest.now c.split_part.result.0.now c.in-Some.later.now c.loop-later.invariant.reached (sym c.is_name.ensures ∙ c.if-is_name.false) (rw c.in-Some.is at c.split_part.ensures.parts) (rw c.in-Some.is at c.split_part.ensures.text);
+}
