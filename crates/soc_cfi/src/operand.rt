@@ -1,11 +1,12 @@
 // The tokens that push a value.
-ghost use Rattle.std.specs.Prelude.{◌≡◌, ◌<◌, ◌^◌, length, IsTrue};
+ghost use Rattle.std.specs.Prelude.{◌≡◌, ◌<◌, ◌^◌, length, IfSome, IsTrue};
 ghost use Rattle.std.specs.Char.{is_ascii_digit};
 ghost use Rattle.std.specs.List.{list_all};
 ghost use Rattle.std.specs.Option.{SomeIff};
 ghost use Rattle.std.specs.Str.Parse.{digits_value};
-ghost use Rattle.soc_cfi.specs.Known.{IsWidth};
+ghost use Rattle.soc_cfi.specs.Known.{HoldsWords, IsWidth};
 ghost use Rattle.soc_cfi.specs.Operands as spec;
+ghost use Rattle.soc_cfi.specs.Operators.{values_of};
 
 use crate::bank::Bank;
 use crate::operator::{less, wrapped};
@@ -45,7 +46,8 @@ fn number_of(digits: &str) -> Option<u64>
 fn integer_of(width: u8, token: &str) -> Option<u64>
     requires width { IsWidth width }
     requires integer { IsTrue (spec.is_integer token.now) }
-    ensures { result ≡ spec.integer_of width token.now }
+    ensures value { result ≡ spec.integer_of width token.now }
+    ensures word { IfSome result (λ value. value < values_of width) }
 {
     let number = number_of(digits_of(token))?;
     if token.starts_with('-') {
@@ -57,7 +59,8 @@ fn integer_of(width: u8, token: &str) -> Option<u64>
 
 /// The value that a token pushes; `None` where it isn't known.
 pub fn operand_of<B: Bank>(token: &str, bank: &B, cfa: Option<u64>) -> Option<u64>
-    ensures { result ≡ spec.operand_of (B.width bank.now) (B.value bank.now) cfa token.now }
+    ensures value { result ≡ spec.operand_of (B.width bank.now) (B.value bank.now) cfa token.now }
+    ensures word { HoldsWords (B.width bank.now) (B.value bank.now) cfa → IfSome result (λ value. value < values_of (B.width bank.now)) }
 {
     if token == ".cfa" {
         cfa

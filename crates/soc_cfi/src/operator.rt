@@ -1,5 +1,5 @@
 // The operators of postfix expressions.
-ghost use Rattle.std.specs.Prelude.{◌≡◌, ◌%◌};
+ghost use Rattle.std.specs.Prelude.{◌≡◌, ◌%◌, ◌<◌, IfSome};
 ghost use Rattle.soc_cfi.specs.Known.{IsWidth};
 ghost use Rattle.soc_cfi.specs.Operators as spec;
 
@@ -33,7 +33,8 @@ pub fn operator_of(token: &str) -> Option<Operator>
 /// A number as a word of so many bytes.
 pub fn wrapped(width: u8, number: u64) -> u64
     requires { IsWidth width }
-    ensures { result ≡ number % spec.values_of width }
+    ensures value { result ≡ number % spec.values_of width }
+    ensures word { result < spec.values_of width }
 {
     if width == 4 {
         number & u64::from(u32::MAX)
@@ -45,7 +46,8 @@ pub fn wrapped(width: u8, number: u64) -> u64
 /// One number less another, as a word of so many bytes.
 pub fn less(width: u8, number: u64, other: u64) -> u64
     requires { IsWidth width }
-    ensures { result ≡ spec.less width number other }
+    ensures value { result ≡ spec.less width number other }
+    ensures word { result < spec.values_of width }
 {
     wrapped(width, number.wrapping_sub(other))
 }
@@ -53,7 +55,8 @@ pub fn less(width: u8, number: u64, other: u64) -> u64
 /// What an operator gives; `None` for a divisor of 0 and for a multiple of what is no power of two.
 pub fn apply(width: u8, operator: Operator, lower: u64, upper: u64) -> Option<u64>
     requires { IsWidth width }
-    ensures { result ≡ spec.applied width operator lower upper }
+    ensures value { result ≡ spec.applied width operator lower upper }
+    ensures word { lower < spec.values_of width → IfSome result (λ value. value < spec.values_of width) }
 {
     match operator {
         Operator::Add => Some(wrapped(width, lower.wrapping_add(upper))),
