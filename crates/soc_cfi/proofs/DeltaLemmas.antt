@@ -1,6 +1,5 @@
 -- The rules in force, delta by delta.
-use Rattle.std.proofs.Common.{◌≡◌, ℕ, zero, suc, ◌+◌, ◌-◌, ◌<◌, ◌≤◌, Bool, true, false, List, [], ◌∷◌, ◌++◌, length, take, cond, refl, ap, sym, ◌∙◌, arith, rules}
-use Rattle.std.proofs.lemmas.List.{take_all}
+use Rattle.std.proofs.Common.{◌≡◌, ℕ, ◌+◌, ◌-◌, ◌<◌, ◌≤◌, Bool, true, false, List, [], ◌∷◌, ◌++◌, length, take, cond, refl, ap, sym, ◌∙◌, arith, rules}
 use Rattle.std.proofs.lemmas.List.Sums.{fold_more}
 use Rattle.std.proofs.lemmas.Option.{get_or_from_slice_get, slice_get-get_or, slice_get_within}
 use Rattle.std.specs.Option.{option_or}
@@ -8,7 +7,7 @@ use Rattle.std.specs.Prelude.{Option, None, Some, IfSome, fold, slice_get, nat_l
 use Rattle.std.specs.Str.{bytes_eq}
 use Rattle.soc_symfile.specs.Cfi.{Span}
 use Rattle.soc_symfile.specs.Line.{LabelEntry}
-use Rattle.soc_cfi.specs.Rules.{Rule, delta_rule, rule_of, rules_at, rules_of, with_delta}
+use Rattle.soc_cfi.specs.Rules.{Rule, delta_rule, rule_of, rules_of, with_delta}
 use Rattle.soc_cfi.proofs.FindLemmas.{or_assoc, or_none}
 
 -- rules behind others count before them

@@ -1,7 +1,7 @@
 -- The last rule of a register in a text.
-use Rattle.std.proofs.Common.{◌≡◌, Bor, ℕ, Bool, true, false, List, [], ◌∷◌, ◌++◌, cond, refl, ap, sym, ◌∙◌, arith}
-use Rattle.std.specs.Option.{option_or, option_map_or, option_copied}
-use Rattle.std.specs.Prelude.{Option, None, Some, MatchOption, option_map, unwrap_or}
+use Rattle.std.proofs.Common.{◌≡◌, Bor, ℕ, Bool, false, List, ◌∷◌, cond, refl, sym}
+use Rattle.std.specs.Option.{option_or, option_map_or}
+use Rattle.std.specs.Prelude.{Option, None, Some, option_map}
 use Rattle.std.specs.Str.{bytes_eq}
 use Rattle.soc_cfi.specs.Rules.{Rule, named_by, rule_of, rule_text, rules_in, rules_of, with_rule}
 use Rattle.soc_cfi.specs.Words.{parts}

@@ -1,5 +1,5 @@
 -- Parts that name a register.
-use Rattle.std.proofs.Common.{◌≡◌, ◌≢◌, ℕ, ◌-◌, ◌+◌, Bor, Bool, true, false, List, [], ◌∷◌, ◌++◌, length, take, drop, eqb, cond, refl, ap, sym, ◌∙◌, arith, lit<, length-append, inl, inr}
+use Rattle.std.proofs.Common.{◌≡◌, ◌≢◌, ℕ, ◌-◌, ◌+◌, Bor, Bool, true, List, [], ◌∷◌, ◌++◌, length, take, eqb, cond, refl, ap, sym, ◌∙◌, arith, lit<, length-append, inl, inr}
 use Rattle.std.proofs.lemmas.Bool.{cases_Bool}
 use Rattle.std.proofs.lemmas.Bool.Decides.{Decides-eqb}
 use Rattle.std.proofs.lemmas.List.{take_at}
@@ -7,7 +7,7 @@ use Rattle.std.proofs.lemmas.Slice.Eq.{ends_is}
 use Rattle.std.proofs.lemmas.Str.Pattern.{strip_suffix_char}
 use Rattle.std.specs.List.{ends_with}
 use Rattle.std.specs.Option.{option_copied}
-use Rattle.std.specs.Prelude.{Option, None, Some, MatchOption, codes}
+use Rattle.std.specs.Prelude.{Option, None, Some, MatchOption}
 use Rattle.std.specs.Str.Pattern.{FindsCharSuffix}
 use Rattle.soc_cfi.specs.Rules.{named_by}
 

@@ -1,5 +1,5 @@
 -- Integers: the sign, the digits and what they write.
-use Rattle.std.proofs.Common.{◌≡◌, ◌≢◌, ℕ, ◌<◌, ◌+◌, Bor, Bool, true, false, List, [], ◌∷◌, ◌++◌, length, drop, get_or, eqb, cond, refl, ap, sym, subst, ◌∙◌, ◌^◌, arith, rules, lit<}
+use Rattle.std.proofs.Common.{◌≡◌, ◌≢◌, ℕ, ◌<◌, ◌+◌, Bor, true, false, List, [], ◌∷◌, length, drop, eqb, refl, ap, sym, ◌∙◌, ◌^◌, arith, rules, lit<}
 use Rattle.std.proofs.lemmas.Bool.Decides.{nat_tests}
 use Rattle.std.proofs.lemmas.Str.Parse.{IsDigitsTest, IsNumeralModel, numerals_by_value, parse_digits}
 use Rattle.std.proofs.lemmas.Str.Pattern.{strip_prefix_char}

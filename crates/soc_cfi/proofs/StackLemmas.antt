@@ -1,6 +1,6 @@
 -- Stacks of some length.
-use Rattle.std.proofs.Common.{◌≡◌, ◌≢◌, ℕ, List, [], ◌∷◌, length, refl, arith}
-use Rattle.std.specs.Prelude.{Option, None}
+use Rattle.std.proofs.Common.{◌≡◌, ◌≢◌, ℕ, List, [], ◌∷◌, length, refl}
+use Rattle.std.specs.Prelude.{None}
 use Rattle.soc_cfi.specs.Postfix.{only_value}
 
 pub only_none : (stack : List ℕ) → length stack ≢ 1 → None ≡ only_value stack

@@ -1,11 +1,11 @@
 -- Texts that are parted at spaces.
-use Rattle.std.proofs.Common.{◌≡◌, ◌≢◌, ℕ, ◌<◌, Bor, Bool, false, List, [], ◌∷◌, ◌++◌, length, get_or, eqb, refl, ap, ◌∙◌, arith, lit<}
+use Rattle.std.proofs.Common.{◌≡◌, ◌≢◌, ℕ, ◌<◌, Bor, false, List, [], ◌∷◌, ◌++◌, length, get_or, eqb, refl, ap, ◌∙◌, arith, lit<}
 use Rattle.std.proofs.lemmas.Bool.Decides.{nat_tests}
 use Rattle.std.proofs.lemmas.List.Elements.{All-from_get_or}
 use Rattle.std.proofs.lemmas.List.Splits.{slice_split_at, slice_split_none}
 use Rattle.std.proofs.lemmas.Str.Pattern.{IsSplitOnceResult, split_parts}
 use Rattle.std.specs.Prelude.{All, Option, None, Some, MatchOption}
-use Rattle.soc_cfi.specs.Words.{space, parts, tokens}
+use Rattle.soc_cfi.specs.Words.{parts}
 
 no_space : (part : List ℕ) → ((i : ℕ) → i < length part → get_or part i 0 ≢ 32) → All (λ x. eqb x 32 ≡ false) part
 no_space part clear = All-from_get_or (λ x. eqb x 32 ≡ false) part 0 (λ i inside. let other : get_or part i 0 ≢ 32 = clear i inside in grind (arith, nat_tests))

@@ -8,6 +8,8 @@ mod operator;
 mod registers;
 mod rules;
 mod stack;
+#[cfg(test)]
+mod tests;
 mod texts;
 mod words;
 

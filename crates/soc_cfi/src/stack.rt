@@ -17,12 +17,13 @@ pub struct Stack {
 
 impl Model for Stack {
     ghost use Rattle.std.specs.Prelude.{ℕ, ◌≤◌, List, drop};
+    ghost use Rattle.soc_cfi.specs.declared.stack.TheConstants.{STACK_SIZE};
 
     ghost Value = { List ℕ };
 
     ghost view = { λ stack. drop stack.top stack.values };
 
-    ghost invariant = { λ stack. stack.top ≤ 64 };
+    ghost invariant = { λ stack. stack.top ≤ STACK_SIZE };
 }
 
 impl Stack {

@@ -1,4 +1,4 @@
-use Rattle.std.proofs.Common.{◌∙◌, ap, sym, arith}
+use Rattle.std.proofs.Common.{◌∙◌, sym, arith}
 use Rattle.std.specs.Option.{option_copied}
 use Rattle.soc_symfile.specs.Views.{span_of}
 use Rattle.soc_cfi.proofs.DeltaLemmas.{delta_step}

@@ -1,4 +1,4 @@
-use Rattle.std.proofs.Common.{◌≡◌, ◌-◌, length, drop, ap, sym, ◌∙◌, arith, length-drop}
+use Rattle.std.proofs.Common.{◌≡◌, length, drop, ap, ◌∙◌, arith, length-drop}
 use Rattle.soc_cfi.proofs.StackLemmas.{only_none}
 use Rattle.soc_cfi.proofs.stack.Stack.only_value.Goals as goal
 
