@@ -1,5 +1,6 @@
 use crate::texts::find_rule;
-use crate::{Arch, Bank, Memory, Registers, eval, eval_bank};
+use crate::{Arch, Bank, Memory, Registers, Rules, eval, eval_bank};
+use soc_symfile::SymFile;
 use std::test::Fail;
 
 /// A memory with one word, whose lower half is 7.
@@ -200,4 +201,36 @@ fn finds_the_last_rule(rt: HostRuntime) {
     for (text, register, rule) in rows {
         assert_eq!(rt; find_rule(text, register), rule, "{text}");
     }
+}
+
+/// An INIT of the 16 bytes from 0x100 on, with three deltas.
+const FILE: &str = "MODULE Linux x86_64 ABC0 x
+STACK CFI INIT 100 10 .cfa: $rsp 8 + .ra: .cfa 8 - ^
+STACK CFI 104 .cfa: $rsp 16 +
+STACK CFI 106 $rbx: .cfa 16 - ^ $rbx: .cfa 24 - ^
+STACK CFI 108 .cfa: $rbp 16 +
+";
+
+#[test]
+fn finds_the_rules_in_force(rt: HostRuntime) -> Result<(), Fail> {
+    let rows = [
+        (0x103, ".cfa", Some("$rsp 8 +")),
+        (0x104, ".cfa", Some("$rsp 16 +")),
+        (0x107, ".cfa", Some("$rsp 16 +")),
+        (0x10f, ".cfa", Some("$rbp 16 +")),
+        (0x10f, ".ra", Some(".cfa 8 - ^")),
+        (0x105, "$rbx", None),
+        (0x106, "$rbx", Some(".cfa 24 - ^")),
+    ];
+    let file = SymFile::read(rt.alloc(), FILE.as_bytes())?;
+    for (offset, register, rule) in rows {
+        let span = file.cfi(offset).ok_or("no rules")?;
+        assert_eq!(rt;
+            Rules::at(span, offset).rule(register),
+            rule,
+            "{register} at {offset}"
+        );
+    }
+    assert_eq!(rt; file.cfi(0x110).is_some(), false);
+    Ok(())
 }
