@@ -4,4 +4,5 @@ pub mod NameLemmas
 pub mod OperandLemmas
 pub mod RuleLemmas
 pub mod StackLemmas
+pub mod TokenLemmas
 pub mod WordLemmas

@@ -14,10 +14,10 @@ pub closing : List (List ℕ) → List ℕ
 closing [] = []
 closing (part ∷ later) = cond (is_name part) [] (32 ∷ rule_text (part ∷ later))
 
-before_first-name : (part : List ℕ) (later : List (List ℕ)) → is_name part ≡ true → before_first is_name (part ∷ later) ≡ []
+pub before_first-name : (part : List ℕ) (later : List (List ℕ)) → is_name part ≡ true → before_first is_name (part ∷ later) ≡ []
 before_first-name part later named = ap (λ b. take (cond (not b) (1 + position_or_len is_name later) 0) (part ∷ later)) named
 
-before_first-plain : (part : List ℕ) (later : List (List ℕ)) → is_name part ≡ false → before_first is_name (part ∷ later) ≡ part ∷ before_first is_name later
+pub before_first-plain : (part : List ℕ) (later : List (List ℕ)) → is_name part ≡ false → before_first is_name (part ∷ later) ≡ part ∷ before_first is_name later
 before_first-plain part later plain =
     let next : 1 + position_or_len is_name later ≡ suc (position_or_len is_name later) = omega arith in
     ap (λ b. take (cond (not b) (1 + position_or_len is_name later) 0) (part ∷ later)) plain ∙ ap (λ n. take n (part ∷ later)) next

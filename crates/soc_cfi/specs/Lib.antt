@@ -5,5 +5,6 @@ pub mod Operands
 pub mod Postfix
 pub mod Registers
 pub mod Rules
+pub mod TokenRules
 pub mod Views
 pub mod Words

@@ -3,6 +3,7 @@
 
 mod bank;
 mod evaluation;
+mod laws;
 mod operand;
 mod operator;
 mod registers;
@@ -15,5 +16,6 @@ mod words;
 
 pub use bank::{Bank, Memory};
 pub use evaluation::{eval, eval_bank};
+pub use laws::rules_are_of_tokens;
 pub use registers::{Arch, Registers};
 pub use rules::Rules;
