@@ -7,7 +7,8 @@ pub trait Memory {
     /// The word of so many bytes at an address.
     ghost word: { Self → ℕ → ℕ → Option ℕ };
 
-    /// The word of `width` bytes at an address; `None` where the memory doesn't have it.
+    /// The word of `width` bytes at an address; `None` where the memory doesn't have it. Rules ask
+    /// for words of 4 and 8 bytes.
     fn word(&self, address: u64, width: u8) -> Option<u64>
         ensures value { result ≡ word self.now address width }
         ensures small { width ≡ 4 → IfSome result (λ value. value < 2 ^ 32) };

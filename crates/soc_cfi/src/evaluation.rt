@@ -14,11 +14,12 @@ use crate::stack::Stack;
 use crate::words::split_token;
 
 /// The value of a rule on x86 or AMD64, a postfix expression. `cfa` is the canonical frame address,
-/// where it is known; registers are named as `$rsp` is. On x86 values are below 2^32.
+/// where it is known; registers are named as `$rsp` is. Where registers and `cfa` are words, below
+/// 2^32 on x86, so is the value. It takes no memory.
 ///
 /// `None` for a token that isn't known, a token without its operands, a 65th value on the stack, a
 /// divisor of 0, a multiple of what is no power of two, a word that the memory doesn't have, an
-/// integer from 2^64 on, and where not one value is left.
+/// integer from 2^64 on, and where not exactly one value is left.
 pub fn eval<M: Memory>(
     rule: &str,
     registers: &Registers,
@@ -31,7 +32,8 @@ pub fn eval<M: Memory>(
     eval_bank(rule, registers, cfa, memory)
 }
 
-/// The value of a rule on any architecture.
+/// The value of a rule on any architecture, in the same way: only the registers and their names are
+/// the bank's.
 pub fn eval_bank<B: Bank, M: Memory>(
     rule: &str,
     bank: &B,
