@@ -1,0 +1,23 @@
+-- What is read of the entries of a journal.
+use Rattle.std.specs.Prelude.{◌≡◌, ℕ, ◌+◌, ◌-◌, ◌<◌, ◌≤◌, Result, Ok, Err, List, length, take, drop, ⊤}
+use Rattle.soc_journal.specs.Entries.{Entry, IsEntryOf, second_version, entry_text}
+use Rattle.soc_journal.specs.Text.{StandsAt}
+use Rattle.soc_journal.specs.declared.error.ReadError.{ReadError}
+use Rattle.soc_journal.specs.declared.error.ReadError.TheVariants.{StoreFault, Altered, NoMemory}
+
+-- an entry that ends at or before the gate stands at this place
+pub record StandsBefore (bytes : List ℕ) (place gate : ℕ) (entry : Entry) : Type 0 where
+  pub legal : IsEntryOf second_version entry
+  pub stands : StandsAt bytes place entry
+  pub ends : place + length (entry_text entry) ≤ gate
+
+-- the bytes from this place on begin with the text
+abbrev pub ReadsFrom : List ℕ → ℕ → List ℕ → Type 0
+ReadsFrom bytes place text = take (length text) (drop place bytes) ≡ text
+
+-- what a disk gives of a body of so many bytes at a place: all of them, or fewer
+abbrev pub GivesBody : List ℕ → ℕ → ℕ → Result (List ℕ) ReadError → Type 0
+GivesBody bytes place count (Ok body) = (count ≤ length bytes - place) × (body ≡ take count (drop place bytes))
+GivesBody bytes place count (Err Altered) = length bytes - place < count
+GivesBody bytes place count (Err StoreFault) = ⊤
+GivesBody bytes place count (Err NoMemory) = ⊤

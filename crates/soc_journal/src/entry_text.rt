@@ -1,0 +1,50 @@
+// An entry as it is written.
+ghost use Rattle.std.specs.Prelude.{◌≡◌, ◌≤◌, length, IsTrue, IfOk};
+ghost use Rattle.soc_journal.specs.Entries.{has_kind, second_version, max_body, sealed};
+
+use crate::format::{CLOSED_GATE, HEAD, OPEN_GATE};
+use soc_raw::NoMemory;
+use std::alloc::Global;
+use std::marker::Model;
+
+/// The text of one entry, with the closed gate that stands behind it once it is in a journal. Contracts see the entry:
+/// its kind and its body.
+#[derive(Debug, Drop)]
+pub struct EntryText {
+    text: Vec<u8>,
+}
+
+impl Model for EntryText {
+    ghost use Rattle.soc_journal.specs.Entries.{Entry};
+    ghost use Rattle.soc_journal.specs.Views.{entry_in, IsSealed};
+
+    ghost Value = { Entry };
+
+    ghost view = { λ e. entry_in e.text.items };
+
+    ghost invariant = { λ e. IsSealed e.text.items };
+}
+
+impl EntryText {
+    /// The entry of a kind of the second version, with a body of at most 67,108,864 bytes.
+    pub fn new(alloc: Global, kind: u8, body: &[u8]) -> Result<EntryText, NoMemory>
+        requires known { IsTrue (has_kind second_version kind) }
+        requires short { length body.now ≤ max_body }
+        ensures { IfOk result (λ entry. entry ≡ record { kind = kind; body = body.now }) }
+    {
+        let mut text = Vec::with_capacity(alloc, HEAD + body.len() + 1)?;
+        text.push(OPEN_GATE)?;
+        text.push(kind)?;
+        text.extend_from_slice(&(body.len() as u32).to_le_bytes())?;
+        text.extend_from_slice(body)?;
+        text.push(CLOSED_GATE)?;
+        Ok(EntryText { text })
+    }
+
+    /// The text as it stands in a journal, from the entry's own gate to the one behind it.
+    pub(crate) fn as_slice(&self) -> &[u8]
+        ensures { result.now ≡ sealed self.now }
+    {
+        self.text.as_slice()
+    }
+}

@@ -1,0 +1,192 @@
+// A journal that entries are appended to.
+ghost use Rattle.std.specs.Prelude.{◌≡◌, ◌+◌, ◌<◌, ◌≤◌, ◌↔◌, ℕ, List, Some, None, [], ◌∷◌, ◌++◌, length, IfSome, IsSome, IsSomeAnd, IfOk, OnOk, OnErr, Ok, IsErrOf, IsTrue};
+ghost use Rattle.std.specs.Option.{option_map};
+ghost use Rattle.soc_edge.specs.Disk.{LeavesOnly};
+ghost use Rattle.soc_edge.specs.Faults.{Rose};
+ghost use Rattle.soc_journal.specs.Entries.{Entry, entry_text};
+ghost use Rattle.soc_journal.specs.Text.{empty_journal, StandsForEither};
+ghost use Rattle.soc_journal.specs.Images.{Stays};
+ghost use Rattle.soc_journal.specs.States.{AtRest, InDoubt, ReadsOpen, SettledBy, entries_after, journal_after};
+
+use crate::entry_text::EntryText;
+use crate::error::AppendError;
+use crate::format::{CLOSED_GATE, FIRST_GATE, MAGIC, OPEN_GATE, SECOND_VERSION};
+use crate::settled::Settled;
+use crate::writing::write_and_sync;
+use soc_edge::{Disk, Failed};
+use std::marker::Model;
+
+/// A journal on a disk: where its closed gate stands, the most bytes that it may have, and whether an append failed
+/// and wasn't mended. It holds none of its entries.
+///
+/// What is said of a disk's content holds where the disk tells it, and where the disk is the one that this journal's
+/// last call has left.
+#[derive(Debug, Drop)]
+pub struct Journal {
+    gate: u64,
+    limit: u64,
+    doubt: Option<u64>,
+}
+
+impl Model for Journal {
+    ghost use Rattle.std.specs.Prelude.{◌+◌, ◌≤◌};
+    ghost use Rattle.std.specs.Option.{ForSome};
+    ghost use Rattle.soc_journal.specs.States.{JournalState};
+
+    ghost Value = { JournalState };
+
+    ghost view = { λ j. record { gate = j.gate; limit = j.limit; doubt = j.doubt } };
+
+    ghost invariant = { λ j. ForSome j.doubt (λ count. j.gate + count ≤ j.limit) };
+}
+
+impl Journal {
+    /// Makes an empty journal of at most `limit` bytes on a disk of length 0, by one write and one sync. It takes no
+    /// memory. Of a stop inside this call nothing is said.
+    pub fn create<D: Disk>(disk: &mut D, limit: u64) -> Result<Journal, Failed>
+        requires { IfSome (D.content disk.old) (λ bytes. bytes ≡ []) }
+        ensures journal { IfOk result (λ journal. journal ≡ record { gate = 8; limit = limit; doubt = None }) }
+        ensures content { OnOk result (D.content disk.new ≡ option_map (λ _. empty_journal) (D.content disk.old)) }
+        ensures at_rest { IfOk result (λ journal. IfSome (D.content disk.new) (λ bytes. AtRest journal [] bytes (D.may_leave disk.new))) }
+        ensures never_falls { D.disk_faults disk.old ≤ D.disk_faults disk.new }
+        ensures cause { OnErr result (Rose (D.disk_faults disk.old) (D.disk_faults disk.new)) }
+    {
+        let [s, o, c, j, zero, nil, null] = MAGIC;
+        write_and_sync(
+            disk,
+            0,
+            &[s, o, c, j, zero, nil, null, SECOND_VERSION, CLOSED_GATE],
+        )?;
+        Ok(Journal::behind(FIRST_GATE, limit))
+    }
+
+    /// Whether an append failed and wasn't mended.
+    pub fn in_doubt(&self) -> bool
+        ensures { IsTrue result ↔ IsSome self.now.doubt }
+    {
+        self.doubt.is_some()
+    }
+
+    /// Appends an entry, by two writes and two syncs at most, and answers its place. It takes no memory.
+    ///
+    /// `JournalFull` comes exactly where the place of the closed gate, 7 and the body's length together are over the
+    /// limit; then the disk isn't touched. After `StoreFault` the journal is in doubt.
+    pub fn append<D: Disk>(&mut self, disk: &mut D, entry: &EntryText) -> Result<u64, AppendError>
+        requires { self.old.doubt ≡ None }
+
+        ensures full { IsErrOf result AppendError.JournalFull ↔ (self.old.limit < self.old.gate + 7 + length entry.now.body) }
+        ensures full_journal { IsErrOf result AppendError.JournalFull → self.new ≡ self.old }
+        ensures full_disk { IsErrOf result AppendError.JournalFull → disk.new ≡ disk.old }
+
+        ensures place { IfOk result (λ place. place ≡ self.old.gate) }
+        ensures journal { OnOk result (self.new ≡ record self.old { gate = self.old.gate + length (entry_text entry.now) }) }
+        ensures doubt { IsErrOf result AppendError.StoreFault → self.new ≡ record self.old { doubt = Some (length (entry_text entry.now)) } }
+
+        // At `Ok` the content and each image have the entry.
+        ensures acknowledged { OnOk result (IfSome (D.content disk.old) (λ bytes.
+            (entries : List Entry) → AtRest self.old entries bytes (D.may_leave disk.old)
+            → IsSomeAnd (D.content disk.new) (λ now. AtRest self.new (entries ++ entry.now ∷ []) now (D.may_leave disk.new)))) }
+
+        // After `StoreFault` the content and each image have it or don't.
+        ensures in_doubt { IsErrOf result AppendError.StoreFault → IfSome (D.content disk.old) (λ bytes.
+            (entries : List Entry) → AtRest self.old entries bytes (D.may_leave disk.old)
+            → IsSomeAnd (D.content disk.new) (λ now. InDoubt self.new entries entry.now now (D.may_leave disk.new))) }
+
+        // A stop at any moment of the call leaves the entries from before it, or those and this one.
+        ensures any_moment { IfSome (D.content disk.old) (λ bytes.
+            (entries : List Entry) → AtRest self.old entries bytes (D.may_leave disk.old)
+            → LeavesOnly D.moment D.left_since disk.old disk.new (StandsForEither entries entry.now)) }
+
+        ensures never_falls { D.disk_faults disk.old ≤ D.disk_faults disk.new }
+        ensures cause { IsErrOf result AppendError.StoreFault → Rose (D.disk_faults disk.old) (D.disk_faults disk.new) }
+    {
+        let text = entry.as_slice();
+        if !self.has_room(text.len()) {
+            return Err(AppendError::JournalFull);
+        }
+        let place = self.gate;
+        let count = text.len() as u64 - 1;
+        self.doubt = Some(count);
+        write_and_sync(disk, place + 1, &text[1..])?;
+        write_and_sync(disk, place, &[OPEN_GATE])?;
+        self.gate = place + count;
+        self.doubt = None;
+        Ok(place)
+    }
+
+    /// Settles a doubt: syncs, and looks whether the gate before the entry in doubt reads open. It takes no memory.
+    ///
+    /// `Clean` comes exactly where there is no doubt; then the disk isn't touched. After `Failed` the doubt stays.
+    pub fn mend<D: Disk>(&mut self, disk: &mut D) -> Result<Settled, Failed>
+        ensures clean { (result ≡ Ok Settled.Clean) ↔ (self.old.doubt ≡ None) }
+        ensures clean_disk { self.old.doubt ≡ None → disk.new ≡ disk.old }
+        ensures place { IfOk result (λ settled. (place : ℕ) → settled ≡ Settled.Kept place → place ≡ self.old.gate) }
+        ensures journal { self.new ≡ journal_after self.old result }
+
+        // It is kept exactly where the gate reads open.
+        ensures settled { IsSome self.old.doubt → IfOk result (λ settled. IfSome (D.content disk.old) (λ bytes. SettledBy bytes self.old.gate settled)) }
+
+        // Then the content and each image agree with the answer.
+        ensures agrees { IfOk result (λ settled. IfSome (D.content disk.old) (λ bytes.
+            (entries : List Entry) (entry : Entry) → InDoubt self.old entries entry bytes (D.may_leave disk.old)
+            → AtRest self.new (entries_after entries entry settled) bytes (D.may_leave disk.new))) }
+        ensures still_in_doubt { OnErr result (IfSome (D.content disk.old) (λ bytes.
+            (entries : List Entry) (entry : Entry) → InDoubt self.old entries entry bytes (D.may_leave disk.old)
+            → InDoubt self.new entries entry bytes (D.may_leave disk.new))) }
+
+        ensures disk_stays { Stays D.content D.may_leave D.moment D.left_since disk.old disk.new }
+        ensures never_falls { D.disk_faults disk.old ≤ D.disk_faults disk.new }
+        ensures cause { OnErr result (Rose (D.disk_faults disk.old) (D.disk_faults disk.new)) }
+    {
+        let Some(count) = self.doubt else {
+            return Ok(Settled::Clean);
+        };
+        let place = self.gate;
+        disk.sync()?;
+        let is_open = reads_open(disk, place)?;
+        self.doubt = None;
+        if is_open {
+            self.gate = place + count;
+            Ok(Settled::Kept { place })
+        } else {
+            Ok(Settled::Dropped)
+        }
+    }
+
+    /// The journal whose closed gate stands at a place.
+    pub(crate) fn behind(gate: u64, limit: u64) -> Journal
+        ensures { result ≡ record { gate = gate; limit = limit; doubt = None } }
+    {
+        Journal {
+            gate,
+            limit,
+            doubt: None,
+        }
+    }
+
+    /// Where the closed gate stands.
+    pub(crate) fn gate(&self) -> u64
+        ensures { result ≡ self.now.gate }
+    {
+        self.gate
+    }
+
+    /// Whether the text of an entry fits the limit behind the closed gate.
+    fn has_room(&self, count: usize) -> bool
+        ensures { IsTrue result ↔ (self.now.gate + count ≤ self.now.limit) }
+    {
+        self.gate <= self.limit && count as u64 <= self.limit - self.gate
+    }
+}
+
+/// Whether the gate at a place reads open.
+fn reads_open<D: Disk>(disk: &mut D, place: u64) -> Result<bool, Failed>
+    ensures open_gate { IfOk result (λ is_open. IfSome (D.content disk.old) (λ bytes. IsTrue is_open ↔ ReadsOpen bytes place)) }
+    ensures disk_stays { Stays D.content D.may_leave D.moment D.left_since disk.old disk.new }
+    ensures never_falls { D.disk_faults disk.old ≤ D.disk_faults disk.new }
+    ensures cause { OnErr result (Rose (D.disk_faults disk.old) (D.disk_faults disk.new)) }
+{
+    let mut gate = [CLOSED_GATE];
+    let count = disk.read_at(place, &mut gate)?;
+    Ok(count == 1 && gate[0] == OPEN_GATE)
+}

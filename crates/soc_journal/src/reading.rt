@@ -1,0 +1,110 @@
+// Reading what a journal holds.
+ghost use Rattle.std.specs.Prelude.{◌≡◌, ◌≢◌, ◌+◌, ◌<◌, ◌≤◌, ◌^◌, ◌↔◌, ℕ, List, length, IfSome, IfOk, OnOk, OnErr, IsErrOf, IsTrue, MatchResult, vec_len};
+ghost use Rattle.soc_edge.specs.Faults.{Rose};
+ghost use Rattle.soc_edge.specs.Disk.{ReadsAt};
+ghost use Rattle.soc_journal.specs.Entries.{Entry};
+ghost use Rattle.soc_journal.specs.Images.{Stays};
+ghost use Rattle.soc_journal.specs.Bodies.{StandsBefore, ReadsFrom, GivesBody};
+
+use crate::error::ReadError;
+use crate::format::{HEAD, SECOND_VERSION};
+use crate::found::{Found, found_at};
+use crate::journal::Journal;
+use soc_edge::{Disk, Failed};
+use soc_raw::Bytes;
+use std::alloc::{AllocError, Global};
+
+/// How many bytes are compared at once.
+const PIECE: usize = 4096;
+
+impl Journal {
+    /// The body of the entry at a place. `Altered` comes exactly where no entry that ends at or before the closed gate
+    /// begins there, and `StoreFault` only where the disk failed.
+    pub fn read<D: Disk>(&self, alloc: Global, disk: &mut D, place: u64) -> Result<Bytes, ReadError>
+        ensures body { IfSome (D.content disk.old) (λ bytes. (entry : Entry) → StandsBefore bytes place self.now.gate entry
+            → MatchResult result (λ body. body ≡ entry.body) (λ error. error ≢ ReadError.Altered)) }
+        ensures found { OnOk result (IfSome (D.content disk.old) (λ bytes. (entry : Entry) × StandsBefore bytes place self.now.gate entry)) }
+        ensures disk_stays { Stays D.content D.may_leave D.moment D.left_since disk.old disk.new }
+        ensures never_falls { D.disk_faults disk.old ≤ D.disk_faults disk.new }
+        ensures cause { IsErrOf result ReadError.StoreFault → Rose (D.disk_faults disk.old) (D.disk_faults disk.new) }
+    {
+        match found_at(disk, SECOND_VERSION, place, self.gate())? {
+            Found::Entry { length, .. } => body_at(alloc, disk, place + HEAD as u64, length),
+            Found::Closed | Found::Bad => Err(ReadError::Altered),
+        }
+    }
+
+    /// Whether the disk reads as the text from a place on. It takes no memory.
+    pub fn holds<D: Disk>(&self, disk: &mut D, place: u64, text: &[u8]) -> Result<bool, Failed>
+        ensures holds { IfOk result (λ holds. IfSome (D.content disk.old) (λ bytes. IsTrue holds ↔ ReadsFrom bytes place text.now)) }
+        ensures disk_stays { Stays D.content D.may_leave D.moment D.left_since disk.old disk.new }
+        ensures never_falls { D.disk_faults disk.old ≤ D.disk_faults disk.new }
+        ensures cause { OnErr result (Rose (D.disk_faults disk.old) (D.disk_faults disk.new)) }
+    {
+        let length = disk.len()?;
+        if length.saturating_sub(place) < text.len() as u64 {
+            return Ok(false);
+        }
+        reads_from(disk, place, text)
+    }
+}
+
+/// The body of so many bytes at a place.
+pub(crate) fn body_at<D: Disk>(
+    alloc: Global,
+    disk: &mut D,
+    place: u64,
+    length: u32,
+) -> Result<Bytes, ReadError>
+    ensures gives { IfSome (D.content disk.old) (λ bytes. GivesBody bytes place length result) }
+    ensures disk_stays { Stays D.content D.may_leave D.moment D.left_since disk.old disk.new }
+    ensures never_falls { D.disk_faults disk.old ≤ D.disk_faults disk.new }
+    ensures cause { IsErrOf result ReadError.StoreFault → Rose (D.disk_faults disk.old) (D.disk_faults disk.new) }
+{
+    let mut body = zeros(alloc, length as usize)?;
+    let count = disk.read_at(place, body.as_mut_slice())?;
+    if count < body.len() {
+        return Err(ReadError::Altered);
+    }
+    Ok(Bytes::from(body))
+}
+
+fn zeros(alloc: Global, length: usize) -> Result<Vec<u8>, AllocError>
+    ensures { IfOk result (λ bytes. vec_len bytes ≡ length) }
+{
+    vec![in alloc; 0; length]
+}
+
+/// Whether the disk reads as the text from a place on, compared piece by piece.
+fn reads_from<D: Disk>(disk: &mut D, place: u64, text: &[u8]) -> Result<bool, Failed>
+    requires { place + length text.now < 2 ^ 64 }
+    ensures holds { IfOk result (λ holds. IfSome (D.content disk.old) (λ bytes. IsTrue holds ↔ ReadsFrom bytes place text.now)) }
+    ensures disk_stays { Stays D.content D.may_leave D.moment D.left_since disk.old disk.new }
+    ensures never_falls { D.disk_faults disk.old ≤ D.disk_faults disk.new }
+    ensures cause { OnErr result (Rose (D.disk_faults disk.old) (D.disk_faults disk.new)) }
+{
+    let mut place = place;
+    let mut rest = text;
+    while !rest.is_empty() {
+        let (piece, behind) = rest.split_at(rest.len().min(PIECE));
+        if !reads_piece(disk, place, piece)? {
+            return Ok(false);
+        }
+        place += piece.len() as u64;
+        rest = behind;
+    }
+    Ok(true)
+}
+
+/// Whether the disk reads as the piece from a place on.
+fn reads_piece<D: Disk>(disk: &mut D, place: u64, piece: &[u8]) -> Result<bool, Failed>
+    requires { length piece.now ≤ 4096 }
+    ensures holds { IfOk result (λ holds. IfSome (D.content disk.old) (λ bytes. IsTrue holds ↔ ReadsFrom bytes place piece.now)) }
+    ensures disk_stays { Stays D.content D.may_leave D.moment D.left_since disk.old disk.new }
+    ensures never_falls { D.disk_faults disk.old ≤ D.disk_faults disk.new }
+    ensures cause { OnErr result (Rose (D.disk_faults disk.old) (D.disk_faults disk.new)) }
+{
+    let mut buffer = [0; PIECE];
+    let count = disk.read_at(place, &mut buffer[..piece.len()])?;
+    Ok(&buffer[..count] == piece)
+}
