@@ -1,6 +1,6 @@
 // An entry as it is written.
 ghost use Rattle.std.specs.Prelude.{◌≡◌, ◌≤◌, length, IsTrue, IfOk};
-ghost use Rattle.soc_journal.specs.Entries.{has_kind, second_version, max_body, sealed};
+ghost use Rattle.soc_journal.specs.Entries.{IsEntryOf, has_kind, second_version, max_body, sealed};
 
 use crate::format::{CLOSED_GATE, HEAD, OPEN_GATE};
 use soc_raw::NoMemory;
@@ -43,7 +43,8 @@ impl EntryText {
 
     /// The text as it stands in a journal, from the entry's own gate to the one behind it.
     pub(crate) fn as_slice(&self) -> &[u8]
-        ensures { result.now ≡ sealed self.now }
+        ensures text { result.now ≡ sealed self.now }
+        ensures legal { IsEntryOf second_version self.now }
     {
         self.text.as_slice()
     }

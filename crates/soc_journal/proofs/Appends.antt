@@ -1,0 +1,251 @@
+-- What an append leaves of a disk, step by step.
+use Rattle.std.proofs.Common.{◌≡◌, ◌≢◌, inl, inr, ℕ, ◌+◌, ◌-◌, ◌<◌, ◌≤◌, Bool, true, false, not, ◌&&◌, ◌||◌, nat_eq, ◌==◌, IsTrue, Option, Some, None, IfSome, IsSomeAnd, Result, Ok, Err, IsErrAnd, IsErrOf, List, [], ◌∷◌, ◌++◌, length, take, drop, get_or, refl, sym, ◌∙◌, ap, subst, arith, append_assoc}
+use Rattle.std.specs.Option.{option_map}
+use Rattle.std.specs.List.{AllByRecursion}
+use Rattle.std.proofs.lemmas.Bool.{cases_eq}
+use Rattle.std.proofs.lemmas.Bool.Decides.{nat_tests}
+use Rattle.std.proofs.lemmas.List.{take_all, length-drop}
+use Rattle.soc_edge.proofs.Disks.{LeavesOnly-append, LeavesOnly-weaker}
+use Rattle.soc_edge.specs.Disk.{written, Tears, WhereTold, Follows, Only, LeavesOnly}
+use Rattle.soc_journal.specs.Entries.{Entry, IsEntryOf, has_kind, open_gate, closed_gate, first_version, second_version, entry_text, gate_place, sealed}
+use Rattle.soc_journal.specs.declared.error.AppendError.{AppendError}
+use Rattle.soc_journal.specs.declared.error.AppendError.TheVariants.{StoreFault, JournalFull}
+use Rattle.soc_journal.specs.Images.{IsTorn}
+use Rattle.soc_journal.specs.States.{JournalState, AtRest, InDoubt}
+use Rattle.soc_journal.specs.Text.{version_of, JournalText, StandsFor, StandsForEither}
+use Rattle.soc_journal.proofs.Texts.{behind_gate, sealed_behind, front_of, length-front_of, front_of-push, version_of-front, begins_front, front_begins, AllByRecursion-push, gate_place-push}
+use Rattle.soc_journal.proofs.Torn.{torn_behind, written_behind, torn_byte, written_byte}
+
+-- each version but the first has the kinds of the second
+has_kind_current : (version kind : ℕ) → version ≢ first_version → IsTrue (has_kind second_version kind) → IsTrue (has_kind version kind)
+has_kind_current version kind current known = grind (arith, nat_tests)
+
+pub IsEntryOf-current : (version : ℕ) (entry : Entry) → version ≢ first_version → IsEntryOf second_version entry → IsEntryOf version entry
+IsEntryOf-current version entry current legal = record { known = has_kind_current version entry.kind current legal.known; short = legal.short }
+
+-- a closed gate behind the entries ends them
+pub stands_before : (version : ℕ) (entries : List Entry) (gate : ℕ) (rest image : List ℕ) → image ≡ front_of version entries ++ gate ∷ rest → gate ≢ open_gate
+    → AllByRecursion (IsEntryOf version) entries → StandsFor entries image
+stands_before version entries gate rest image whole closed legal = record {
+  gate = gate;
+  rest = rest;
+  begins = front_begins version entries (gate ∷ rest) image whole legal;
+  closed = closed;
+}
+
+-- an open one lets one more count
+pub stands_after : (version : ℕ) (entries : List Entry) (entry : Entry) (rest image : List ℕ) → image ≡ front_of version entries ++ open_gate ∷ (behind_gate entry ++ rest)
+    → AllByRecursion (IsEntryOf version) entries → IsEntryOf version entry → StandsFor (entries ++ entry ∷ []) image
+stands_after version entries entry rest image whole legal one =
+    let closed : closed_gate ≢ open_gate = omega arith in
+    let moved : image ≡ front_of version (entries ++ entry ∷ []) ++ closed_gate ∷ rest =
+    whole
+    ∙ (ap (λ (x : List ℕ). front_of version entries ++ (x ++ rest)) (sym (sealed_behind entry))
+    ∙ (ap (λ (x : List ℕ). front_of version entries ++ x) (append_assoc (entry_text entry) (closed_gate ∷ []) rest)
+    ∙ front_of-push version entries entry (closed_gate ∷ rest))) in
+    stands_before version (entries ++ entry ∷ []) closed_gate rest image moved closed (AllByRecursion-push (IsEntryOf version) entries entry legal one)
+
+-- and any byte there does the one or the other
+stands_either : (version : ℕ) (entries : List Entry) (entry : Entry) (gate : ℕ) (rest image : List ℕ) → image ≡ front_of version entries ++ gate ∷ (behind_gate entry ++ rest)
+    → AllByRecursion (IsEntryOf version) entries → IsEntryOf version entry → StandsForEither entries entry image
+stands_either version entries entry gate rest image whole legal one = elim (cases_eq gate open_gate) [
+  | inl is ↦ inr (stands_after version entries entry rest image (whole ∙ ap (λ (x : ℕ). front_of version entries ++ x ∷ (behind_gate entry ++ rest)) is) legal one)
+  | inr closed ↦ inl (stands_before version entries gate (behind_gate entry ++ rest) image whole closed legal)
+]
+
+-- the entry stands behind the closed gate on each image, but for its own gate
+pub record Staged (journal : JournalState) (entries : List Entry) (entry : Entry) (bytes : List ℕ) (images : List ℕ → Type 0) : Type 0 where
+  pub version : ℕ
+  pub gate : ℕ
+  pub rest : List ℕ
+  pub whole : bytes ≡ front_of version entries ++ gate ∷ (behind_gate entry ++ rest)
+  pub closed : gate ≢ open_gate
+  pub legal : AllByRecursion (IsEntryOf version) entries
+  pub one : IsEntryOf version entry
+  pub current : version ≢ first_version
+  pub gate_stands : journal.gate ≡ gate_place entries
+  pub only : Only bytes images
+
+module _ (journal : JournalState) (place : ℕ) (at : journal.gate ≡ place) (entries : List Entry) (bytes : List ℕ) (images : List ℕ → Type 0) (rests : AtRest journal entries bytes images) where
+  whole_at : bytes ≡ front_of (version_of bytes) entries ++ rests.text.gate ∷ rests.text.rest
+  whole_at = begins_front entries (rests.text.gate ∷ rests.text.rest) bytes rests.text.begins
+
+  stands_at : length (front_of (version_of bytes) entries) ≡ place
+  stands_at = length-front_of (version_of bytes) entries ∙ (sym rests.gate_stands ∙ at)
+
+  -- the first write, cut short anywhere
+  torn_first : (count : ℕ) (image : List ℕ) → Tears (place + 1) count bytes image → image ≡ front_of (version_of bytes) entries ++ rests.text.gate ∷ drop (place + 1) image
+  torn_first count image tears =
+      let P : List ℕ → Type 0 = λ x. Tears (place + 1) count x image in
+      torn_behind (front_of (version_of bytes) entries) rests.text.gate rests.text.rest place stands_at count image (subst P whole_at tears)
+
+  pub stands_first : (count : ℕ) (image : List ℕ) → Tears (place + 1) count bytes image → StandsFor entries image
+  stands_first count image tears =
+      stands_before (version_of bytes) entries rests.text.gate (drop (place + 1) image) image (torn_first count image tears) rests.text.closed rests.text.begins.legal
+
+  pub version_first : (count : ℕ) (image : List ℕ) → Tears (place + 1) count bytes image → version_of image ≢ first_version
+  version_first count image tears is =
+      rests.current (sym (version_of-front (version_of bytes) entries (rests.text.gate ∷ drop (place + 1) image) image (torn_first count image tears)) ∙ is)
+
+  -- the first write and its sync
+  pub staged : (entry : Entry) (piece now : List ℕ) (now_images : List ℕ → Type 0) → IsEntryOf second_version entry → piece ≡ behind_gate entry → now ≡ written bytes (place + 1) piece → Only now now_images
+      → Staged journal entries entry now now_images
+  staged entry piece now now_images legal is_piece is only =
+      record {
+        version = version_of bytes;
+        gate = rests.text.gate;
+        rest = drop (place + 1 + length piece) (front_of (version_of bytes) entries ++ rests.text.gate ∷ rests.text.rest);
+        whole = is
+            ∙ (ap (λ (x : List ℕ). written x (place + 1) piece) whole_at
+            ∙ (written_behind (front_of (version_of bytes) entries) rests.text.gate rests.text.rest place stands_at piece
+            ∙ ap (λ (x : List ℕ). front_of (version_of bytes) entries ++ rests.text.gate ∷ (x ++ drop (place + 1 + length piece) (front_of (version_of bytes) entries ++ rests.text.gate ∷ rests.text.rest))) is_piece));
+        closed = rests.text.closed;
+        legal = rests.text.begins.legal;
+        one = IsEntryOf-current (version_of bytes) entry rests.current legal;
+        current = rests.current;
+        gate_stands = rests.gate_stands;
+        only = only;
+      }
+
+module _ (journal : JournalState) (place : ℕ) (at : journal.gate ≡ place) (entries : List Entry) (entry : Entry) (bytes : List ℕ) (images : List ℕ → Type 0) (staged_so : Staged journal entries entry bytes images) where
+  stands_staged : length (front_of staged_so.version entries) ≡ place
+  stands_staged = length-front_of staged_so.version entries ∙ (sym staged_so.gate_stands ∙ at)
+
+  -- the gate's write, cut short
+  torn_second : (image : List ℕ) → Tears place 1 bytes image → image ≡ front_of staged_so.version entries ++ get_or image place 0 ∷ (behind_gate entry ++ staged_so.rest)
+  torn_second image tears =
+      let P : List ℕ → Type 0 = λ x. Tears place 1 x image in
+      torn_byte (front_of staged_so.version entries) staged_so.gate (behind_gate entry ++ staged_so.rest) place stands_staged image (subst P staged_so.whole tears)
+
+  pub stands_second : (image : List ℕ) → Tears place 1 bytes image → StandsForEither entries entry image
+  stands_second image tears =
+      stands_either staged_so.version entries entry (get_or image place 0) staged_so.rest image (torn_second image tears) staged_so.legal staged_so.one
+
+  pub version_second : (image : List ℕ) → Tears place 1 bytes image → version_of image ≢ first_version
+  version_second image tears is =
+      staged_so.current (sym (version_of-front staged_so.version entries (get_or image place 0 ∷ (behind_gate entry ++ staged_so.rest)) image (torn_second image tears)) ∙ is)
+
+  -- the gate's write and its sync
+  pub appended : (after : JournalState) (now : List ℕ) (now_images : List ℕ → Type 0) → after.gate ≡ journal.gate + length (entry_text entry) → after.doubt ≡ None
+      → now ≡ written bytes place (open_gate ∷ []) → Only now now_images → AtRest after (entries ++ entry ∷ []) now now_images
+  appended after now now_images moved no_doubt is only =
+      let whole : now ≡ front_of staged_so.version entries ++ open_gate ∷ (behind_gate entry ++ staged_so.rest) =
+      is
+      ∙ (ap (λ (x : List ℕ). written x place (open_gate ∷ [])) staged_so.whole
+      ∙ written_byte (front_of staged_so.version entries) staged_so.gate (behind_gate entry ++ staged_so.rest) place stands_staged open_gate) in
+      record {
+        text = stands_after staged_so.version entries entry staged_so.rest now whole staged_so.legal staged_so.one;
+        current = λ old. staged_so.current (sym (version_of-front staged_so.version entries (open_gate ∷ (behind_gate entry ++ staged_so.rest)) now whole) ∙ old);
+        gate_stands = omega (arith, moved, staged_so.gate_stands, gate_place-push entries entry);
+        no_doubt = no_doubt;
+        only = only;
+      }
+
+module _ (journal after : JournalState) (place : ℕ) (at : journal.gate ≡ place) (entry : Entry) (legal : IsEntryOf second_version entry) (same : after.gate ≡ journal.gate) (doubt : after.doubt ≡ Some (length (entry_text entry))) where
+  -- the first write or its sync has failed
+  pub doubt_first : (told now_told : Option (List ℕ)) (images now_images : List ℕ → Type 0) (count : ℕ)
+      → WhereTold (Tears (place + 1) count) told now_told → Follows (Tears (place + 1) count) images now_images
+      → IfSome told (λ bytes. (entries : List Entry) → AtRest journal entries bytes images → IsSomeAnd now_told (λ now. InDoubt after entries entry now now_images))
+  doubt_first None now_told images now_images count torn follows = tt
+  doubt_first (Some bytes) None images now_images count torn follows = absurd torn
+  doubt_first (Some bytes) (Some now) images now_images count torn follows = λ entries rests.
+      record {
+        text = inl (stands_first journal place at entries bytes images rests count now torn);
+        current = version_first journal place at entries bytes images rests count now torn;
+        gate_stands = same ∙ rests.gate_stands;
+        in_doubt = doubt;
+        each = λ image left.
+            let from = follows image left in
+            let P : List ℕ → Type 0 = λ x. Tears (place + 1) count x image in
+            inl (stands_first journal place at entries bytes images rests count image (subst P (rests.only from.0 from.1) from.2));
+      }
+
+  -- the gate's write or its sync has failed
+  pub doubt_second : (piece : List ℕ) → piece ≡ behind_gate entry → (told staged_told now_told : Option (List ℕ)) (images staged_images now_images : List ℕ → Type 0)
+      → staged_told ≡ option_map (λ old. written old (place + 1) piece) told → IfSome staged_told (λ now. Only now staged_images)
+      → WhereTold (Tears place 1) staged_told now_told → Follows (Tears place 1) staged_images now_images
+      → IfSome told (λ bytes. (entries : List Entry) → AtRest journal entries bytes images → IsSomeAnd now_told (λ now. InDoubt after entries entry now now_images))
+  doubt_second piece is_piece None staged_told now_told images staged_images now_images is only torn follows = tt
+  doubt_second piece is_piece (Some bytes) None now_told images staged_images now_images is only torn follows = cc
+  doubt_second piece is_piece (Some bytes) (Some middle) None images staged_images now_images is only torn follows = absurd torn
+  doubt_second piece is_piece (Some bytes) (Some middle) (Some now) images staged_images now_images is only torn follows = λ entries rests.
+      let is_written : middle ≡ written bytes (place + 1) piece = cc in
+      let so = staged journal place at entries bytes images rests entry piece middle staged_images legal is_piece is_written only in
+      record {
+        text = stands_second journal place at entries entry middle staged_images so now torn;
+        current = version_second journal place at entries entry middle staged_images so now torn;
+        gate_stands = same ∙ rests.gate_stands;
+        in_doubt = doubt;
+        each = λ image left.
+            let from = follows image left in
+            let P : List ℕ → Type 0 = λ x. Tears place 1 x image in
+            stands_second journal place at entries entry middle staged_images so image (subst P (only from.0 from.1) from.2);
+      }
+
+-- the append has succeeded
+pub acknowledged : (journal after : JournalState) (place : ℕ) → journal.gate ≡ place → (entry : Entry) → IsEntryOf second_version entry → (piece : List ℕ) → piece ≡ behind_gate entry → after.gate ≡ journal.gate + length (entry_text entry) → after.doubt ≡ None
+    → (told staged_told now_told : Option (List ℕ)) (images staged_images now_images : List ℕ → Type 0)
+    → staged_told ≡ option_map (λ old. written old (place + 1) piece) told → IfSome staged_told (λ now. Only now staged_images)
+    → now_told ≡ option_map (λ old. written old place (open_gate ∷ [])) staged_told → IfSome now_told (λ now. Only now now_images)
+    → IfSome told (λ bytes. (entries : List Entry) → AtRest journal entries bytes images → IsSomeAnd now_told (λ now. AtRest after (entries ++ entry ∷ []) now now_images))
+acknowledged journal after place at entry legal piece is_piece moved no_doubt None staged_told now_told images staged_images now_images is only opens settles = tt
+acknowledged journal after place at entry legal piece is_piece moved no_doubt (Some bytes) None now_told images staged_images now_images is only opens settles = cc
+acknowledged journal after place at entry legal piece is_piece moved no_doubt (Some bytes) (Some middle) None images staged_images now_images is only opens settles = cc
+acknowledged journal after place at entry legal piece is_piece moved no_doubt (Some bytes) (Some middle) (Some now) images staged_images now_images is only opens settles = λ entries rests.
+    let is_written : middle ≡ written bytes (place + 1) piece = cc in
+    let is_open : now ≡ written middle place (open_gate ∷ []) = cc in
+    let so = staged journal place at entries bytes images rests entry piece middle staged_images legal is_piece is_written only in
+    appended journal place at entries entry middle staged_images so after now now_images moved no_doubt is_open settles
+
+module _ {D : Type 0} (moment : D → ℕ) (left_since : D → ℕ → List ℕ → Type 0) (journal : JournalState) (place : ℕ) (at : journal.gate ≡ place) (entry : Entry) where
+  -- a stop during the first write and its sync
+  pub any_first : (before middle : D) (images : List ℕ → Type 0) (count : ℕ) (told : Option (List ℕ)) → LeavesOnly moment left_since before middle (IsTorn images (place + 1) count)
+      → IfSome told (λ bytes. (entries : List Entry) → AtRest journal entries bytes images → LeavesOnly moment left_since before middle (StandsForEither entries entry))
+  any_first before middle images count None leaves = tt
+  any_first before middle images count (Some bytes) leaves = λ entries rests.
+      let P : List ℕ → Type 0 = IsTorn images (place + 1) count in
+      let stands : (image : List ℕ) → P image → StandsForEither entries entry image = λ image torn.
+      let T : List ℕ → Type 0 = λ x. Tears (place + 1) count x image in
+      inl (stands_first journal place at entries bytes images rests count image (subst T (rests.only torn.earlier torn.was) torn.tears)) in
+      LeavesOnly-weaker moment left_since before middle P (StandsForEither entries entry) stands leaves
+
+  -- and during the gate's write and its sync
+  pub any_second : (piece : List ℕ) → piece ≡ behind_gate entry → (before middle after : D) (images staged_images : List ℕ → Type 0) (count : ℕ) (told staged_told : Option (List ℕ)) → IsEntryOf second_version entry
+      → LeavesOnly moment left_since before middle (IsTorn images (place + 1) count)
+      → staged_told ≡ option_map (λ old. written old (place + 1) piece) told → IfSome staged_told (λ now. Only now staged_images)
+      → LeavesOnly moment left_since middle after (IsTorn staged_images place 1)
+      → IfSome told (λ bytes. (entries : List Entry) → AtRest journal entries bytes images → LeavesOnly moment left_since before after (StandsForEither entries entry))
+  any_second piece is_piece before middle after images staged_images count None staged_told legal leaves is only then = tt
+  any_second piece is_piece before middle after images staged_images count (Some bytes) None legal leaves is only then = cc
+  any_second piece is_piece before middle after images staged_images count (Some bytes) (Some content) legal leaves is only then = λ entries rests.
+      let is_written : content ≡ written bytes (place + 1) piece = cc in
+      let so = staged journal place at entries bytes images rests entry piece content staged_images legal is_piece is_written only in
+      let P : List ℕ → Type 0 = IsTorn staged_images place 1 in
+      let stands : (image : List ℕ) → P image → StandsForEither entries entry image = λ image torn.
+      let T : List ℕ → Type 0 = λ x. Tears place 1 x image in
+      stands_second journal place at entries entry content staged_images so image (subst T (only torn.earlier torn.was) torn.tears) in
+      LeavesOnly-append moment left_since before middle after (StandsForEither entries entry)
+      (any_first before middle images count (Some bytes) leaves entries rests)
+      (LeavesOnly-weaker moment left_since middle after P (StandsForEither entries entry) stands then)
+
+-- what stands over the limit
+pub over_limit : (limit gate count body : ℕ) → count ≡ 7 + body → (gate + count ≤ limit → IsTrue false) → limit < gate + 7 + body
+over_limit limit gate count body is over =
+    let no : gate + count ≤ limit → ⊥ = λ fits. let never = over fits in cc in
+    omega arith
+
+pub within_limit : (limit gate count body : ℕ) → count ≡ 7 + body → (IsTrue true → gate + count ≤ limit) → limit < gate + 7 + body → ⊥
+within_limit limit gate count body is within over =
+    let fits : gate + count ≤ limit = within refl in
+    omega arith
+
+-- a fault isn't want of room
+pub not_full : (answer : Result ℕ AppendError) → IsErrAnd answer (λ error. error ≡ StoreFault) → IsErrOf answer JournalFull → ⊥
+not_full (Ok place) fault full = cc
+not_full (Err error) fault full = cc
+
+-- the text behind the gate, as a slice of the whole
+pub behind_slice : (text : List ℕ) (entry : Entry) → text ≡ sealed entry → take (length text - 1) (drop 1 text) ≡ behind_gate entry
+unfolding behind_gate
+behind_slice text entry is =
+    take_all (length text - 1) (drop 1 text) (omega (arith, length-drop 1 text)) ∙ ap (λ (x : List ℕ). drop 1 x) is

@@ -1,0 +1,5 @@
+pub mod Appends
+pub mod Options
+pub mod Stops
+pub mod Texts
+pub mod Torn

@@ -1,0 +1,10 @@
+-- Facts for one variant of an answer.
+use Rattle.std.proofs.Common.{◌≡◌, Option, Some, None, Result, Ok, Err, OnErr, OnOk, IfSome, IsSomeAnd, sym, subst, refl}
+
+pub OnErr-always : {T E : Type 0} (answer : Result T E) (P : Type 0) → P → OnErr answer P
+OnErr-always (Ok x) P holds = tt
+OnErr-always (Err e) P holds = holds
+
+pub IfSome-always : {T : Type 0} (told : Option T) (P : T → Type 0) → ((x : T) → P x) → IfSome told P
+IfSome-always None P all = tt
+IfSome-always (Some x) P all = all x

@@ -1,0 +1,74 @@
+use Rattle.std.proofs.Common.{◌≡◌, ◌+◌, ◌-◌, ◌∙◌, ap, refl, sym, ℕ, List, Some, length, drop, arith}
+use Rattle.soc_journal.specs.Entries.{open_gate, entry_text}
+use Rattle.soc_journal.specs.States.{JournalState}
+use Rattle.soc_journal.proofs.Texts.{length-entry_text, length-sealed}
+use Rattle.soc_journal.proofs.Appends.{over_limit, within_limit, not_full, behind_slice, doubt_first, doubt_second, acknowledged, any_first, any_second}
+use Rattle.soc_journal.proofs.journal.Journal.append.Goals as goal
+
+pub returns-then-not-has_room-clause-full : goal.returns-then-not-has_room-clause-full
+returns-then-not-has_room-clause-full g c =
+    let count = ap (λ (x : List ℕ). length x) c.as_slice-text.ensures.text ∙ length-sealed c.args.entry.now in
+    (λ _. over_limit c.args.self.now.limit c.args.self.now.gate _ _ count c.if-not-has_room.ensures.1, λ _. refl)
+
+pub returns-in_err-write_and_sync-clause-full : goal.returns-in_err-write_and_sync-clause-full
+returns-in_err-write_and_sync-clause-full g c =
+    let count = ap (λ (x : List ℕ). length x) c.as_slice-text.ensures.text ∙ length-sealed c.args.entry.now in
+    (λ is. absurd (not_full c.from_residual.result c.from_residual.ensures.1 is), λ over. absurd (within_limit c.args.self.now.limit c.args.self.now.gate _ _ count c.if-not-has_room.ensures.0 over))
+
+pub returns-in_err-write_and_sync-clause-in_doubt : goal.returns-in_err-write_and_sync-clause-in_doubt
+returns-in_err-write_and_sync-clause-in_doubt g c = λ _.
+    let at = sym (ap (λ (x : JournalState). x.gate) c.self.view_is) in
+    let count = ap (λ (x : List ℕ). length x) c.as_slice-text.ensures.text in
+    let doubt : length c.as_slice-text.result.now - 1 ≡ length (entry_text c.args.entry.now) =
+    omega (arith, count, length-sealed c.args.entry.now, length-entry_text c.args.entry.now) in
+    doubt_first c.args.self.now _ c.self.inside.gate at c.args.entry.now c.as_slice-text.ensures.legal (sym at) (ap (λ (x : ℕ). Some x) doubt) _ _ _ _ _
+    c.in_err-write_and_sync.ensures.torn c.write_and_sync.ensures.images
+
+pub returns-in_err-write_and_sync-clause-any_moment : goal.returns-in_err-write_and_sync-clause-any_moment
+returns-in_err-write_and_sync-clause-any_moment g c =
+    let at = sym (ap (λ (x : JournalState). x.gate) c.self.view_is) in
+    any_first g.D.Disk.moment g.D.Disk.left_since c.args.self.now c.self.inside.gate at c.args.entry.now _ _ _ _ _ c.write_and_sync.ensures.any_moment
+
+pub returns-in_err-write_and_sync-2-clause-full : goal.returns-in_err-write_and_sync-2-clause-full
+returns-in_err-write_and_sync-2-clause-full g c =
+    let count = ap (λ (x : List ℕ). length x) c.as_slice-text.ensures.text ∙ length-sealed c.args.entry.now in
+    (λ is. absurd (not_full c.from_residual-in_err-write_and_sync-2.result c.from_residual-in_err-write_and_sync-2.ensures.1 is), λ over. absurd (within_limit c.args.self.now.limit c.args.self.now.gate _ _ count c.if-not-has_room.ensures.0 over))
+
+pub returns-in_err-write_and_sync-2-clause-in_doubt : goal.returns-in_err-write_and_sync-2-clause-in_doubt
+returns-in_err-write_and_sync-2-clause-in_doubt g c = λ _.
+    let at = sym (ap (λ (x : JournalState). x.gate) c.self.view_is) in
+    let count = ap (λ (x : List ℕ). length x) c.as_slice-text.ensures.text in
+    let doubt : length c.as_slice-text.result.now - 1 ≡ length (entry_text c.args.entry.now) =
+    omega (arith, count, length-sealed c.args.entry.now, length-entry_text c.args.entry.now) in
+    let is_piece = behind_slice _ _ c.as_slice-text.ensures.text in
+    doubt_second c.args.self.now _ c.self.inside.gate at c.args.entry.now c.as_slice-text.ensures.legal (sym at) (ap (λ (x : ℕ). Some x) doubt) _ is_piece _ _ _ _ _ _
+    c.in_ok-write_and_sync.ensures.written c.in_ok-write_and_sync.ensures.durable c.in_err-write_and_sync-2.ensures.torn c.write_and_sync-2.ensures.images
+
+pub returns-in_err-write_and_sync-2-clause-any_moment : goal.returns-in_err-write_and_sync-2-clause-any_moment
+returns-in_err-write_and_sync-2-clause-any_moment g c =
+    let at = sym (ap (λ (x : JournalState). x.gate) c.self.view_is) in
+    let is_piece = behind_slice _ _ c.as_slice-text.ensures.text in
+    any_second g.D.Disk.moment g.D.Disk.left_since c.args.self.now c.self.inside.gate at c.args.entry.now _ is_piece _ _ _ _ _ _ _ _ c.as_slice-text.ensures.legal
+    c.write_and_sync.ensures.any_moment c.in_ok-write_and_sync.ensures.written c.in_ok-write_and_sync.ensures.durable c.write_and_sync-2.ensures.any_moment
+
+pub returns-clause-full : goal.returns-clause-full
+returns-clause-full g c =
+    let count = ap (λ (x : List ℕ). length x) c.as_slice-text.ensures.text ∙ length-sealed c.args.entry.now in
+    (λ is. cc, λ over. absurd (within_limit c.args.self.now.limit c.args.self.now.gate _ _ count c.if-not-has_room.ensures.0 over))
+
+pub returns-clause-acknowledged : goal.returns-clause-acknowledged
+returns-clause-acknowledged g c =
+    let at = sym (ap (λ (x : JournalState). x.gate) c.self.view_is) in
+    let count = ap (λ (x : List ℕ). length x) c.as_slice-text.ensures.text in
+    let moved : c.self.inside.gate + (length c.as_slice-text.result.now - 1) ≡ c.args.self.now.gate + length (entry_text c.args.entry.now) =
+    omega (arith, at, count, length-sealed c.args.entry.now, length-entry_text c.args.entry.now) in
+    let is_piece = behind_slice _ _ c.as_slice-text.ensures.text in
+    acknowledged c.args.self.now _ c.self.inside.gate at c.args.entry.now c.as_slice-text.ensures.legal _ is_piece moved refl _ _ _ _ _ _
+    c.in_ok-write_and_sync.ensures.written c.in_ok-write_and_sync.ensures.durable c.in_ok-write_and_sync-2.ensures.written c.in_ok-write_and_sync-2.ensures.durable
+
+pub returns-clause-any_moment : goal.returns-clause-any_moment
+returns-clause-any_moment g c =
+    let at = sym (ap (λ (x : JournalState). x.gate) c.self.view_is) in
+    let is_piece = behind_slice _ _ c.as_slice-text.ensures.text in
+    any_second g.D.Disk.moment g.D.Disk.left_since c.args.self.now c.self.inside.gate at c.args.entry.now _ is_piece _ _ _ _ _ _ _ _ c.as_slice-text.ensures.legal
+    c.write_and_sync.ensures.any_moment c.in_ok-write_and_sync.ensures.written c.in_ok-write_and_sync.ensures.durable c.write_and_sync-2.ensures.any_moment
