@@ -22,6 +22,14 @@ pub sealed_behind : (entry : Entry) → sealed entry ≡ open_gate ∷ behind_ga
 unfolding entry_text behind_gate
 sealed_behind entry = refl
 
+-- what stands behind an entry's gate, and then more
+unfoldable pub text_behind : Entry → List ℕ → List ℕ
+text_behind entry more = (entry.kind ∷ (to_le_bytes w32 (length entry.body) ++ entry.body)) ++ more
+
+pub entry_text-behind : (entry : Entry) (more : List ℕ) → entry_text entry ++ more ≡ open_gate ∷ text_behind entry more
+unfolding entry_text text_behind
+entry_text-behind entry more = refl
+
 pub entries_text-push : (entries : List Entry) (entry : Entry) (rest : List ℕ) → entries_text (entries ++ entry ∷ []) ++ rest ≡ entries_text entries ++ (entry_text entry ++ rest)
 entries_text-push [] entry rest = ap (λ (x : List ℕ). x ++ rest) (append-nil (entry_text entry))
 entries_text-push (first ∷ entries) entry rest =

@@ -1,0 +1,81 @@
+-- What the journal holds once a doubt is settled.
+use Rattle.std.proofs.Common.{◌≡◌, ◌≢◌, inl, inr, ℕ, ◌+◌, Bool, true, false, IsTrue, ◌↔◌, List, [], ◌∷◌, ◌++◌, length, Option, Some, None, IfSome, slice_get, refl, sym, ◌∙◌, ap, subst, arith}
+use Rattle.soc_edge.specs.Disk.{Only, NoMore}
+use Rattle.soc_journal.specs.Entries.{Entry, open_gate, closed_gate, entry_text, gate_place}
+use Rattle.soc_journal.specs.States.{JournalState, AtRest, InDoubt, ReadsOpen}
+use Rattle.soc_journal.specs.Text.{version_of, JournalText}
+use Rattle.soc_journal.proofs.Texts.{front_of, length-front_of, front_of-push, begins_front, gate_place-push, text_behind, entry_text-behind}
+
+slice_get_seam : (front : List ℕ) (byte : ℕ) (rest : List ℕ) → slice_get (front ++ byte ∷ rest) (length front) ≡ Some byte
+slice_get_seam [] byte rest = refl
+slice_get_seam (first ∷ front) byte rest = slice_get_seam front byte rest
+
+-- the byte behind the header and some entries
+byte_at_gate : (version : ℕ) (entries : List Entry) (byte : ℕ) (rest bytes : List ℕ) → bytes ≡ front_of version entries ++ byte ∷ rest → slice_get bytes (gate_place entries) ≡ Some byte
+byte_at_gate version entries byte rest bytes whole =
+    ap (λ (x : List ℕ). slice_get x (gate_place entries)) whole
+    ∙ (ap (λ (n : ℕ). slice_get (front_of version entries ++ byte ∷ rest) n) (sym (length-front_of version entries))
+    ∙ slice_get_seam (front_of version entries) byte rest)
+
+-- a journal's gate doesn't read open
+closed_reads : (entries : List Entry) (bytes : List ℕ) → JournalText entries bytes → ReadsOpen bytes (gate_place entries) → ⊥
+closed_reads entries bytes text reads =
+    let byte = byte_at_gate (version_of bytes) entries text.gate text.rest bytes (begins_front entries (text.gate ∷ text.rest) bytes text.begins) in
+    let is : text.gate ≡ open_gate = cc in
+    text.closed is
+
+-- the gate before an entry of a journal does
+open_reads : (entries : List Entry) (entry : Entry) (bytes : List ℕ) → JournalText (entries ++ entry ∷ []) bytes → ReadsOpen bytes (gate_place entries)
+open_reads entries entry bytes text =
+    byte_at_gate (version_of bytes) entries open_gate (text_behind entry (text.gate ∷ text.rest)) bytes
+    (begins_front (entries ++ entry ∷ []) (text.gate ∷ text.rest) bytes text.begins
+    ∙ (sym (front_of-push (version_of bytes) entries entry (text.gate ∷ text.rest))
+    ∙ ap (λ (x : List ℕ). front_of (version_of bytes) entries ++ x) (entry_text-behind entry (text.gate ∷ text.rest))))
+
+module _ (journal after : JournalState) (entries : List Entry) (entry : Entry) (bytes : List ℕ) (images now_images : List ℕ → Type 0) (doubts : InDoubt journal entries entry bytes images) (no_doubt : after.doubt ≡ None) (only : Only bytes now_images) where
+  kept : after.gate ≡ journal.gate + length (entry_text entry) → ReadsOpen bytes journal.gate → AtRest after (entries ++ entry ∷ []) bytes now_images
+  kept moved reads = record {
+    text = elim doubts.text [
+      | inl before ↦ absurd (closed_reads entries bytes before (subst (λ n. ReadsOpen bytes n) doubts.gate_stands reads))
+      | inr with_it ↦ with_it
+    ];
+    current = doubts.current;
+    gate_stands = omega (arith, moved, doubts.gate_stands, gate_place-push entries entry);
+    no_doubt = no_doubt;
+    only = only;
+  }
+
+  dropped : after.gate ≡ journal.gate → (ReadsOpen bytes journal.gate → ⊥) → AtRest after entries bytes now_images
+  dropped same shut = record {
+    text = elim doubts.text [
+      | inl before ↦ before
+      | inr with_it ↦ absurd (shut (subst (λ n. ReadsOpen bytes n) (sym doubts.gate_stands) (open_reads entries entry bytes with_it)))
+    ];
+    current = doubts.current;
+    gate_stands = same ∙ doubts.gate_stands;
+    no_doubt = no_doubt;
+    only = only;
+  }
+
+module _ (journal after : JournalState) (place count : ℕ) (at : journal.gate ≡ place) (doubt : journal.doubt ≡ Some count) (no_doubt : after.doubt ≡ None) (images synced_images now_images : List ℕ → Type 0) (no_more : NoMore synced_images now_images) where
+  pub kept_told : (answer : Bool) → answer ≡ true → (told synced_told : Option (List ℕ)) → after.gate ≡ place + count → synced_told ≡ told → IfSome told (λ bytes. Only bytes synced_images)
+      → IfSome synced_told (λ bytes. IsTrue answer ↔ ReadsOpen bytes place)
+      → IfSome told (λ bytes. (entries : List Entry) (entry : Entry) → InDoubt journal entries entry bytes images → AtRest after (entries ++ entry ∷ []) bytes now_images)
+  kept_told answer is_open None synced_told moved same only reads = tt
+  kept_told answer is_open (Some bytes) None moved same only reads = cc
+  kept_told answer is_open (Some bytes) (Some synced) moved same only reads = λ entries entry doubts.
+      let is : synced ≡ bytes = cc in
+      let all : count ≡ length (entry_text entry) = let twice = doubts.in_doubt in cc in
+      let opened : ReadsOpen bytes journal.gate = subst (λ n. ReadsOpen bytes n) (sym at) (subst (λ b. ReadsOpen b place) is (reads.0 is_open)) in
+      kept journal after entries entry bytes images now_images doubts no_doubt (λ image left. only image (no_more image left)) (omega (arith, moved, at, all)) opened
+
+  pub dropped_told : (answer : Bool) → answer ≡ false → (told synced_told : Option (List ℕ)) → after.gate ≡ place → synced_told ≡ told → IfSome told (λ bytes. Only bytes synced_images)
+      → IfSome synced_told (λ bytes. IsTrue answer ↔ ReadsOpen bytes place)
+      → IfSome told (λ bytes. (entries : List Entry) (entry : Entry) → InDoubt journal entries entry bytes images → AtRest after entries bytes now_images)
+  dropped_told answer is_shut None synced_told same_gate same only reads = tt
+  dropped_told answer is_shut (Some bytes) None same_gate same only reads = cc
+  dropped_told answer is_shut (Some bytes) (Some synced) same_gate same only reads = λ entries entry doubts.
+      let is : synced ≡ bytes = cc in
+      let shut : ReadsOpen bytes journal.gate → ⊥ = λ opened.
+      let never = reads.1 (subst (λ b. ReadsOpen b place) (sym is) (subst (λ n. ReadsOpen bytes n) at opened)) in cc in
+      dropped journal after entries entry bytes images now_images doubts no_doubt (λ image left. only image (no_more image left)) (same_gate ∙ sym at) shut
