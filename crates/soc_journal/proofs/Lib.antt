@@ -1,4 +1,6 @@
 pub mod Appends
+pub mod Founds
+pub mod Fronts
 pub mod Mends
 pub mod Options
 pub mod Sealed

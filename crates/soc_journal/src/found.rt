@@ -1,7 +1,7 @@
 // What stands on a disk where a gate is wanted.
 ghost use Rattle.std.specs.Prelude.{◌≡◌, ◌≤◌, ◌+◌, List, ℕ, length, drop, nat_le, IfSome, IfOk, OnErr, IsTrue, ◌↔◌};
 ghost use Rattle.soc_edge.specs.Faults.{Rose};
-ghost use Rattle.soc_journal.specs.Found.{IsFront, IsFound};
+ghost use Rattle.soc_journal.specs.Found.{Counts, IsFront, IsFound};
 ghost use Rattle.soc_journal.specs.Images.{Stays};
 
 use crate::format::{HEAD, MAX_BODY, OPEN_GATE, has_kind};
@@ -10,11 +10,9 @@ use soc_edge::{Disk, Failed};
 /// What the first bytes from a gate on are.
 #[derive(Clone, Copy, Debug)]
 pub enum Front {
-    /// There are none.
-    Missing,
     /// A closed gate.
     Shut,
-    /// An open gate, and fewer bytes than an entry has before its body.
+    /// No closed gate, and fewer bytes than an entry has before its body.
     Cut,
     /// The bytes of an entry before its body.
     Opened { kind: u8, length: u32 },
@@ -31,18 +29,22 @@ pub enum Found {
     Bad,
 }
 
+/// What the first bytes from a gate on are, at most six of them.
 fn front_of(bytes: &[u8]) -> Front
-    requires { length bytes.now ≤ 6 }
     ensures { IsFront bytes.now result }
 {
-    match bytes {
-        [] => Front::Missing,
-        [OPEN_GATE, kind, a, b, c, d] => Front::Opened {
+    let [gate, behind @ ..] = bytes else {
+        return Front::Cut;
+    };
+    if *gate != OPEN_GATE {
+        return Front::Shut;
+    }
+    match behind {
+        [kind, a, b, c, d, ..] => Front::Opened {
             kind: *kind,
             length: u32::from_le_bytes([*a, *b, *c, *d]),
         },
-        [OPEN_GATE, ..] => Front::Cut,
-        _ => Front::Shut,
+        _ => Front::Cut,
     }
 }
 
@@ -58,11 +60,14 @@ fn front_at<D: Disk>(disk: &mut D, place: u64) -> Result<Front, Failed>
     Ok(front_of(&head[..count]))
 }
 
-/// Whether an entry at a place ends at or before the end.
-fn fits(place: u64, length: u32, end: u64) -> bool
-    ensures { IsTrue result ↔ (place + 6 + length ≤ end) }
+/// Whether a kind and a length are those of an entry at a place, which ends at or before the end.
+fn counts(version: u8, kind: u8, length: u32, place: u64, end: u64) -> bool
+    ensures { IsTrue result ↔ Counts version kind length place end }
 {
-    place <= end && HEAD as u64 + length as u64 <= end - place
+    has_kind(version, kind)
+        && length <= MAX_BODY
+        && place <= end
+        && HEAD as u64 + length as u64 <= end - place
 }
 
 /// What stands at a place, where an entry counts only if it ends at or before the end.
@@ -74,10 +79,13 @@ pub fn found_at<D: Disk>(disk: &mut D, version: u8, place: u64, end: u64) -> Res
 {
     Ok(match front_at(disk, place)? {
         Front::Shut => Found::Closed,
-        Front::Opened { kind, length }
-            if has_kind(version, kind) && length <= MAX_BODY && fits(place, length, end) => {
-            Found::Entry { kind, length }
+        Front::Cut => Found::Bad,
+        Front::Opened { kind, length } => {
+            if counts(version, kind, length, place, end) {
+                Found::Entry { kind, length }
+            } else {
+                Found::Bad
+            }
         }
-        _ => Found::Bad,
     })
 }
