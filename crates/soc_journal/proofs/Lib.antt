@@ -1,7 +1,9 @@
 pub mod Appends
 pub mod Founds
 pub mod Fronts
+pub mod Headers
 pub mod Mends
+pub mod Nexts
 pub mod Options
 pub mod Sealed
 pub mod Stops

@@ -1,5 +1,5 @@
 -- What stands where a gate is wanted.
-use Rattle.std.specs.Prelude.{◌≡◌, ◌≢◌, ℕ, ◌+◌, ◌^◌, ◌<◌, ◌≤◌, List, [], ◌∷◌, ◌++◌, length, IsTrue}
+use Rattle.std.specs.Prelude.{◌≡◌, ◌≢◌, ℕ, ◌+◌, ◌^◌, ◌<◌, ◌≤◌, List, [], ◌∷◌, ◌++◌, length, IsTrue, ⊤}
 use Rattle.std.specs.Int.{to_le_bytes, w32}
 use Rattle.soc_journal.specs.Entries.{Entry, IsEntryOf, has_kind, max_body, open_gate, entry_text}
 use Rattle.soc_journal.specs.declared.found.Front.{Front}
@@ -43,3 +43,9 @@ abbrev pub IsFound : ℕ → ℕ → ℕ → List ℕ → Found → Type 0
 IsFound version place end bytes (an_entry kind count) = IsHead version place end kind count bytes
 IsFound version place end bytes Closed = IsFront bytes Shut
 IsFound version place end bytes Bad = IsBad version place end bytes
+
+-- an entry that was found counts, whatever the disk tells
+abbrev pub FoundCounts : ℕ → ℕ → ℕ → Found → Type 0
+FoundCounts version place end (an_entry kind count) = Counts version kind count place end
+FoundCounts version place end Closed = ⊤
+FoundCounts version place end Bad = ⊤

@@ -1,5 +1,5 @@
 -- What some calls on a disk leave of its content and its images, in the words of the disk's model.
-use Rattle.std.specs.Prelude.{◌≡◌, ℕ, ◌≤◌, Option, IfSome, List}
+use Rattle.std.specs.Prelude.{◌≡◌, ℕ, Option, List}
 use Rattle.soc_edge.specs.Disk.{Tears, NoMore, LeavesOnly}
 
 -- the calls changed nothing: reads give the same, and no stop, in the calls or behind them, leaves what it could not
@@ -14,10 +14,3 @@ pub record IsTorn (images : List ℕ → Type 0) (place count : ℕ) (image : Li
   pub earlier : List ℕ
   pub was : images earlier
   pub tears : Tears place count earlier image
-
--- from some moment of the calls on, a stop leaves what a read gives behind them and nothing else
-pub record SettlesSince {D : Type 0} (content : D → Option (List ℕ)) (moment : D → ℕ) (left_since : D → ℕ → List ℕ → Type 0) (before after : D) : Type 0 where
-  pub since : ℕ
-  pub begun : moment before ≤ since
-  pub ended : since ≤ moment after
-  pub only : (image : List ℕ) → left_since after since image → IfSome (content after) (λ bytes. image ≡ bytes)

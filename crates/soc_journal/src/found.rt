@@ -1,7 +1,7 @@
 // What stands on a disk where a gate is wanted.
 ghost use Rattle.std.specs.Prelude.{◌≡◌, ◌≤◌, ◌+◌, List, ℕ, length, drop, nat_le, IfSome, IfOk, OnErr, IsTrue, ◌↔◌};
 ghost use Rattle.soc_edge.specs.Faults.{Rose};
-ghost use Rattle.soc_journal.specs.Found.{Counts, IsFront, IsFound};
+ghost use Rattle.soc_journal.specs.Found.{Counts, IsFront, IsFound, FoundCounts};
 ghost use Rattle.soc_journal.specs.Images.{Stays};
 
 use crate::format::{HEAD, MAX_BODY, OPEN_GATE, has_kind};
@@ -73,6 +73,7 @@ fn counts(version: u8, kind: u8, length: u32, place: u64, end: u64) -> bool
 /// What stands at a place, where an entry counts only if it ends at or before the end.
 pub fn found_at<D: Disk>(disk: &mut D, version: u8, place: u64, end: u64) -> Result<Found, Failed>
     ensures found { IfOk result (λ found. IfSome (D.content disk.old) (λ bytes. IsFound version place end (drop place bytes) found)) }
+    ensures counts { IfOk result (λ found. FoundCounts version place end found) }
     ensures disk_stays { Stays D.content D.may_leave D.moment D.left_since disk.old disk.new }
     ensures never_falls { D.disk_faults disk.old ≤ D.disk_faults disk.new }
     ensures cause { OnErr result (Rose (D.disk_faults disk.old) (D.disk_faults disk.new)) }

@@ -5,10 +5,11 @@ ghost use Rattle.soc_edge.specs.Disk.{Only, LeavesOnly};
 ghost use Rattle.soc_edge.specs.Faults.{Rose};
 ghost use Rattle.soc_journal.specs.Entries.{Entry, first_version, header};
 ghost use Rattle.soc_journal.specs.Text.{HasHeader, version_of, empty_journal, StandsFor, StandsAt};
-ghost use Rattle.soc_journal.specs.Images.{Stays, SettlesSince};
+ghost use Rattle.soc_journal.specs.Images.{Stays};
 ghost use Rattle.soc_journal.specs.States.{AtRest};
 ghost use Rattle.soc_journal.specs.Openings.{HasRead, HasReadAll, Finds};
 ghost use Rattle.soc_journal.specs.Bodies.{GivesBody};
+ghost use Rattle.soc_journal.specs.Found.{Counts};
 
 use crate::error::{OpenError, ReadError};
 use crate::format::{FIRST_GATE, FIRST_VERSION, HEAD, MAGIC, SECOND_VERSION, VERSION_PLACE};
@@ -60,9 +61,6 @@ impl Journal {
         ensures created { OnOk result (D.content disk.old ≡ Some [] → D.content disk.new ≡ Some empty_journal) }
         ensures disk_stays { IfSome (D.content disk.old) (λ bytes. bytes ≢ [] → Stays D.content D.may_leave D.moment D.left_since disk.old disk.new) }
 
-        // From the first sync on, or once the empty journal is made, a stop leaves what the disk reads as.
-        ensures settles { OnOk result (SettlesSince D.content D.moment D.left_since disk.old disk.new) }
-
         ensures never_falls { D.disk_faults disk.old ≤ D.disk_faults disk.new }
         ensures cause { IsErrOf result OpenError.StoreFault → Rose (D.disk_faults disk.old) (D.disk_faults disk.new) }
     {
@@ -98,7 +96,7 @@ impl Opening {
     pub fn next<D: Disk>(&mut self, disk: &mut D) -> Result<Option<Mark>, OpenError>
         ensures finds { IfSome (D.content disk.old) (λ bytes. (entries : List Entry) → HasRead self.old entries bytes (D.may_leave disk.old)
             → Finds entries bytes (D.may_leave disk.new) result self.new) }
-        ensures handed_out { IfOk result (λ next. IfSome next (λ mark. mark.place + 6 + mark.length ≤ self.new.length)) }
+        ensures handed_out { IfOk result (λ next. IfSome next (λ mark. Counts self.new.version mark.kind mark.length mark.place self.new.length)) }
 
         ensures opening { self.new ≡ record self.old { place = self.new.place; ended = self.new.ended } }
         ensures ended { IfOk result (λ next. self.new.ended ≡ is_none next) }
@@ -177,7 +175,6 @@ impl Opening {
 fn synced_len<D: Disk>(disk: &mut D) -> Result<u64, Failed>
     ensures count { IfOk result (λ n. IfSome (D.content disk.old) (λ bytes. n ≡ length bytes)) }
     ensures only { OnOk result (IfSome (D.content disk.old) (λ bytes. Only bytes (D.may_leave disk.new))) }
-    ensures settles { OnOk result (SettlesSince D.content D.moment D.left_since disk.old disk.new) }
     ensures disk_stays { Stays D.content D.may_leave D.moment D.left_since disk.old disk.new }
     ensures never_falls { D.disk_faults disk.old ≤ D.disk_faults disk.new }
     ensures cause { OnErr result (Rose (D.disk_faults disk.old) (D.disk_faults disk.new)) }
