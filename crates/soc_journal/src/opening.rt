@@ -164,10 +164,12 @@ impl Opening {
         ensures never_falls { D.disk_faults disk.old ≤ D.disk_faults disk.new }
         ensures cause { OnErr result (Rose (D.disk_faults disk.old) (D.disk_faults disk.new)) }
     {
-        if self.version == FIRST_VERSION {
-            write_and_sync(disk, VERSION_PLACE, &[SECOND_VERSION])?;
+        let journal = Journal::behind(self.place, self.limit);
+        if self.version != FIRST_VERSION {
+            return Ok(journal);
         }
-        Ok(Journal::behind(self.place, self.limit))
+        write_and_sync(disk, VERSION_PLACE, &[SECOND_VERSION])?;
+        Ok(journal)
     }
 }
 

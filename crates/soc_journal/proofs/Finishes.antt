@@ -1,0 +1,133 @@
+-- A journal once its opening is finished: one of the first version gets another version byte, and the same entries.
+use Rattle.std.proofs.Common.{◌≡◌, ◌≢◌, ℕ, ◌+◌, Bool, true, false, not, ◌&&◌, ◌||◌, ◌==◌, IsTrue, Option, Some, None, IfSome, IsSomeAnd, List, [], ◌∷◌, ◌++◌, length, get_or, refl, sym, ◌∙◌, ap, subst, arith, append_assoc}
+use Rattle.std.specs.Prelude.{codes}
+use Rattle.std.specs.Option.{option_map}
+use Rattle.std.specs.List.{AllByRecursion}
+use Rattle.std.proofs.lemmas.Bool.Decides.{nat_tests}
+use Rattle.soc_edge.proofs.Disks.{LeavesOnly-start, LeavesOnly-weaker}
+use Rattle.soc_edge.specs.Disk.{written, Tears, WhereTold, Only, LeavesOnly}
+use Rattle.soc_journal.specs.Entries.{Entry, IsEntryOf, has_kind, first_version, second_version, header, entries_text}
+use Rattle.soc_journal.specs.Images.{IsTorn}
+use Rattle.soc_journal.specs.Openings.{OpeningState, HasRead, HasReadAll}
+use Rattle.soc_journal.specs.States.{JournalState, AtRest}
+use Rattle.soc_journal.specs.Text.{version_of, JournalText, StandsFor}
+use Rattle.soc_journal.proofs.Appends.{stands_before}
+use Rattle.soc_journal.proofs.Options.{IfSome-always}
+use Rattle.soc_journal.proofs.Texts.{front_of, version_of-front, begins_front}
+use Rattle.soc_journal.proofs.Torn.{torn_byte, written_byte}
+
+-- each version has the kinds of the first
+has_kind_first : (version kind : ℕ) → IsTrue (has_kind first_version kind) → IsTrue (has_kind version kind)
+has_kind_first version kind known = grind (arith, nat_tests)
+
+all_first : (version : ℕ) (entries : List Entry) → AllByRecursion (IsEntryOf first_version) entries → AllByRecursion (IsEntryOf version) entries
+all_first version [] all = tt
+all_first version (entry ∷ entries) all = (record { known = has_kind_first version entry.kind all.0.known; short = all.0.short }, all_first version entries all.1)
+
+module _ (opening : OpeningState) (entries : List Entry) (bytes : List ℕ) (images : List ℕ → Type 0) (has : HasReadAll opening entries bytes images) where
+  pub still_each : (image : List ℕ) → images image → StandsFor entries image
+  still_each image left = subst (λ (x : List ℕ). StandsFor entries x) (sym (has.reads.only image left)) has.text
+
+  -- at any version but the first the journal stands as it is
+  pub rests_so : (journal : JournalState) → opening.version ≢ first_version → journal.gate ≡ opening.place → journal.doubt ≡ None → AtRest journal entries bytes images
+  rests_so journal current same no_doubt = record {
+    text = has.text;
+    current = λ is. current (has.reads.same_version ∙ is);
+    gate_stands = same ∙ has.reads.behind;
+    no_doubt = no_doubt;
+    only = has.reads.only;
+  }
+
+  module _ (first : opening.version ≡ first_version) where
+    legal_first : AllByRecursion (IsEntryOf first_version) entries
+    legal_first =
+        let P : ℕ → Type 0 = λ v. AllByRecursion (IsEntryOf v) entries in
+        subst P (sym has.reads.same_version ∙ first) has.text.begins.legal
+
+    -- another version byte in its place
+    other_byte : (version : ℕ) (image : List ℕ) → image ≡ codes "SOCJ000" ++ version ∷ (entries_text entries ++ has.text.gate ∷ has.text.rest) → StandsFor entries image × (version_of image ≡ version)
+    other_byte version image whole =
+        let regrouped : image ≡ front_of version entries ++ has.text.gate ∷ has.text.rest =
+        whole ∙ sym (append_assoc (header version) (entries_text entries) (has.text.gate ∷ has.text.rest)) in
+        (
+          stands_before version entries has.text.gate has.text.rest image regrouped has.text.closed (all_first version entries legal_first),
+          version_of-front version entries (has.text.gate ∷ has.text.rest) image regrouped,
+        )
+
+    torn_version : (image : List ℕ) → Tears 7 1 bytes image → StandsFor entries image
+    torn_version image tears =
+        let P : List ℕ → Type 0 = λ x. Tears 7 1 x image in
+        (other_byte (get_or image 7 0) image
+        (torn_byte (codes "SOCJ000") (version_of bytes) (entries_text entries ++ has.text.gate ∷ has.text.rest) 7 refl image (subst P has.text.begins.whole tears))).0
+
+    pub torn_each : (image : List ℕ) → IsTorn images 7 1 image → StandsFor entries image
+    torn_each image torn =
+        let P : List ℕ → Type 0 = λ x. Tears 7 1 x image in
+        torn_version image (subst P (has.reads.only torn.earlier torn.was) torn.tears)
+
+    pub torn_content : (now : List ℕ) → Tears 7 1 bytes now → StandsFor entries now
+    torn_content now tears = torn_version now tears
+
+    pub rests_migrated : (journal : JournalState) (now : List ℕ) (now_images : List ℕ → Type 0) → journal.gate ≡ opening.place → journal.doubt ≡ None
+        → now ≡ written bytes 7 (second_version ∷ []) → Only now now_images → AtRest journal entries now now_images
+    rests_migrated journal now now_images same no_doubt is only =
+        let so = other_byte second_version now
+        (is
+        ∙ (ap (λ (x : List ℕ). written x 7 (second_version ∷ [])) has.text.begins.whole
+        ∙ written_byte (codes "SOCJ000") (version_of bytes) (entries_text entries ++ has.text.gate ∷ has.text.rest) 7 refl second_version)) in
+        let other : second_version ≢ first_version = omega arith in
+        record {
+          text = so.0;
+          current = λ first_still. other (sym so.1 ∙ first_still);
+          gate_stands = same ∙ has.reads.behind;
+          no_doubt = no_doubt;
+          only = only;
+        }
+
+-- ---- where the disk tells its content
+
+module _ {D : Type 0} (moment : D → ℕ) (left_since : D → ℕ → List ℕ → Type 0) (may_leave : D → List ℕ → Type 0) (opening : OpeningState) (told : Option (List ℕ)) where
+  pub any_untouched : (disk : D) → ((image : List ℕ) → left_since disk (moment disk) image → may_leave disk image)
+      → IfSome told (λ bytes. (entries : List Entry) → HasReadAll opening entries bytes (may_leave disk) → LeavesOnly moment left_since disk disk (StandsFor entries))
+  any_untouched disk only = IfSome-always told _ (λ bytes entries has.
+      LeavesOnly-start moment left_since may_leave disk (StandsFor entries) only (still_each opening entries bytes (may_leave disk) has))
+
+  pub any_migrated : (before after : D) → opening.version ≡ first_version → LeavesOnly moment left_since before after (IsTorn (may_leave before) 7 1)
+      → IfSome told (λ bytes. (entries : List Entry) → HasReadAll opening entries bytes (may_leave before) → LeavesOnly moment left_since before after (StandsFor entries))
+  any_migrated before after first leaves = IfSome-always told _ (λ bytes entries has.
+      let P : List ℕ → Type 0 = IsTorn (may_leave before) 7 1 in
+      LeavesOnly-weaker moment left_since before after P (StandsFor entries) (torn_each opening entries bytes (may_leave before) has first) leaves)
+
+module _ (opening : OpeningState) (images now_images : List ℕ → Type 0) where
+  pub rests_untouched : (told : Option (List ℕ)) (journal : JournalState) → opening.version ≢ first_version → journal.gate ≡ opening.place → journal.doubt ≡ None
+      → IfSome told (λ bytes. (entries : List Entry) → HasReadAll opening entries bytes images → IsSomeAnd told (λ now. AtRest journal entries now images))
+  rests_untouched None journal current same no_doubt = tt
+  rests_untouched (Some bytes) journal current same no_doubt = λ entries has. rests_so opening entries bytes images has journal current same no_doubt
+
+  pub stands_untouched : (told : Option (List ℕ)) → IfSome told (λ bytes. (entries : List Entry) → HasReadAll opening entries bytes images → IsSomeAnd told (StandsFor entries))
+  stands_untouched None = tt
+  stands_untouched (Some bytes) = λ entries has. has.text
+
+  pub stands_torn : (told now_told : Option (List ℕ)) → opening.version ≡ first_version → WhereTold (Tears 7 1) told now_told
+      → IfSome told (λ bytes. (entries : List Entry) → HasReadAll opening entries bytes images → IsSomeAnd now_told (StandsFor entries))
+  stands_torn None now_told first torn = tt
+  stands_torn (Some bytes) None first torn = absurd torn
+  stands_torn (Some bytes) (Some now) first torn = λ entries has. torn_content opening entries bytes images has first now torn
+
+  pub rests_told : (told now_told : Option (List ℕ)) (journal : JournalState) → opening.version ≡ first_version → journal.gate ≡ opening.place → journal.doubt ≡ None
+      → now_told ≡ option_map (λ old. written old 7 (second_version ∷ [])) told → IfSome now_told (λ now. Only now now_images)
+      → IfSome told (λ bytes. (entries : List Entry) → HasReadAll opening entries bytes images → IsSomeAnd now_told (λ now. AtRest journal entries now now_images))
+  rests_told None now_told journal first same no_doubt is only = tt
+  rests_told (Some bytes) None journal first same no_doubt is only = cc
+  rests_told (Some bytes) (Some now) journal first same no_doubt is only = λ entries has.
+      let is_written : now ≡ written bytes 7 (second_version ∷ []) = cc in
+      rests_migrated opening entries bytes images has first journal now now_images same no_doubt is_written only
+
+  pub stands_told : (told now_told : Option (List ℕ)) (journal : JournalState) → opening.version ≡ first_version → journal.gate ≡ opening.place → journal.doubt ≡ None
+      → now_told ≡ option_map (λ old. written old 7 (second_version ∷ [])) told → IfSome now_told (λ now. Only now now_images)
+      → IfSome told (λ bytes. (entries : List Entry) → HasReadAll opening entries bytes images → IsSomeAnd now_told (StandsFor entries))
+  stands_told None now_told journal first same no_doubt is only = tt
+  stands_told (Some bytes) None journal first same no_doubt is only = cc
+  stands_told (Some bytes) (Some now) journal first same no_doubt is only = λ entries has.
+      let is_written : now ≡ written bytes 7 (second_version ∷ []) = cc in
+      (rests_migrated opening entries bytes images has first journal now now_images same no_doubt is_written only).text
