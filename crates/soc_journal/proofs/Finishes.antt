@@ -25,19 +25,6 @@ all_first version [] all = tt
 all_first version (entry ∷ entries) all = (record { known = has_kind_first version entry.kind all.0.known; short = all.0.short }, all_first version entries all.1)
 
 module _ (opening : OpeningState) (entries : List Entry) (bytes : List ℕ) (images : List ℕ → Type 0) (has : HasReadAll opening entries bytes images) where
-  pub still_each : (image : List ℕ) → images image → StandsFor entries image
-  still_each image left = subst (λ (x : List ℕ). StandsFor entries x) (sym (has.reads.only image left)) has.text
-
-  -- at any version but the first the journal stands as it is
-  pub rests_so : (journal : JournalState) → opening.version ≢ first_version → journal.gate ≡ opening.place → journal.doubt ≡ None → AtRest journal entries bytes images
-  rests_so journal current same no_doubt = record {
-    text = has.text;
-    current = λ is. current (has.reads.same_version ∙ is);
-    gate_stands = same ∙ has.reads.behind;
-    no_doubt = no_doubt;
-    only = has.reads.only;
-  }
-
   module _ (first : opening.version ≡ first_version) where
     legal_first : AllByRecursion (IsEntryOf first_version) entries
     legal_first =
@@ -87,11 +74,6 @@ module _ (opening : OpeningState) (entries : List Entry) (bytes : List ℕ) (ima
 -- ---- where the disk tells its content
 
 module _ {D : Type 0} (moment : D → ℕ) (left_since : D → ℕ → List ℕ → Type 0) (may_leave : D → List ℕ → Type 0) (opening : OpeningState) (told : Option (List ℕ)) where
-  pub any_untouched : (disk : D) → ((image : List ℕ) → left_since disk (moment disk) image → may_leave disk image)
-      → IfSome told (λ bytes. (entries : List Entry) → HasReadAll opening entries bytes (may_leave disk) → LeavesOnly moment left_since disk disk (StandsFor entries))
-  any_untouched disk only = IfSome-always told _ (λ bytes entries has.
-      LeavesOnly-start moment left_since may_leave disk (StandsFor entries) only (still_each opening entries bytes (may_leave disk) has))
-
   pub any_migrated : (before after : D) → opening.version ≡ first_version → LeavesOnly moment left_since before after (IsTorn (may_leave before) 7 1)
       → IfSome told (λ bytes. (entries : List Entry) → HasReadAll opening entries bytes (may_leave before) → LeavesOnly moment left_since before after (StandsFor entries))
   any_migrated before after first leaves = IfSome-always told _ (λ bytes entries has.
@@ -99,15 +81,6 @@ module _ {D : Type 0} (moment : D → ℕ) (left_since : D → ℕ → List ℕ 
       LeavesOnly-weaker moment left_since before after P (StandsFor entries) (torn_each opening entries bytes (may_leave before) has first) leaves)
 
 module _ (opening : OpeningState) (images now_images : List ℕ → Type 0) where
-  pub rests_untouched : (told : Option (List ℕ)) (journal : JournalState) → opening.version ≢ first_version → journal.gate ≡ opening.place → journal.doubt ≡ None
-      → IfSome told (λ bytes. (entries : List Entry) → HasReadAll opening entries bytes images → IsSomeAnd told (λ now. AtRest journal entries now images))
-  rests_untouched None journal current same no_doubt = tt
-  rests_untouched (Some bytes) journal current same no_doubt = λ entries has. rests_so opening entries bytes images has journal current same no_doubt
-
-  pub stands_untouched : (told : Option (List ℕ)) → IfSome told (λ bytes. (entries : List Entry) → HasReadAll opening entries bytes images → IsSomeAnd told (StandsFor entries))
-  stands_untouched None = tt
-  stands_untouched (Some bytes) = λ entries has. has.text
-
   pub stands_torn : (told now_told : Option (List ℕ)) → opening.version ≡ first_version → WhereTold (Tears 7 1) told now_told
       → IfSome told (λ bytes. (entries : List Entry) → HasReadAll opening entries bytes images → IsSomeAnd now_told (StandsFor entries))
   stands_torn None now_told first torn = tt

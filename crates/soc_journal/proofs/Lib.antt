@@ -1,4 +1,5 @@
 pub mod Appends
+pub mod Bodies
 pub mod Finishes
 pub mod Founds
 pub mod Fronts

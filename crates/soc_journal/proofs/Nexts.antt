@@ -15,7 +15,7 @@ use Rattle.soc_journal.specs.declared.mark.Mark.{Mark}
 use Rattle.soc_journal.proofs.Texts.{front_of, length-front_of, front_of-push, begins_front, front_begins, AllByRecursion-push, gate_place-push, length-entry_text}
 
 -- an entry of this body, from its head and what follows it
-entry_whole : (kind count : ℕ) (more : List ℕ) → count ≤ length more → entry_head kind count ++ more ≡ entry_text (record { kind = kind; body = take count more }) ++ drop count more
+pub entry_whole : (kind count : ℕ) (more : List ℕ) → count ≤ length more → entry_head kind count ++ more ≡ entry_text (record { kind = kind; body = take count more }) ++ drop count more
 unfolding entry_text
 entry_whole kind count more low =
     let size : count ≡ length (take count more) = sym (length-take count more ∙ omega (arith, low)) in

@@ -142,6 +142,7 @@ impl Opening {
         ensures never_falls { D.disk_faults disk.old ≤ D.disk_faults disk.new }
         ensures cause { IsErrOf result ReadError.StoreFault → Rose (D.disk_faults disk.old) (D.disk_faults disk.new) }
     {
+        prove!(mark.place <= self.length);
         body_at(alloc, disk, mark.place + HEAD as u64, mark.length)
     }
 

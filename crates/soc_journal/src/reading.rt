@@ -30,7 +30,8 @@ impl Journal {
     {
         match found_at(disk, SECOND_VERSION, place, self.gate())? {
             Found::Entry { length, .. } => body_at(alloc, disk, place + HEAD as u64, length),
-            Found::Closed | Found::Bad => Err(ReadError::Altered),
+            Found::Closed => Err(ReadError::Altered),
+            Found::Bad => Err(ReadError::Altered),
         }
     }
 
