@@ -65,8 +65,7 @@ found_entry bytes place gate kind count head long =
     let low : count ≤ length head.more = omega arith in
     let all : length entry.body ≡ count = length-take count head.more ∙ omega (arith, low) in
     let short = head.counts.short in
-    let fits = head.counts.fits in
-    (
+    let fits = head.counts.fits in (
       entry,
       record {
         legal = record { known = head.counts.known; short = omega (arith, all, short) };

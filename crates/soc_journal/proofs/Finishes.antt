@@ -35,8 +35,7 @@ module _ (opening : OpeningState) (entries : List Entry) (bytes : List ℕ) (ima
     other_byte : (version : ℕ) (image : List ℕ) → image ≡ codes "SOCJ000" ++ version ∷ (entries_text entries ++ has.text.gate ∷ has.text.rest) → StandsFor entries image × (version_of image ≡ version)
     other_byte version image whole =
         let regrouped : image ≡ front_of version entries ++ has.text.gate ∷ has.text.rest =
-        whole ∙ sym (append_assoc (header version) (entries_text entries) (has.text.gate ∷ has.text.rest)) in
-        (
+        whole ∙ sym (append_assoc (header version) (entries_text entries) (has.text.gate ∷ has.text.rest)) in (
           stands_before version entries has.text.gate has.text.rest image regrouped has.text.closed (all_first version entries legal_first),
           version_of-front version entries (has.text.gate ∷ has.text.rest) image regrouped,
         )

@@ -55,8 +55,7 @@ pub heads_same : (kind count : ℕ) (entry : Entry) (more others : List ℕ) →
     → (kind ≡ entry.kind) × (count ≡ length entry.body)
 unfolding entry_text
 heads_same kind count entry more others low low_too is =
-    let digits : to_le_bytes w32 count ≡ to_le_bytes w32 (length entry.body) = ap (λ (x : List ℕ). take 4 (drop 2 x)) is in
-    (
+    let digits : to_le_bytes w32 count ≡ to_le_bytes w32 (length entry.body) = ap (λ (x : List ℕ). take 4 (drop 2 x)) is in (
       ap (λ (x : List ℕ). get_or x 1 0) is,
       sym (from_le_bytes-to_le_bytes_4 count low) ∙ (ap (λ (x : List ℕ). from_le_bytes w32 x) digits ∙ from_le_bytes-to_le_bytes_4 (length entry.body) low_too),
     )

@@ -7,6 +7,7 @@ pub mod Headers
 pub mod Mends
 pub mod Nexts
 pub mod Options
+pub mod Pieces
 pub mod Sealed
 pub mod Stops
 pub mod Texts

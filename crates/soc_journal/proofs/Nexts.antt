@@ -106,8 +106,7 @@ module _ (opening : OpeningState) (entries : List Entry) (bytes : List ℕ) (ima
       }
 
 module _ (told : Option (List ℕ)) (images now_images : List ℕ → Type 0) (no_more : NoMore images now_images) (opening seen after : OpeningState) (view : opening ≡ seen) (same_length : after.length ≡ opening.length) (same_version : after.version ≡ opening.version)
-  (found : Found) (finds : IfSome told (λ bytes. IsFound opening.version opening.place opening.length (drop opening.place bytes) found)) where
-
+    (found : Found) (finds : IfSome told (λ bytes. IsFound opening.version opening.place opening.length (drop opening.place bytes) found)) where
   at_found : (other : Found) → found ≡ other → IfSome told (λ bytes. IsFound opening.version opening.place opening.length (drop opening.place bytes) other)
   at_found other is =
       let P : Found → Type 0 = λ f. IfSome told (λ bytes. IsFound opening.version opening.place opening.length (drop opening.place bytes) f) in

@@ -84,11 +84,12 @@ fn reads_from<D: Disk>(disk: &mut D, place: u64, text: &[u8]) -> Result<bool, Fa
     ensures never_falls { D.disk_faults disk.old ≤ D.disk_faults disk.new }
     ensures cause { OnErr result (Rose (D.disk_faults disk.old) (D.disk_faults disk.new)) }
 {
+    let mut buffer = [0; PIECE];
     let mut place = place;
     let mut rest = text;
     while !rest.is_empty() {
         let (piece, behind) = rest.split_at(rest.len().min(PIECE));
-        if !reads_piece(disk, place, piece)? {
+        if !reads_piece(disk, place, piece, &mut buffer[..piece.len()])? {
             return Ok(false);
         }
         place += piece.len() as u64;
@@ -97,15 +98,19 @@ fn reads_from<D: Disk>(disk: &mut D, place: u64, text: &[u8]) -> Result<bool, Fa
     Ok(true)
 }
 
-/// Whether the disk reads as the piece from a place on.
-fn reads_piece<D: Disk>(disk: &mut D, place: u64, piece: &[u8]) -> Result<bool, Failed>
-    requires { length piece.now ≤ 4096 }
+/// Whether the disk reads as the piece from a place on, which is read into a buffer of its length.
+fn reads_piece<D: Disk>(
+    disk: &mut D,
+    place: u64,
+    piece: &[u8],
+    into: &mut [u8],
+) -> Result<bool, Failed>
+    requires { length into.old ≡ length piece.now }
     ensures holds { IfOk result (λ holds. IfSome (D.content disk.old) (λ bytes. IsTrue holds ↔ ReadsFrom bytes place piece.now)) }
     ensures disk_stays { Stays D.content D.may_leave D.moment D.left_since disk.old disk.new }
     ensures never_falls { D.disk_faults disk.old ≤ D.disk_faults disk.new }
     ensures cause { OnErr result (Rose (D.disk_faults disk.old) (D.disk_faults disk.new)) }
 {
-    let mut buffer = [0; PIECE];
-    let count = disk.read_at(place, &mut buffer[..piece.len()])?;
-    Ok(&buffer[..count] == piece)
+    let count = disk.read_at(place, into)?;
+    Ok(&into[..count] == piece)
 }
