@@ -6,6 +6,7 @@ pub mod Fronts
 pub mod Headers
 pub mod Mends
 pub mod Nexts
+pub mod Once
 pub mod Options
 pub mod Pieces
 pub mod Sealed
