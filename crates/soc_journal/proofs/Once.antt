@@ -30,8 +30,7 @@ entry_once version entry other more others legal legal_too is =
     let body : entry.body ≡ other.body =
     sym (take_at entry.body more (length entry.body) refl)
     ∙ (ap (λ (x : List ℕ). take (length entry.body) x) behind ∙ take_at other.body others (length entry.body) (sym heads.1)) in
-    let kind : entry.kind ≡ other.kind = heads.0 in
-    (
+    let kind : entry.kind ≡ other.kind = heads.0 in (
       (λ i. record { kind = kind i; body = body i }),
       sym (drop_at entry.body more (length entry.body) refl)
           ∙ (ap (λ (x : List ℕ). drop (length entry.body) x) behind ∙ drop_at other.body others (length entry.body) (sym heads.1)),

@@ -75,8 +75,7 @@ module _ (told then_told : Option (List ℕ)) (same_told : then_told ≡ told) (
   -- one more piece is there
   pub reads_more : ReadsTo told place text at rest → IfSome then_told (λ bytes. IsTrue answer ↔ ReadsFrom bytes at piece) → answer ≡ true → ReadsTo told place text (at + length piece) behind
   reads_more so_far reads holds = IfSome_both told so_far (at_told reads) (λ bytes same read.
-      let P : List ℕ → Type 0 = λ x. ReadsFrom bytes at x in
-      (
+      let P : List ℕ → Type 0 = λ x. ReadsFrom bytes at x in (
         λ whole. reads_behind bytes at piece behind (subst P (sym parts) (same.0 whole)),
         λ back. same.1 (subst P parts (reads_both bytes at piece behind (read.0 holds) back)),
       ))
@@ -84,8 +83,7 @@ module _ (told then_told : Option (List ℕ)) (same_told : then_told ≡ told) (
   -- or it isn't
   pub reads_other : ReadsTo told place text at rest → IfSome then_told (λ bytes. IsTrue answer ↔ ReadsFrom bytes at piece) → answer ≡ false → IfSome told (λ bytes. IsTrue false ↔ ReadsFrom bytes place text)
   reads_other so_far reads fails = IfSome_both told so_far (at_told reads) (λ bytes same read.
-      let P : List ℕ → Type 0 = λ x. ReadsFrom bytes at x in
-      (
+      let P : List ℕ → Type 0 = λ x. ReadsFrom bytes at x in (
         λ never. absurd (let n : false ≡ true = never in cc),
         λ whole. sym fails ∙ read.1 (reads_front bytes at piece behind (subst P (sym parts) (same.0 whole))),
       ))

@@ -15,6 +15,8 @@ mod mark;
 mod opening;
 mod reading;
 mod settled;
+#[cfg(test)]
+mod tests;
 mod writing;
 
 pub use entry_text::EntryText;

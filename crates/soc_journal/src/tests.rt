@@ -1,0 +1,233 @@
+// Journals as they are written, refused and stopped.
+use crate::{ACCEPT, ASK, AppendError, EntryText, Journal, OpenError, REPORT, Settled, WITHDRAW};
+use soc_edge::{Disk, Failed, MemDisk, Numbers};
+use std::alloc::Global;
+use std::test::Fail;
+
+const LIMIT: u64 = 1000;
+
+// A disk with room for 400 bytes whose calls with these numbers fail.
+fn disk_that_fails(alloc: Global, fails: &[u64]) -> Result<MemDisk, Fail> {
+    let fails = Numbers::new(fails.to_vec(alloc)?);
+    Ok(MemDisk::new(alloc, 400, 40, fails)?)
+}
+
+// A disk with these bytes on it, after two calls.
+fn disk_with(alloc: Global, bytes: &[u8], fails: &[u64]) -> Result<MemDisk, Fail> {
+    let mut disk = disk_that_fails(alloc, fails)?;
+    disk.write_at(0, bytes)?;
+    disk.sync()?;
+    Ok(disk)
+}
+
+// How many entries a journal has before its closed gate, of 9 at most.
+fn entries_on(disk: &mut MemDisk) -> Result<usize, OpenError> {
+    let mut opening = Journal::open(disk, LIMIT)?;
+    for count in 0..9 {
+        if opening.next(disk)?.is_none() {
+            return Ok(count);
+        }
+    }
+    Ok(9)
+}
+
+#[test]
+fn an_empty_journal_is_nine_bytes(rt: HostRuntime) -> Result<(), Fail> {
+    let alloc = rt.alloc();
+    let mut disk = disk_that_fails(alloc, &[])?;
+    let journal = Journal::create(&mut disk, LIMIT)?;
+    assert!(rt; !journal.in_doubt());
+    assert_eq!(rt; disk.bytes(), b"SOCJ0002\x00".as_slice());
+    let mut opened = disk_that_fails(alloc, &[])?;
+    assert_eq!(rt; entries_on(&mut opened)?, 0);
+    assert_eq!(rt; opened.bytes(), disk.bytes());
+    for call in 0..2 {
+        let mut refusing = disk_that_fails(alloc, &[call])?;
+        assert!(rt; Journal::create(&mut refusing, LIMIT).is_err());
+    }
+    Ok(())
+}
+
+#[test]
+fn entries_are_read_back(rt: HostRuntime) -> Result<(), Fail> {
+    let alloc = rt.alloc();
+    let mut disk = disk_that_fails(alloc, &[])?;
+    let mut journal = Journal::create(&mut disk, LIMIT)?;
+    for (kind, body) in [
+        (ACCEPT, b"one".as_slice()),
+        (REPORT, b""),
+        (WITHDRAW, b"three"),
+    ] {
+        let entry = EntryText::new(alloc, kind, body)?;
+        journal.append(&mut disk, &entry)?;
+    }
+    assert_eq!(rt;
+        disk.bytes(),
+        b"SOCJ0002\x01A\x03\0\0\0one\x01R\0\0\0\0\x01W\x05\0\0\0three\0".as_slice()
+    );
+    let body = journal.read(alloc, &mut disk, 23)?;
+    assert_eq!(rt; body.as_slice(), b"three".as_slice());
+    assert!(rt; journal.read(alloc, &mut disk, 24).is_err());
+    assert!(rt; journal.holds(&mut disk, 14, b"one")?);
+    assert!(rt; !journal.holds(&mut disk, 14, b"two")?);
+    assert!(rt; !journal.holds(&mut disk, 29, b"three\0more")?);
+    let mut opening = Journal::open(&mut disk, LIMIT)?;
+    let mark = opening.next(&mut disk)?.ok_or("no entry")?;
+    assert_eq!(rt; (mark.place, mark.kind, mark.length), (8, ACCEPT, 3));
+    let body = opening.body(alloc, &mut disk, &mark)?;
+    assert_eq!(rt; body.as_slice(), b"one".as_slice());
+    Ok(())
+}
+
+#[test]
+fn the_limit_counts_the_closed_gate(rt: HostRuntime) -> Result<(), Fail> {
+    let alloc = rt.alloc();
+    let entry = EntryText::new(alloc, ACCEPT, &[7; 100])?;
+    for (limit, wanted, length) in [(115, Ok(8), 115), (114, Err(AppendError::JournalFull), 9)] {
+        // Two writes and two syncs are left behind those of the creation.
+        let mut disk = MemDisk::new(alloc, 400, 6, Numbers::new(Vec::new(alloc)))?;
+        let mut journal = Journal::create(&mut disk, limit)?;
+        assert_eq!(rt; journal.append(&mut disk, &entry), wanted);
+        assert_eq!(rt; disk.len()?, length);
+    }
+    Ok(())
+}
+
+#[test]
+fn an_old_journal_gets_another_version_byte(rt: HostRuntime) -> Result<(), Fail> {
+    let alloc = rt.alloc();
+    // The write of the version byte is the disk's seventh call.
+    for (fails, migrates) in [([].as_slice(), true), (&[6], false)] {
+        let mut disk = disk_with(alloc, b"SOCJ0001\0", fails)?;
+        let mut opening = Journal::open(&mut disk, LIMIT)?;
+        assert!(rt; opening.next(&mut disk)?.is_none());
+        assert_eq!(rt; opening.finish(&mut disk).is_ok(), migrates);
+        let wanted = if migrates {
+            b"SOCJ0002\0".as_slice()
+        } else {
+            b"SOCJ0001\0"
+        };
+        assert_eq!(rt; disk.bytes(), wanted);
+        assert_eq!(rt; entries_on(&mut disk)?, 0);
+    }
+    Ok(())
+}
+
+#[test]
+fn forged_journals_are_refused(rt: HostRuntime) -> Result<(), Fail> {
+    let alloc = rt.alloc();
+    for (bytes, wanted) in [
+        (b"SOCJ000".as_slice(), Err(OpenError::NotOurs)),
+        (b"SOCX0009\0", Err(OpenError::NotOurs)),
+        (b"SOCJ0009\0", Ok(0)),
+        (b"SOCJ0001", Err(OpenError::BadEntry { place: 8 })),
+        (b"SOCJ0001\x01", Err(OpenError::BadEntry { place: 8 })),
+        (
+            b"SOCJ0001\x01W\0\0\0\0\0",
+            Err(OpenError::BadEntry { place: 8 }),
+        ),
+        (b"SOCJ0002\x01W\0\0\0\0\0", Ok(1)),
+        (
+            b"SOCJ0002\x01B\0\0\0\0\0",
+            Err(OpenError::BadEntry { place: 8 }),
+        ),
+        (
+            b"SOCJ0002\x01A\x01\0\0\x04\0",
+            Err(OpenError::BadEntry { place: 8 }),
+        ),
+        (
+            b"SOCJ0002\x01A\x02\0\0\0x",
+            Err(OpenError::BadEntry { place: 8 }),
+        ),
+        (
+            b"SOCJ0002\x01A\x02\0\0\0xy",
+            Err(OpenError::BadEntry { place: 16 }),
+        ),
+        (b"SOCJ0002\x01A\x02\0\0\0xy\x02\x01", Ok(1)),
+    ] {
+        let mut disk = disk_with(alloc, bytes, &[])?;
+        assert_eq!(rt; entries_on(&mut disk), wanted);
+        assert_eq!(rt; disk.bytes(), bytes);
+    }
+    Ok(())
+}
+
+// The disk and the answer of a `mend` after an append whose call of this number was refused; the journal's creation makes
+// the calls 0 and 1. Another call is refused too.
+fn mended(
+    alloc: Global,
+    call: u64,
+    other: u64,
+) -> Result<(MemDisk, Result<Settled, Failed>), Fail> {
+    let mut disk = disk_that_fails(alloc, &[call, other])?;
+    let mut journal = Journal::create(&mut disk, LIMIT)?;
+    let entry = EntryText::new(alloc, ASK, b"id")?;
+    if journal.append(&mut disk, &entry).is_ok() || !journal.in_doubt() {
+        return Err(Fail::new("no doubt"));
+    }
+    let settled = journal.mend(&mut disk);
+    Ok((disk, settled))
+}
+
+#[test]
+fn each_refused_call_of_an_append_is_mended(rt: HostRuntime) -> Result<(), Fail> {
+    let alloc = rt.alloc();
+    for (call, wanted, count) in [
+        (2, Settled::Dropped, 0),
+        (3, Settled::Dropped, 0),
+        (4, Settled::Dropped, 0),
+        (5, Settled::Kept { place: 8 }, 1),
+    ] {
+        for choice in 0..8 {
+            let (disk, settled) = mended(alloc, call, 99)?;
+            assert_eq!(rt; settled, Ok(wanted));
+            let mut image = disk.stop(choice);
+            assert_eq!(rt; entries_on(&mut image)?, count);
+        }
+    }
+    Ok(())
+}
+
+#[test]
+fn a_doubt_that_stays_leaves_the_entry_or_not(rt: HostRuntime) -> Result<(), Fail> {
+    let alloc = rt.alloc();
+    for (call, behind) in [
+        (2, 1),
+        (2, 2),
+        (3, 1),
+        (3, 2),
+        (4, 1),
+        (4, 2),
+        (5, 1),
+        (5, 2),
+    ] {
+        for choice in 0..8 {
+            let (disk, settled) = mended(alloc, call, call + behind)?;
+            assert_eq!(rt; settled, Err(Failed));
+            // The gate was written by the call before the last one of the append, and is safe once `mend` has synced.
+            let is_there = call == 5 && (behind == 2 || choice % 4 == 1);
+            let mut image = disk.stop(choice);
+            assert_eq!(rt; entries_on(&mut image)?, usize::from(is_there));
+        }
+    }
+    Ok(())
+}
+
+#[test]
+fn a_mended_journal_goes_on(rt: HostRuntime) -> Result<(), Fail> {
+    let alloc = rt.alloc();
+    for (call, place) in [(2, 8), (5, 16)] {
+        let mut disk = disk_that_fails(alloc, &[call])?;
+        let mut journal = Journal::create(&mut disk, LIMIT)?;
+        let entry = EntryText::new(alloc, ASK, b"id")?;
+        assert_eq!(rt;
+            journal.append(&mut disk, &entry),
+            Err(AppendError::StoreFault)
+        );
+        let _ = journal.mend(&mut disk)?;
+        assert!(rt; !journal.in_doubt());
+        assert_eq!(rt; journal.append(&mut disk, &entry), Ok(place));
+        assert_eq!(rt; journal.mend(&mut disk), Ok(Settled::Clean));
+    }
+    Ok(())
+}
