@@ -1,9 +1,10 @@
 -- What the journal holds once a doubt is settled.
 use Rattle.std.proofs.Common.{◌≡◌, ◌≢◌, inl, inr, ℕ, ◌+◌, Bool, true, false, IsTrue, ◌↔◌, List, [], ◌∷◌, ◌++◌, length, Option, Some, None, IfSome, slice_get, refl, sym, ◌∙◌, ap, subst, arith}
-use Rattle.soc_edge.specs.Disk.{Only, NoMore}
+use Rattle.soc_edge.specs.Disk.{Only}
 use Rattle.soc_journal.specs.Entries.{Entry, open_gate, closed_gate, entry_text, gate_place}
 use Rattle.soc_journal.specs.States.{JournalState, AtRest, InDoubt, ReadsOpen}
 use Rattle.soc_journal.specs.Text.{version_of, JournalText}
+use Rattle.soc_journal.proofs.Options.{IfSome_both}
 use Rattle.soc_journal.proofs.Texts.{front_of, length-front_of, front_of-push, begins_front, gate_place-push, text_behind, entry_text-behind}
 
 slice_get_seam : (front : List ℕ) (byte : ℕ) (rest : List ℕ) → slice_get (front ++ byte ∷ rest) (length front) ≡ Some byte
@@ -57,25 +58,16 @@ module _ (journal after : JournalState) (entries : List Entry) (entry : Entry) (
     only = only;
   }
 
-module _ (journal after : JournalState) (place count : ℕ) (at : journal.gate ≡ place) (doubt : journal.doubt ≡ Some count) (no_doubt : after.doubt ≡ None) (images synced_images now_images : List ℕ → Type 0) (no_more : NoMore synced_images now_images) where
-  pub kept_told : (answer : Bool) → answer ≡ true → (told synced_told : Option (List ℕ)) → after.gate ≡ place + count → synced_told ≡ told → IfSome told (λ bytes. Only bytes synced_images)
-      → IfSome synced_told (λ bytes. IsTrue answer ↔ ReadsOpen bytes place)
+module _ (journal after : JournalState) (place count : ℕ) (at : journal.gate ≡ place) (doubt : journal.doubt ≡ Some count) (no_doubt : after.doubt ≡ None) (images now_images : List ℕ → Type 0) (told : Option (List ℕ)) (answer : Bool) where
+  pub kept_told : after.gate ≡ place + count → answer ≡ true → IfSome told (λ bytes. Only bytes now_images) → IfSome told (λ bytes. IsTrue answer ↔ ReadsOpen bytes place)
       → IfSome told (λ bytes. (entries : List Entry) (entry : Entry) → InDoubt journal entries entry bytes images → AtRest after (entries ++ entry ∷ []) bytes now_images)
-  kept_told answer is_open None synced_told moved same only reads = tt
-  kept_told answer is_open (Some bytes) None moved same only reads = cc
-  kept_told answer is_open (Some bytes) (Some synced) moved same only reads = λ entries entry doubts.
-      let is : synced ≡ bytes = cc in
+  kept_told moved is_open only reads = IfSome_both told only reads (λ bytes only_this read entries entry doubts.
       let all : count ≡ length (entry_text entry) = let twice = doubts.in_doubt in cc in
-      let opened : ReadsOpen bytes journal.gate = subst (λ n. ReadsOpen bytes n) (sym at) (subst (λ b. ReadsOpen b place) is (reads.0 is_open)) in
-      kept journal after entries entry bytes images now_images doubts no_doubt (λ image left. only image (no_more image left)) (omega (arith, moved, at, all)) opened
+      let opened : ReadsOpen bytes journal.gate = subst (λ n. ReadsOpen bytes n) (sym at) (read.0 is_open) in
+      kept journal after entries entry bytes images now_images doubts no_doubt only_this (omega (arith, moved, at, all)) opened)
 
-  pub dropped_told : (answer : Bool) → answer ≡ false → (told synced_told : Option (List ℕ)) → after.gate ≡ place → synced_told ≡ told → IfSome told (λ bytes. Only bytes synced_images)
-      → IfSome synced_told (λ bytes. IsTrue answer ↔ ReadsOpen bytes place)
+  pub dropped_told : after.gate ≡ place → answer ≡ false → IfSome told (λ bytes. Only bytes now_images) → IfSome told (λ bytes. IsTrue answer ↔ ReadsOpen bytes place)
       → IfSome told (λ bytes. (entries : List Entry) (entry : Entry) → InDoubt journal entries entry bytes images → AtRest after entries bytes now_images)
-  dropped_told answer is_shut None synced_told same_gate same only reads = tt
-  dropped_told answer is_shut (Some bytes) None same_gate same only reads = cc
-  dropped_told answer is_shut (Some bytes) (Some synced) same_gate same only reads = λ entries entry doubts.
-      let is : synced ≡ bytes = cc in
-      let shut : ReadsOpen bytes journal.gate → ⊥ = λ opened.
-      let never = reads.1 (subst (λ b. ReadsOpen b place) (sym is) (subst (λ n. ReadsOpen bytes n) at opened)) in cc in
-      dropped journal after entries entry bytes images now_images doubts no_doubt (λ image left. only image (no_more image left)) (same_gate ∙ sym at) shut
+  dropped_told same is_shut only reads = IfSome_both told only reads (λ bytes only_this read entries entry doubts.
+      let shut : ReadsOpen bytes journal.gate → ⊥ = λ opened. let never = read.1 (subst (λ n. ReadsOpen bytes n) at opened) in cc in
+      dropped journal after entries entry bytes images now_images doubts no_doubt only_this (same ∙ sym at) shut)

@@ -1,5 +1,5 @@
 -- A journal as contracts see it, and what a disk holds of it.
-use Rattle.std.specs.Prelude.{◌≡◌, ◌≢◌, ℕ, ◌+◌, Option, Some, None, Result, Ok, Err, List, [], ◌∷◌, ◌++◌, length, slice_get, unwrap_or}
+use Rattle.std.specs.Prelude.{◌≡◌, ◌≢◌, ℕ, ◌+◌, Option, Some, None, Result, Ok, Err, List, [], ◌∷◌, ◌++◌, length, slice_get, unwrap_or, ⊤}
 use Rattle.soc_edge.specs.Disk.{Only}
 use Rattle.soc_edge.specs.declared.failed.Failed.{Failed}
 use Rattle.soc_journal.specs.Entries.{Entry, open_gate, first_version, entry_text, gate_place}
@@ -33,6 +33,12 @@ pub record InDoubt (journal : JournalState) (entries : List Entry) (entry : Entr
 -- the gate at this place reads open
 abbrev pub ReadsOpen : List ℕ → ℕ → Type 0
 ReadsOpen bytes place = slice_get bytes place ≡ Some open_gate
+
+-- an entry that was kept stands where the gate stood
+abbrev pub IsKeptAt : ℕ → Settled → Type 0
+IsKeptAt gate Clean = ⊤
+IsKeptAt gate (Kept place) = place ≡ gate
+IsKeptAt gate Dropped = ⊤
 
 -- what a doubt is settled as: the gate reads open, or it doesn't
 abbrev pub SettledBy : List ℕ → ℕ → Settled → Type 0

@@ -26,6 +26,9 @@ pub const FIRST_VERSION: u8 = b'1';
 /// The version byte that is written.
 pub const SECOND_VERSION: u8 = b'2';
 
+/// A journal without entries: the header and one closed gate.
+pub const EMPTY_JOURNAL: [u8; 9] = *b"SOCJ0002\x00";
+
 /// Where the version byte stands.
 pub const VERSION_PLACE: u64 = 7;
 

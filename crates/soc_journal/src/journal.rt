@@ -1,16 +1,16 @@
 // A journal that entries are appended to.
-ghost use Rattle.std.specs.Prelude.{◌≡◌, ◌+◌, ◌<◌, ◌≤◌, ◌↔◌, ℕ, List, Some, None, [], ◌∷◌, ◌++◌, length, IfSome, IsSome, IsSomeAnd, IfOk, OnOk, OnErr, Ok, IsErrOf, IsTrue};
+ghost use Rattle.std.specs.Prelude.{◌≡◌, ◌+◌, ◌<◌, ◌≤◌, ◌↔◌, List, Some, None, [], ◌∷◌, ◌++◌, length, IfSome, IsSome, IsSomeAnd, IfOk, OnOk, OnErr, Ok, IsErrOf, IsTrue};
 ghost use Rattle.std.specs.Option.{option_map};
-ghost use Rattle.soc_edge.specs.Disk.{LeavesOnly};
+ghost use Rattle.soc_edge.specs.Disk.{Only, LeavesOnly};
 ghost use Rattle.soc_edge.specs.Faults.{Rose};
 ghost use Rattle.soc_journal.specs.Entries.{Entry, entry_text};
 ghost use Rattle.soc_journal.specs.Text.{empty_journal, StandsForEither};
 ghost use Rattle.soc_journal.specs.Images.{Stays};
-ghost use Rattle.soc_journal.specs.States.{AtRest, InDoubt, ReadsOpen, SettledBy, entries_after, journal_after};
+ghost use Rattle.soc_journal.specs.States.{AtRest, InDoubt, IsKeptAt, ReadsOpen, SettledBy, entries_after, journal_after};
 
 use crate::entry_text::EntryText;
 use crate::error::AppendError;
-use crate::format::{CLOSED_GATE, FIRST_GATE, MAGIC, OPEN_GATE, SECOND_VERSION};
+use crate::format::{CLOSED_GATE, EMPTY_JOURNAL, FIRST_GATE, OPEN_GATE};
 use crate::settled::Settled;
 use crate::writing::write_and_sync;
 use soc_edge::{Disk, Failed};
@@ -51,12 +51,7 @@ impl Journal {
         ensures never_falls { D.disk_faults disk.old ≤ D.disk_faults disk.new }
         ensures cause { OnErr result (Rose (D.disk_faults disk.old) (D.disk_faults disk.new)) }
     {
-        let [s, o, c, j, zero, nil, null] = MAGIC;
-        write_and_sync(
-            disk,
-            0,
-            &[s, o, c, j, zero, nil, null, SECOND_VERSION, CLOSED_GATE],
-        )?;
+        write_and_sync(disk, 0, &EMPTY_JOURNAL)?;
         Ok(Journal::behind(FIRST_GATE, limit))
     }
 
@@ -120,11 +115,12 @@ impl Journal {
     pub fn mend<D: Disk>(&mut self, disk: &mut D) -> Result<Settled, Failed>
         ensures clean { (result ≡ Ok Settled.Clean) ↔ (self.old.doubt ≡ None) }
         ensures clean_disk { self.old.doubt ≡ None → disk.new ≡ disk.old }
-        ensures place { IfOk result (λ settled. (place : ℕ) → settled ≡ Settled.Kept place → place ≡ self.old.gate) }
+        ensures place { IfOk result (IsKeptAt self.old.gate) }
         ensures journal { self.new ≡ journal_after self.old result }
 
         // It is kept exactly where the gate reads open.
-        ensures settled { IsSome self.old.doubt → IfOk result (λ settled. IfSome (D.content disk.old) (λ bytes. SettledBy bytes self.old.gate settled)) }
+        ensures settled { IsSome self.old.doubt → IfOk result (λ settled.
+            IfSome (D.content disk.old) (λ bytes. SettledBy bytes self.old.gate settled)) }
 
         // Then the content and each image agree with the answer.
         ensures agrees { IfOk result (λ settled. IfSome (D.content disk.old) (λ bytes.
@@ -142,8 +138,7 @@ impl Journal {
             return Ok(Settled::Clean);
         };
         let place = self.gate;
-        disk.sync()?;
-        let is_open = reads_open(disk, place)?;
+        let is_open = settled_gate(disk, place)?;
         self.doubt = None;
         if is_open {
             self.gate = place + count;
@@ -179,13 +174,15 @@ impl Journal {
     }
 }
 
-/// Whether the gate at a place reads open.
-fn reads_open<D: Disk>(disk: &mut D, place: u64) -> Result<bool, Failed>
+/// Syncs, and tells whether the gate at a place then reads open.
+fn settled_gate<D: Disk>(disk: &mut D, place: u64) -> Result<bool, Failed>
     ensures open_gate { IfOk result (λ is_open. IfSome (D.content disk.old) (λ bytes. IsTrue is_open ↔ ReadsOpen bytes place)) }
+    ensures only { OnOk result (IfSome (D.content disk.old) (λ bytes. Only bytes (D.may_leave disk.new))) }
     ensures disk_stays { Stays D.content D.may_leave D.moment D.left_since disk.old disk.new }
     ensures never_falls { D.disk_faults disk.old ≤ D.disk_faults disk.new }
     ensures cause { OnErr result (Rose (D.disk_faults disk.old) (D.disk_faults disk.new)) }
 {
+    disk.sync()?;
     let mut gate = [CLOSED_GATE];
     let count = disk.read_at(place, &mut gate)?;
     Ok(count == 1 && gate[0] == OPEN_GATE)

@@ -59,7 +59,8 @@ impl Journal {
         ensures no_other { IfErr result (λ error. (error ≡ OpenError.NotOurs) ⊎ (error ≡ OpenError.StoreFault)) }
 
         ensures created { OnOk result (D.content disk.old ≡ Some [] → D.content disk.new ≡ Some empty_journal) }
-        ensures disk_stays { IfSome (D.content disk.old) (λ bytes. bytes ≢ [] → Stays D.content D.may_leave D.moment D.left_since disk.old disk.new) }
+        ensures disk_stays { IfSome (D.content disk.old) (λ bytes.
+            bytes ≢ [] → Stays D.content D.may_leave D.moment D.left_since disk.old disk.new) }
 
         ensures never_falls { D.disk_faults disk.old ≤ D.disk_faults disk.new }
         ensures cause { IsErrOf result OpenError.StoreFault → Rose (D.disk_faults disk.old) (D.disk_faults disk.new) }
@@ -135,7 +136,8 @@ impl Opening {
         mark: &Mark,
     ) -> Result<Bytes, ReadError>
         requires handed_out { mark.now.place + 6 + mark.now.length ≤ self.now.length }
-        ensures body { IfSome (D.content disk.old) (λ bytes. (entry : Entry) → StandsAt bytes mark.now.place entry → mark.now.length ≡ length entry.body
+        ensures body { IfSome (D.content disk.old) (λ bytes.
+            (entry : Entry) → StandsAt bytes mark.now.place entry → mark.now.length ≡ length entry.body
             → IfOk result (λ body. body ≡ entry.body)) }
         ensures gives { IfSome (D.content disk.old) (λ bytes. GivesBody bytes (mark.now.place + 6) mark.now.length result) }
         ensures disk_stays { Stays D.content D.may_leave D.moment D.left_since disk.old disk.new }

@@ -1,13 +1,20 @@
 // Journals as they are written, refused and stopped.
-use crate::{ACCEPT, ASK, AppendError, EntryText, Journal, OpenError, REPORT, Settled, WITHDRAW};
+ghost use Rattle.std.specs.Prelude.{◌≡◌, [], IfOk};
+ghost use Rattle.soc_edge.specs.DiskLog.{content_of};
+
+use crate::{
+    ACCEPT, ASK, AppendError, EntryText, Journal, OpenError, REPORT, ReadError, Settled, WITHDRAW,
+};
 use soc_edge::{Disk, Failed, MemDisk, Numbers};
 use std::alloc::Global;
 use std::test::Fail;
 
 const LIMIT: u64 = 1000;
 
-// A disk with room for 400 bytes whose calls with these numbers fail.
-fn disk_that_fails(alloc: Global, fails: &[u64]) -> Result<MemDisk, Fail> {
+// An empty disk with room for 400 bytes whose calls with these numbers fail.
+fn disk_that_fails(alloc: Global, fails: &[u64]) -> Result<MemDisk, Fail>
+    ensures { IfOk result (λ disk. content_of disk ≡ []) }
+{
     let fails = Numbers::new(fails.to_vec(alloc)?);
     Ok(MemDisk::new(alloc, 400, 40, fails)?)
 }
@@ -48,34 +55,55 @@ fn an_empty_journal_is_nine_bytes(rt: HostRuntime) -> Result<(), Fail> {
     Ok(())
 }
 
+// A disk that holds a journal of three entries, and the journal.
+fn three_entries(alloc: Global) -> Result<(MemDisk, Journal), Fail> {
+    let mut disk = disk_that_fails(alloc, &[])?;
+    let mut journal = Journal::create(&mut disk, LIMIT)?;
+    journal.append(&mut disk, &EntryText::new(alloc, ACCEPT, b"one")?)?;
+    journal.append(&mut disk, &EntryText::new(alloc, REPORT, b"")?)?;
+    journal.append(&mut disk, &EntryText::new(alloc, WITHDRAW, b"three")?)?;
+    Ok((disk, journal))
+}
+
 #[test]
 fn entries_are_read_back(rt: HostRuntime) -> Result<(), Fail> {
     let alloc = rt.alloc();
-    let mut disk = disk_that_fails(alloc, &[])?;
-    let mut journal = Journal::create(&mut disk, LIMIT)?;
-    for (kind, body) in [
-        (ACCEPT, b"one".as_slice()),
-        (REPORT, b""),
-        (WITHDRAW, b"three"),
-    ] {
-        let entry = EntryText::new(alloc, kind, body)?;
-        journal.append(&mut disk, &entry)?;
-    }
+    let (mut disk, journal) = three_entries(alloc)?;
     assert_eq!(rt;
         disk.bytes(),
         b"SOCJ0002\x01A\x03\0\0\0one\x01R\0\0\0\0\x01W\x05\0\0\0three\0".as_slice()
     );
     let body = journal.read(alloc, &mut disk, 23)?;
     assert_eq!(rt; body.as_slice(), b"three".as_slice());
-    assert!(rt; journal.read(alloc, &mut disk, 24).is_err());
-    assert!(rt; journal.holds(&mut disk, 14, b"one")?);
-    assert!(rt; !journal.holds(&mut disk, 14, b"two")?);
-    assert!(rt; !journal.holds(&mut disk, 29, b"three\0more")?);
+    assert!(rt; matches!(journal.read(alloc, &mut disk, 24), Err(ReadError::Altered)));
+    for (place, text, wanted) in [
+        (14, b"one".as_slice(), true),
+        (14, b"two", false),
+        (29, b"three\0", true),
+        (29, b"three\0more", false),
+        (999, b"", true),
+    ] {
+        assert_eq!(rt; journal.holds(&mut disk, place, text)?, wanted);
+    }
+    Ok(())
+}
+
+#[test]
+fn an_opening_hands_out_marks_in_order(rt: HostRuntime) -> Result<(), Fail> {
+    let alloc = rt.alloc();
+    let (mut disk, _) = three_entries(alloc)?;
     let mut opening = Journal::open(&mut disk, LIMIT)?;
-    let mark = opening.next(&mut disk)?.ok_or("no entry")?;
-    assert_eq!(rt; (mark.place, mark.kind, mark.length), (8, ACCEPT, 3));
-    let body = opening.body(alloc, &mut disk, &mark)?;
-    assert_eq!(rt; body.as_slice(), b"one".as_slice());
+    for (place, kind, text) in [
+        (8, ACCEPT, b"one".as_slice()),
+        (17, REPORT, b""),
+        (23, WITHDRAW, b"three"),
+    ] {
+        let mark = opening.next(&mut disk)?.ok_or("no entry")?;
+        assert_eq!(rt; (mark.place, mark.kind), (place, kind));
+        let body = opening.body(alloc, &mut disk, &mark)?;
+        assert_eq!(rt; body.as_slice(), text);
+    }
+    assert!(rt; opening.next(&mut disk)?.is_none());
     Ok(())
 }
 

@@ -7,10 +7,10 @@ pub returns-then-is_open-clause-agrees : goal.returns-then-is_open-clause-agrees
 returns-then-is_open-clause-agrees g c =
     let at = sym (ap (λ (x : JournalState). x.gate) c.self.view_is) in
     let doubt = sym (ap (λ (x : JournalState). x.doubt) c.self.view_is) ∙ c.in-Some.is in
-    kept_told c.args.self.now _ _ _ at doubt refl _ _ _ c.reads_open.ensures.disk_stays.images _ c.if-is_open.true _ _ refl c.sync.ensures.same c.in_ok-sync.ensures.durable c.in_ok-is_open.ensures.open_gate
+    kept_told c.args.self.now _ _ _ at doubt refl _ _ _ _ refl c.if-is_open.true c.in_ok-is_open.ensures.only c.in_ok-is_open.ensures.open_gate
 
 pub returns-else-is_open-clause-agrees : goal.returns-else-is_open-clause-agrees
 returns-else-is_open-clause-agrees g c =
     let at = sym (ap (λ (x : JournalState). x.gate) c.self.view_is) in
     let doubt = sym (ap (λ (x : JournalState). x.doubt) c.self.view_is) ∙ c.in-Some.is in
-    dropped_told c.args.self.now _ _ _ at doubt refl _ _ _ c.reads_open.ensures.disk_stays.images _ c.if-is_open.false _ _ refl c.sync.ensures.same c.in_ok-sync.ensures.durable c.in_ok-is_open.ensures.open_gate
+    dropped_told c.args.self.now _ _ _ at doubt refl _ _ _ _ refl c.if-is_open.false c.in_ok-is_open.ensures.only c.in_ok-is_open.ensures.open_gate
