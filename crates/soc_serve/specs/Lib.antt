@@ -6,3 +6,6 @@ pub mod Reply
 pub mod Reading
 pub mod Session
 pub mod Words
+pub mod Documents
+pub mod Settings
+pub mod TokenText

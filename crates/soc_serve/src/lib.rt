@@ -2,6 +2,7 @@
 #![tactic(auto)]
 
 mod block;
+mod documents;
 mod ending;
 mod first_form;
 mod front;
@@ -9,9 +10,13 @@ mod lines;
 mod reading;
 mod reply;
 mod session;
+mod settings;
+mod token_text;
 mod words;
 
 pub use ending::End;
+pub use settings::{Settings, SettingsError};
+pub use token_text::{TokensError, read_tokens};
 pub use words::run_words;
 
 #[cfg(test)]
