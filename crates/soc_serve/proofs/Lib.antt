@@ -7,3 +7,5 @@ pub mod ReadingLemmas
 pub mod ReplyLemmas
 pub mod SessionLemmas
 pub mod WordLemmas
+pub mod DocumentLemmas
+pub mod SettingLemmas

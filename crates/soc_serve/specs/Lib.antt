@@ -9,3 +9,4 @@ pub mod Words
 pub mod Documents
 pub mod Settings
 pub mod TokenText
+mod SettingExamples

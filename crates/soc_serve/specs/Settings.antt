@@ -73,8 +73,8 @@ settings_with rules table = record {
   session_bytes = at_or (codes "session_bytes") session_bytes_of 4294967296 table;
   limits = record {
     journal_bytes = at_or (codes "journal_bytes") journal_bytes_of 68719476736 table;
-    crashes = at_or (codes "crashes") crashes_of 65536 table
-  }
+    crashes = at_or (codes "crashes") crashes_of 65536 table;
+  };
 }
 
 abbrev pub settings_by : Result (List Rule) ℕ → Members → Result Settings SettingsError

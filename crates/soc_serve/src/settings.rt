@@ -249,3 +249,6 @@ fn are_texts(array: &Array) -> bool
     }
     true
 }
+
+#[cfg(test)]
+mod tests;

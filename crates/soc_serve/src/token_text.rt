@@ -53,3 +53,6 @@ pub fn read_tokens(alloc: Global, bytes: &[u8]) -> Result<Tokens, TokensError>
         Err(TokenError::NoMemory) => Err(TokensError::NoMemory),
     }
 }
+
+#[cfg(test)]
+mod tests;
