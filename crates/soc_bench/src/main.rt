@@ -1,0 +1,40 @@
+//! Workloads that a bench times, each by its name. The program makes the objects, does the work on them and prints
+//! what it counted; how fast it went stands on standard error.
+#![tactic(auto)]
+
+mod bodies;
+mod counts;
+mod fault;
+mod multipart;
+mod timing;
+
+use fault::Fault;
+use std::env;
+use std::process::ExitCode;
+use std::rt::{Clock, Env};
+
+fn main(rt: HostRuntime) -> ExitCode {
+    match run(&rt) {
+        Ok(()) => ExitCode::SUCCESS,
+        Err(fault) => {
+            let status = fault.status();
+            let _ = rt.eprintln(fault);
+            ExitCode::from(status)
+        }
+    }
+}
+
+/// Does the workload that the first word names. The words behind it are the workload's own.
+fn run(rt: &(impl Env + Clock + Print + Eprint + AllocGlobal)) -> Result<(), Fault> {
+    let mut words = Vec::new(rt.alloc());
+    for word in env::args(rt)?.skip(1) {
+        words.push(word)?;
+    }
+    let Some((workload, words)) = words.as_slice().split_first() else {
+        return Err(Fault::Words);
+    };
+    match workload.as_str() {
+        "multipart" => multipart::run(rt, words),
+        _ => Err(Fault::Words),
+    }
+}

@@ -1,0 +1,7 @@
+//! How fast a workload went.
+use std::time::Duration;
+
+/// Megabytes a second, of 1,000,000 bytes each.
+pub fn megabytes_a_second(bytes: u128, elapsed: Duration) -> u128 {
+    bytes / elapsed.as_micros().max(1)
+}
