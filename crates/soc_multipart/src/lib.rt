@@ -2,6 +2,8 @@
 //! submission that a message is, and bodies of one short field alone.
 #![tactic(auto)]
 
+#[cfg(test)]
+mod clients;
 mod delimiters;
 mod dispositions;
 mod extras;
