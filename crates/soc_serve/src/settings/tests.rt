@@ -66,14 +66,24 @@ const FILES: [(&str, &str); 39] = [
     ("colour", "110"),
 ];
 
+/// The refusal that the program prints, or nothing.
 fn refusal(alloc: Global, bytes: &[u8]) -> Result<String, Fail> {
-    Ok(match Settings::read(alloc, bytes) {
-        Ok(_) => String::new(alloc),
-        Err(SettingsError::NotToml) => String::from_str(alloc, "110")?,
-        Err(SettingsError::BadSetting { key }) => format!(in alloc; "111 {}", key.as_str())?,
-        Err(SettingsError::BadRule { index }) => format!(in alloc; "20 {index}")?,
-        Err(SettingsError::NoMemory) => return Err("out of memory".into()),
-    })
+    match Settings::read(alloc, bytes) {
+        Ok(_) => Ok(String::new(alloc)),
+        Err(error) => printed(alloc, &error),
+    }
+}
+
+fn printed(alloc: Global, error: &SettingsError) -> Result<String, Fail> {
+    match error {
+        SettingsError::NotToml => Ok(String::from_str(alloc, "110")?),
+        SettingsError::BadSetting { key } => {
+            let key = key.as_str();
+            Ok(format!(in alloc; "111 {key}")?)
+        }
+        SettingsError::BadRule { index } => Ok(format!(in alloc; "20 {index}")?),
+        SettingsError::NoMemory => Err("out of memory".into()),
+    }
 }
 
 #[test]
