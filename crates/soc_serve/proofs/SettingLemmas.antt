@@ -1,8 +1,7 @@
 -- The first bad key of a table, along its entries, and the texts of an array.
-use Rattle.std.proofs.Common.{◌≡◌, ℕ, ◌+◌, ◌<◌, Bool, true, false, ◌&&◌, if◌then◌else◌, List, [], ◌∷◌, drop, get_or, length, String, Global, string_bytes, refl, sym, ap, ◌∙◌, Option, None, Some, is_some, option_map, option_and_then, Less, is_lt, nat_cmp}
+use Rattle.std.proofs.Common.{◌≡◌, ℕ, ◌+◌, ◌<◌, Bool, true, false, ◌&&◌, if◌then◌else◌, List, ◌∷◌, drop, get_or, length, String, Global, string_bytes, refl, sym, ap, ◌∙◌, Option, None, Some, is_some, option_map, option_and_then, is_lt}
 use Rattle.std.proofs.lemmas.Bool.{and_parts}
 use Rattle.std.proofs.lemmas.Cmp.{nat_list_cmp_total}
-use Rattle.std.specs.Cmp.Lexicographic.{slice_cmp}
 use Rattle.std.specs.List.Sorted.{IsStrictlySortedBy}
 use Rattle.std.specs.Map.{keys_of}
 use Rattle.std.specs.String.{string_cmp}

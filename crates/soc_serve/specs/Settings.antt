@@ -7,7 +7,6 @@ use Rattle.std.specs.Str.{bytes_eq}
 use Rattle.toml.specs.Data.{Data, Members, no_members, member, get_member}
 use Rattle.soc_toml.specs.Keys.{number_of}
 use Rattle.soc_toml.specs.Lists.{is_table_array}
-use Rattle.soc_schema.specs.declared.caller.Products.{Products}
 use Rattle.soc_schema.specs.declared.caller.Products.TheVariants.{All as AllProducts}
 use Rattle.soc_schema.specs.TokenFile.{products_of}
 use Rattle.soc_throttle.specs.declared.rule.Rule.{Rule}
