@@ -1,4 +1,4 @@
-use Rattle.std.proofs.Common.{List, ◌≤◌, ◌*◌, ◌^◌}
+use Rattle.std.proofs.Common.{◌≤◌, ◌*◌, ◌^◌}
 use Rattle.soc_bench.specs.Counts.{CountsCuts}
 use Rattle.soc_bench.proofs.multipart.cut_often.Given as goal
 
