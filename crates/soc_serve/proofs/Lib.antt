@@ -1,11 +1,4 @@
-pub mod BlockLemmas
-pub mod LineLemmas
-pub mod HeadLemmas
-pub mod FormLemmas
-pub mod FrontLemmas
-pub mod ReadingLemmas
-pub mod ReplyLemmas
-pub mod SessionLemmas
-pub mod WordLemmas
 pub mod DocumentLemmas
+pub mod ReplayLemmas
 pub mod SettingLemmas
+pub mod WordLemmas

@@ -1,12 +1,8 @@
-pub mod Block
-pub mod FirstForm
-pub mod Front
-pub mod Lines
-pub mod Reply
-pub mod Reading
-pub mod Session
-pub mod Words
 pub mod Documents
+pub mod Replay
 pub mod Settings
+pub mod Setup
+pub mod Texts
 pub mod TokenText
+pub mod Words
 mod SettingExamples

@@ -1,0 +1,37 @@
+-- The files of a tree, and a session that memory wanted for before it began.
+use Rattle.std.proofs.Common.{◌≡◌, ℕ, List, [], Option, None, Some, refl, sym, ap, subst, ◌∙◌}
+use Rattle.std.specs.Prelude.{IfSome, codes}
+use Rattle.soc_edge.specs.Told.{Outlook}
+use Rattle.soc_edge.proofs.Told.{Takes-none}
+use Rattle.soc_book.specs.declared.desk.Limits.{Limits}
+use Rattle.soc_book.specs.declared.small.Small.{Small}
+use Rattle.soc_book.specs.Memory.{AnswersInMemory, MemoryDesk}
+use Rattle.soc_book.specs.Small.{small_row}
+use Rattle.soc_session.specs.declared.ending.SessionEnd.TheVariants.{NoMemory}
+use Rattle.soc_session.proofs.ConnectionLemmas.{Serves-nothing, Serves-of}
+use Rattle.soc_serve.specs.declared.setup.Setup.{Setup}
+use Rattle.soc_serve.specs.Replay.{Outside, ServesBook}
+use Rattle.soc_serve.specs.Texts.{AreTexts, text_of}
+
+-- both files were read from the same tree
+pub texts-are : (before middle : Option (List ℕ → Option (List ℕ))) (said brought : List ℕ) → IfSome before (λ files. said ≡ text_of files (codes "settings.toml")) → middle ≡ before
+    → IfSome middle (λ files. brought ≡ text_of files (codes "tokens.toml")) → IfSome before (λ files. AreTexts files (record { settings = said; tokens = brought }))
+texts-are before middle said brought first same second =
+    both before first (subst (λ (told : Option (List ℕ → Option (List ℕ))). IfSome told (λ files. brought ≡ text_of files (codes "tokens.toml"))) same second)
+  where
+    both : (told : Option (List ℕ → Option (List ℕ))) → IfSome told (λ files. said ≡ text_of files (codes "settings.toml")) → IfSome told (λ files. brought ≡ text_of files (codes "tokens.toml"))
+        → IfSome told (λ files. AreTexts files (record { settings = said; tokens = brought }))
+    both None a b = tt
+    both (Some files) a b = record { settings = a; tokens = b }
+
+-- nothing was served
+pub Serves-none : (setup : Setup) (here : Outside) (desk : MemoryDesk Small) → desk.log ≡ [] → desk.limits ≡ setup.limits → ServesBook setup here here NoMemory
+Serves-none setup here desk empty limits = record {
+  first = desk;
+  last = desk;
+  empty = empty;
+  limits = limits;
+  serves = Serves-of (AnswersInMemory (λ _ crash. small_row crash) (λ _. None)) setup.rules _ _ NoMemory
+      (Serves-nothing (AnswersInMemory (λ _ crash. small_row crash) (λ _. None)) setup.rules [] setup.rules.session_bytes _ NoMemory tt (Takes-none _ _ refl)
+      (record { over = setup.rules.session_bytes; goes_on = refl; ends = tt }));
+}

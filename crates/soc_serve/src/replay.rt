@@ -1,0 +1,132 @@
+//! `replay`: one session over input and output.
+ghost use Rattle.std.specs.Prelude.{◌≡◌, ◌≤◌};
+ghost use Rattle.soc_edge.specs.Faults.{Rose};
+ghost use Rattle.soc_edge.specs.Told.{outlook};
+ghost use Rattle.soc_serve.specs.Replay.{Refuses, Replays, ServesBook, session_status, status_of};
+
+use crate::setup::{Refusal, Setup, SetupError, refusal_line, set_up};
+use crate::texts::read_texts;
+use soc_book::{Book, Small};
+use soc_edge::{Both, Clock, Draws, Failed, Sink, Source, Tree, TreeError, write_all};
+use soc_http::{Buffer, Routes};
+use soc_session::{SessionEnd, session};
+use std::alloc::Global;
+
+/// How a run ends.
+#[derive(Clone, Copy)]
+pub(crate) enum RunEnd {
+    /// With the session.
+    Served(SessionEnd),
+    /// A file was refused, and the line that tells it was written.
+    TextRefused,
+    /// A file was refused, and the output failed in the line that tells it.
+    LineFault,
+    /// The tree failed.
+    TreeFault,
+    /// An allocation was refused.
+    NoMemory,
+}
+
+impl RunEnd {
+    /// The status that the process ends with.
+    pub(crate) fn status(self) -> u8
+        ensures { result ≡ status_of self }
+    {
+        match self {
+            RunEnd::Served(end) => session_status(end),
+            RunEnd::TextRefused => 3,
+            RunEnd::LineFault => 7,
+            RunEnd::TreeFault => 8,
+            RunEnd::NoMemory => 10,
+        }
+    }
+}
+
+fn session_status(end: SessionEnd) -> u8
+    ensures { result ≡ session_status end }
+{
+    match end {
+        SessionEnd::Ended | SessionEnd::Closed | SessionEnd::Stopped => 0,
+        SessionEnd::Refused => 1,
+        SessionEnd::ReadFault => 6,
+        SessionEnd::WriteFault => 7,
+        SessionEnd::TooLong => 9,
+        SessionEnd::NoMemory => 10,
+    }
+}
+
+/// Answers the messages of the input on the output, by the files of the tree.
+pub(crate) fn replay<T: Tree, S: Source, K: Sink, C: Clock, W: Draws>(
+    alloc: Global,
+    tree: &mut T,
+    streams: &mut Both<S, K>,
+    clock: &mut C,
+    draws: &mut W,
+) -> RunEnd
+    ensures replays { Replays (T.files tree.old)
+        (record { left = S.left streams.old.source; held = K.held streams.old.sink; outlook = outlook (C.moments clock.old) (W.throttles draws.old) (W.ids draws.old) })
+        (record { left = S.left streams.new.source; held = K.held streams.new.sink; outlook = outlook (C.moments clock.new) (W.throttles draws.new) (W.ids draws.new) })
+        result }
+    ensures read_cause { result ≡ RunEnd.Served SessionEnd.ReadFault → Rose (S.read_faults streams.old.source) (S.read_faults streams.new.source) }
+    ensures write_cause { result ≡ RunEnd.Served SessionEnd.WriteFault → Rose (K.write_faults streams.old.sink) (K.write_faults streams.new.sink) }
+    ensures line_cause { result ≡ RunEnd.LineFault → Rose (K.write_faults streams.old.sink) (K.write_faults streams.new.sink) }
+    ensures tree_cause { result ≡ RunEnd.TreeFault → Rose (T.tree_faults tree.old) (T.tree_faults tree.new) }
+    ensures reads_never_fall { S.read_faults streams.old.source ≤ S.read_faults streams.new.source }
+    ensures writes_never_fall { K.write_faults streams.old.sink ≤ K.write_faults streams.new.sink }
+    ensures tree_never_falls { T.tree_faults tree.old ≤ T.tree_faults tree.new }
+{
+    let texts = match read_texts(alloc, tree) {
+        Ok(texts) => texts,
+        Err(TreeError::Failed) => return RunEnd::TreeFault,
+        Err(TreeError::NoMemory) => return RunEnd::NoMemory,
+    };
+    match set_up(alloc, &texts) {
+        Ok(setup) => RunEnd::Served(serve(alloc, &setup, streams, clock, draws)),
+        Err(SetupError::Refused(refusal)) => refuse(alloc, &mut streams.sink, &refusal),
+        Err(SetupError::NoMemory) => RunEnd::NoMemory,
+    }
+}
+
+/// Writes the line that tells which file is refused.
+fn refuse<K: Sink>(alloc: Global, output: &mut K, refusal: &Refusal) -> RunEnd
+    ensures refuses { Refuses (K.held output.old) (K.held output.new) refusal.now result }
+    ensures cause { result ≡ RunEnd.LineFault → Rose (K.write_faults output.old) (K.write_faults output.new) }
+    ensures never_falls { K.write_faults output.old ≤ K.write_faults output.new }
+{
+    let Ok(line) = refusal_line(alloc, refusal) else {
+        return RunEnd::NoMemory;
+    };
+    match write_all(output, line.as_slice()) {
+        Ok(()) => RunEnd::TextRefused,
+        Err(Failed) => RunEnd::LineFault,
+    }
+}
+
+/// One session over a desk in memory whose log begins empty.
+fn serve<S: Source, K: Sink, C: Clock, W: Draws>(
+    alloc: Global,
+    setup: &Setup,
+    streams: &mut Both<S, K>,
+    clock: &mut C,
+    draws: &mut W,
+) -> SessionEnd
+    ensures serves { ServesBook setup.now
+        (record { left = S.left streams.old.source; held = K.held streams.old.sink; outlook = outlook (C.moments clock.old) (W.throttles draws.old) (W.ids draws.old) })
+        (record { left = S.left streams.new.source; held = K.held streams.new.sink; outlook = outlook (C.moments clock.new) (W.throttles draws.new) (W.ids draws.new) })
+        result }
+    ensures read_cause { result ≡ SessionEnd.ReadFault → Rose (S.read_faults streams.old.source) (S.read_faults streams.new.source) }
+    ensures write_cause { result ≡ SessionEnd.WriteFault → Rose (K.write_faults streams.old.sink) (K.write_faults streams.new.sink) }
+    ensures reads_never_fall { S.read_faults streams.old.source ≤ S.read_faults streams.new.source }
+    ensures writes_never_fall { K.write_faults streams.old.sink ≤ K.write_faults streams.new.sink }
+{
+    let reporter = Small;
+    let mut book = Book::new(alloc, &reporter, setup.limits);
+    let Ok(routes) = Routes::new(alloc) else {
+        return SessionEnd::NoMemory;
+    };
+    let Ok(mut buffer) = Buffer::new(alloc) else {
+        return SessionEnd::NoMemory;
+    };
+    let rules = &setup.rules;
+    session(alloc, &mut book, streams, rules, &routes, &mut buffer, clock, draws)
+}
