@@ -128,5 +128,14 @@ fn serve<S: Source, K: Sink, C: Clock, W: Draws>(
         return SessionEnd::NoMemory;
     };
     let rules = &setup.rules;
-    session(alloc, &mut book, streams, rules, &routes, &mut buffer, clock, draws)
+    session(
+        alloc,
+        &mut book,
+        streams,
+        rules,
+        &routes,
+        &mut buffer,
+        clock,
+        draws,
+    )
 }

@@ -83,9 +83,17 @@ pub(crate) fn refusal_line(alloc: Global, refusal: &Refusal) -> Result<Bytes, No
     match refusal {
         Refusal::SettingsNotToml => line(alloc, "refused settings.toml: 110", ""),
         Refusal::BadSetting { key } => line(alloc, "refused settings.toml: 111 ", key.as_str()),
-        Refusal::BadRule { index } => line(alloc, "refused settings.toml: 20 ", digits.format(*index)),
+        Refusal::BadRule { index } => line(
+            alloc,
+            "refused settings.toml: 20 ",
+            digits.format(*index),
+        ),
         Refusal::TokensNotToml => line(alloc, "refused tokens.toml: 110", ""),
-        Refusal::BadToken { index } => line(alloc, "refused tokens.toml: 70 ", digits.format(*index)),
+        Refusal::BadToken { index } => line(
+            alloc,
+            "refused tokens.toml: 70 ",
+            digits.format(*index),
+        ),
     }
 }
 

@@ -1,14 +1,17 @@
-//! The program: it makes the real input, output, clock and draws, and leaves the rest to `soc_serve`.
+//! The program: it makes the real folder, input, output, clock and draws, and leaves the rest to `soc_serve`.
 #![tactic(auto)]
 
 mod clock;
 mod draws;
+mod folder;
 mod streams;
 #[cfg(test)]
 mod tests;
 
 use clock::SystemClock;
 use draws::SystemDraws;
+use folder::Folder;
+use soc_edge::Both;
 use soc_serve::run_words;
 use std::env;
 use std::process::ExitCode;
@@ -24,14 +27,17 @@ fn main(rt: HostRuntime) -> ExitCode {
     let Ok(mut draws) = SystemDraws::new(&rt) else {
         return ExitCode::from(READ_FAULT);
     };
-    let mut input = InputStream::new(rt.stdin());
-    let mut output = OutputStream::new(rt.stdout());
+    let mut tree = Folder::new(&rt);
+    let mut streams = Both {
+        source: InputStream::new(rt.stdin()),
+        sink: OutputStream::new(rt.stdout()),
+    };
     let mut clock = SystemClock::new(&rt);
     let status = run_words(
         rt.alloc(),
         words.as_slice(),
-        &mut input,
-        &mut output,
+        &mut tree,
+        &mut streams,
         &mut clock,
         &mut draws,
     );

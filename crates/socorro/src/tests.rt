@@ -1,8 +1,10 @@
 //! Each adapter, tried once.
 use crate::clock::SystemClock;
 use crate::draws::SystemDraws;
+use crate::folder::Folder;
 use crate::streams::{InputStream, OutputStream};
-use soc_edge::{Clock, Draws, Failed, Sink, Source};
+use soc_edge::{Clock, Draws, Failed, Sink, Source, Tree, TreeError};
+use std::fs;
 use std::io::{self, Read};
 use std::process::Abort;
 use std::test::Fail;
@@ -53,5 +55,20 @@ fn draws_differ(rt: HostRuntime) -> Result<(), Fail> {
     assert!(rt; first.as_slice() != second.as_slice());
     let (first, second) = (draws.throttle(), draws.throttle());
     assert!(rt; first != second);
+    Ok(())
+}
+
+#[test]
+fn a_folder_gives_its_files(rt: HostRuntime) -> Result<(), Fail> {
+    let name = "folder_test.toml";
+    fs::write(&rt, name, "crashes = 1")?;
+    let mut folder = Folder::new(&rt);
+    let file = folder.file(rt.alloc(), name)?;
+    fs::remove_file(&rt, name)?;
+    assert!(rt; file.is_some_and(|bytes| bytes.as_slice() == b"crashes = 1".as_slice()));
+    let file = folder.file(rt.alloc(), name)?;
+    assert!(rt; file.is_none());
+    let refused = folder.file(rt.alloc(), ".");
+    assert!(rt; matches!(&refused, Err(TreeError::Failed)));
     Ok(())
 }
