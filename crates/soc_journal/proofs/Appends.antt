@@ -1,5 +1,5 @@
 -- What an append leaves of a disk, step by step.
-use Rattle.std.proofs.Common.{◌≡◌, ◌≢◌, inl, inr, ℕ, ◌+◌, ◌-◌, ◌<◌, ◌≤◌, Bool, true, false, not, ◌&&◌, ◌||◌, nat_eq, ◌==◌, IsTrue, Option, Some, None, IfSome, IsSomeAnd, Result, Ok, Err, IsErrAnd, IsErrOf, List, [], ◌∷◌, ◌++◌, length, take, drop, get_or, refl, sym, ◌∙◌, ap, subst, arith, append_assoc}
+use Rattle.std.proofs.Common.{◌≡◌, ◌≢◌, inl, inr, ℕ, ◌+◌, ◌-◌, ◌<◌, ◌≤◌, true, false, IsTrue, Option, Some, None, IfSome, IsSomeAnd, Result, Ok, Err, IsErrAnd, IsErrOf, List, [], ◌∷◌, ◌++◌, length, take, drop, get_or, refl, sym, ◌∙◌, ap, subst, arith, append_assoc}
 use Rattle.std.specs.Option.{option_map}
 use Rattle.std.specs.List.{AllByRecursion}
 use Rattle.std.proofs.lemmas.Bool.{cases_eq}
@@ -12,7 +12,7 @@ use Rattle.soc_journal.specs.declared.error.AppendError.{AppendError}
 use Rattle.soc_journal.specs.declared.error.AppendError.TheVariants.{StoreFault, JournalFull}
 use Rattle.soc_journal.specs.Images.{IsTorn}
 use Rattle.soc_journal.specs.States.{JournalState, AtRest, InDoubt}
-use Rattle.soc_journal.specs.Text.{version_of, JournalText, StandsFor, StandsForEither}
+use Rattle.soc_journal.specs.Text.{version_of, StandsFor, StandsForEither}
 use Rattle.soc_journal.proofs.Texts.{behind_gate, sealed_behind, front_of, length-front_of, front_of-push, version_of-front, begins_front, front_begins, AllByRecursion-push, gate_place-push}
 use Rattle.soc_journal.proofs.Torn.{torn_behind, written_behind, torn_byte, written_byte}
 

@@ -1,18 +1,17 @@
 -- The body of an entry, from what a disk gives behind its head.
-use Rattle.std.proofs.Common.{◌≡◌, ◌≢◌, ℕ, ◌+◌, ◌-◌, ◌^◌, ◌<◌, ◌≤◌, min, Option, Some, None, IfSome, Result, Ok, Err, IfOk, OnOk, MatchResult, List, [], ◌∷◌, ◌++◌, length, take, drop, refl, sym, ◌∙◌, ap, subst, arith, length-append, take-append-drop}
-use Rattle.std.specs.Int.{to_le_bytes, w32}
+use Rattle.std.proofs.Common.{◌≡◌, ◌≢◌, ℕ, ◌+◌, ◌-◌, ◌≤◌, Option, IfSome, Result, Ok, Err, IfOk, OnOk, MatchResult, List, ◌∷◌, ◌++◌, length, take, drop, refl, sym, ◌∙◌, ap, subst, arith, length-append, take-append-drop}
 use Rattle.std.proofs.Math.Seq.{drop-append-add}
-use Rattle.std.proofs.lemmas.List.{take_at, drop_at, length-take, length-drop, drop-drop}
+use Rattle.std.proofs.lemmas.List.{take_at, drop_at, length-take, length-drop}
 use Rattle.std.proofs.lemmas.Option.{IfSome_then}
 use Rattle.soc_journal.specs.Bodies.{StandsBefore, GivesBody}
-use Rattle.soc_journal.specs.Entries.{Entry, IsEntryOf, second_version, max_body, open_gate, entry_text}
-use Rattle.soc_journal.specs.Found.{entry_head, IsFront, Counts, IsHead, IsBad, IsFound}
+use Rattle.soc_journal.specs.Entries.{Entry, second_version, max_body, open_gate, entry_text}
+use Rattle.soc_journal.specs.Found.{entry_head, IsFront, IsHead, IsFound}
 use Rattle.soc_journal.specs.Text.{StandsAt}
 use Rattle.soc_journal.specs.declared.error.ReadError.{ReadError}
 use Rattle.soc_journal.specs.declared.error.ReadError.TheVariants.{StoreFault, Altered, NoMemory}
 use Rattle.soc_journal.specs.declared.found.Front.TheVariants.{Shut}
 use Rattle.soc_journal.specs.declared.found.Found.{Found}
-use Rattle.soc_journal.specs.declared.found.Found.TheVariants.{Entry as an_entry, Closed, Bad}
+use Rattle.soc_journal.specs.declared.found.Found.TheVariants.{Entry as an_entry, Closed}
 use Rattle.soc_journal.proofs.Founds.{heads_same}
 use Rattle.soc_journal.proofs.Nexts.{entry_whole}
 use Rattle.soc_journal.proofs.Options.{IfSome_both}

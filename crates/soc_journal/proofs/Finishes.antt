@@ -1,19 +1,19 @@
 -- A journal once its opening is finished: one of the first version gets another version byte, and the same entries.
-use Rattle.std.proofs.Common.{◌≡◌, ◌≢◌, ℕ, ◌+◌, Bool, true, false, not, ◌&&◌, ◌||◌, ◌==◌, IsTrue, Option, Some, None, IfSome, IsSomeAnd, List, [], ◌∷◌, ◌++◌, length, get_or, refl, sym, ◌∙◌, ap, subst, arith, append_assoc}
+use Rattle.std.proofs.Common.{◌≡◌, ◌≢◌, ℕ, IsTrue, Option, Some, None, IfSome, IsSomeAnd, List, [], ◌∷◌, ◌++◌, get_or, refl, sym, ◌∙◌, ap, subst, arith, append_assoc}
 use Rattle.std.specs.Prelude.{codes}
 use Rattle.std.specs.Option.{option_map}
 use Rattle.std.specs.List.{AllByRecursion}
 use Rattle.std.proofs.lemmas.Bool.Decides.{nat_tests}
-use Rattle.soc_edge.proofs.Disks.{LeavesOnly-start, LeavesOnly-weaker}
+use Rattle.soc_edge.proofs.Disks.{LeavesOnly-weaker}
 use Rattle.soc_edge.specs.Disk.{written, Tears, WhereTold, Only, LeavesOnly}
 use Rattle.soc_journal.specs.Entries.{Entry, IsEntryOf, has_kind, first_version, second_version, header, entries_text}
 use Rattle.soc_journal.specs.Images.{IsTorn}
-use Rattle.soc_journal.specs.Openings.{OpeningState, HasRead, HasReadAll}
+use Rattle.soc_journal.specs.Openings.{OpeningState, HasReadAll}
 use Rattle.soc_journal.specs.States.{JournalState, AtRest}
-use Rattle.soc_journal.specs.Text.{version_of, JournalText, StandsFor}
+use Rattle.soc_journal.specs.Text.{version_of, StandsFor}
 use Rattle.soc_journal.proofs.Appends.{stands_before}
 use Rattle.soc_journal.proofs.Options.{IfSome-always}
-use Rattle.soc_journal.proofs.Texts.{front_of, version_of-front, begins_front}
+use Rattle.soc_journal.proofs.Texts.{front_of, version_of-front}
 use Rattle.soc_journal.proofs.Torn.{torn_byte, written_byte}
 
 -- each version has the kinds of the first

@@ -1,12 +1,12 @@
 -- What stands where a gate is wanted, from its first bytes.
-use Rattle.std.proofs.Common.{◌≡◌, ◌≢◌, ℕ, zero, suc, ◌+◌, ◌-◌, ◌^◌, ◌<◌, ◌≤◌, min, Option, Some, None, IfSome, IsTrue, false, List, [], ◌∷◌, ◌++◌, length, take, drop, get_or, refl, sym, ◌∙◌, ap, subst, arith, length-append, take-append-drop, append_assoc}
+use Rattle.std.proofs.Common.{◌≡◌, ℕ, ◌^◌, ◌<◌, ◌≤◌, min, Option, Some, None, IfSome, IsTrue, false, List, ◌∷◌, ◌++◌, length, take, drop, get_or, sym, ◌∙◌, ap, subst, arith, length-append, take-append-drop, append_assoc}
 use Rattle.std.specs.Int.{from_le_bytes, to_le_bytes, w32}
 use Rattle.std.proofs.lemmas.Nat.{from_le_bytes-to_le_bytes_4}
-use Rattle.std.proofs.lemmas.List.{take_all, take_at, length-drop, length-take}
+use Rattle.std.proofs.lemmas.List.{take_all, length-drop, length-take}
 use Rattle.std.proofs.lemmas.Option.{IfSome_then}
 use Rattle.soc_edge.specs.Disk.{ReadsAt}
-use Rattle.soc_journal.specs.Entries.{Entry, IsEntryOf, has_kind, max_body, open_gate, entry_text}
-use Rattle.soc_journal.specs.Found.{entry_head, HasNoGate, IsFront, Counts, IsHead, IsBad, IsFound}
+use Rattle.soc_journal.specs.Entries.{Entry, has_kind, max_body, open_gate, entry_text}
+use Rattle.soc_journal.specs.Found.{entry_head, HasNoGate, IsFront, Counts, IsBad}
 use Rattle.soc_journal.specs.declared.found.Front.{Front}
 use Rattle.soc_journal.specs.declared.found.Front.TheVariants.{Shut, Cut, Opened}
 use Rattle.soc_journal.proofs.Texts.{length-entry_text}

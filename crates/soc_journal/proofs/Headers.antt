@@ -1,9 +1,9 @@
 -- The header of a journal, from the first bytes of the disk.
-use Rattle.std.proofs.Common.{◌≡◌, ◌≢◌, ℕ, ◌+◌, ◌-◌, ◌<◌, ◌≤◌, min, true, Option, Some, None, IfSome, MatchOption, List, [], ◌∷◌, ◌++◌, length, take, drop, slice_get, refl, sym, ◌∙◌, ap, subst, arith, length-append, take-append-drop}
+use Rattle.std.proofs.Common.{◌≡◌, ℕ, ◌-◌, ◌≤◌, min, true, Option, Some, None, IfSome, MatchOption, List, [], ◌∷◌, ◌++◌, length, take, drop, slice_get, refl, sym, ◌∙◌, ap, subst, arith, length-append, take-append-drop}
 use Rattle.std.specs.Prelude.{codes}
 use Rattle.std.specs.Str.{bytes_eq}
 use Rattle.std.proofs.lemmas.Slice.Eq.{bytes_eq-Decides}
-use Rattle.std.proofs.lemmas.List.{take_all, take_at, length-drop, length-take}
+use Rattle.std.proofs.lemmas.List.{take_at, length-take}
 use Rattle.soc_edge.specs.Disk.{ReadsAt}
 use Rattle.soc_journal.specs.Entries.{header}
 use Rattle.soc_journal.specs.Text.{version_of, HasHeader}

@@ -1,7 +1,7 @@
 -- What the journal holds once a doubt is settled.
-use Rattle.std.proofs.Common.{◌≡◌, ◌≢◌, inl, inr, ℕ, ◌+◌, Bool, true, false, IsTrue, ◌↔◌, List, [], ◌∷◌, ◌++◌, length, Option, Some, None, IfSome, slice_get, refl, sym, ◌∙◌, ap, subst, arith}
+use Rattle.std.proofs.Common.{◌≡◌, inl, inr, ℕ, ◌+◌, Bool, true, false, IsTrue, ◌↔◌, List, [], ◌∷◌, ◌++◌, length, Option, Some, None, IfSome, slice_get, refl, sym, ◌∙◌, ap, subst, arith}
 use Rattle.soc_edge.specs.Disk.{Only}
-use Rattle.soc_journal.specs.Entries.{Entry, open_gate, closed_gate, entry_text, gate_place}
+use Rattle.soc_journal.specs.Entries.{Entry, open_gate, entry_text, gate_place}
 use Rattle.soc_journal.specs.States.{JournalState, AtRest, InDoubt, ReadsOpen}
 use Rattle.soc_journal.specs.Text.{version_of, JournalText}
 use Rattle.soc_journal.proofs.Options.{IfSome_both}

@@ -1,13 +1,13 @@
 -- What stands behind the entries that were read.
-use Rattle.std.proofs.Common.{◌≡◌, ◌≢◌, ℕ, ◌+◌, ◌-◌, ◌<◌, ◌≤◌, Option, Some, None, IfSome, List, [], ◌∷◌, ◌++◌, length, take, drop, refl, sym, ◌∙◌, ap, subst, arith, length-append, take-append-drop, append_assoc}
+use Rattle.std.proofs.Common.{◌≡◌, ℕ, ◌+◌, ◌≤◌, Option, IfSome, List, [], ◌∷◌, ◌++◌, length, take, drop, refl, sym, ◌∙◌, ap, subst, arith, length-append, take-append-drop, append_assoc}
 use Rattle.std.specs.Int.{to_le_bytes, w32}
 use Rattle.std.proofs.lemmas.List.{drop_at, length-take}
 use Rattle.std.proofs.lemmas.Option.{IfSome_then}
-use Rattle.soc_edge.specs.Disk.{Only, NoMore}
-use Rattle.soc_journal.specs.Entries.{Entry, IsEntryOf, open_gate, entry_text, gate_place}
-use Rattle.soc_journal.specs.Found.{entry_head, IsFront, Counts, IsHead, IsBad, IsFound}
+use Rattle.soc_edge.specs.Disk.{NoMore}
+use Rattle.soc_journal.specs.Entries.{Entry, IsEntryOf, open_gate, entry_text}
+use Rattle.soc_journal.specs.Found.{entry_head, IsFront, IsHead, IsBad, IsFound}
 use Rattle.soc_journal.specs.Openings.{OpeningState, HasRead, HasReadAll, HasReadMore}
-use Rattle.soc_journal.specs.Text.{version_of, Begins, JournalText, FirstBad, StandsAt}
+use Rattle.soc_journal.specs.Text.{version_of, FirstBad}
 use Rattle.soc_journal.specs.declared.found.Front.TheVariants.{Shut}
 use Rattle.soc_journal.specs.declared.found.Found.{Found}
 use Rattle.soc_journal.specs.declared.found.Found.TheVariants.{Entry as an_entry, Closed, Bad}

@@ -1,12 +1,12 @@
 -- At most one list of entries fits given bytes.
-use Rattle.std.proofs.Common.{◌≡◌, ◌≢◌, ℕ, ◌+◌, ◌^◌, ◌<◌, ◌≤◌, List, [], ◌∷◌, ◌++◌, length, take, drop, refl, sym, ◌∙◌, ap, subst, arith, append_assoc}
+use Rattle.std.proofs.Common.{◌≡◌, ◌≢◌, ℕ, ◌≤◌, List, [], ◌∷◌, ◌++◌, length, take, drop, refl, sym, ◌∙◌, ap, arith, append_assoc}
 use Rattle.std.specs.Int.{to_le_bytes, w32}
 use Rattle.std.specs.List.{AllByRecursion}
 use Rattle.std.proofs.lemmas.Grind.{flat_map-append}
 use Rattle.std.proofs.lemmas.List.{take_at, drop_at}
 use Rattle.soc_journal.specs.Entries.{Entry, IsEntryOf, max_body, open_gate, header, entry_text, entries_text, gate_place}
 use Rattle.soc_journal.specs.Found.{entry_head}
-use Rattle.soc_journal.specs.Text.{version_of, Begins, JournalText, FirstBad, StandsAt, IsOneText, IsOneFault, IsOneEntry}
+use Rattle.soc_journal.specs.Text.{version_of, Begins, IsOneText, IsOneFault, IsOneEntry}
 use Rattle.soc_journal.proofs.Bodies.{stands_rest}
 use Rattle.soc_journal.proofs.Founds.{heads_same}
 use Rattle.soc_journal.proofs.Texts.{text_behind, entry_text-behind, front_of, length-front_of, begins_front}

@@ -1,5 +1,5 @@
 -- Facts for one variant of an answer.
-use Rattle.std.proofs.Common.{◌≡◌, Option, Some, None, Result, Ok, Err, OnErr, OnOk, IfSome, IsSomeAnd, sym, subst, refl}
+use Rattle.std.proofs.Common.{Option, Some, None, Result, Ok, Err, OnErr, IfSome}
 
 pub OnErr-always : {T E : Type 0} (answer : Result T E) (P : Type 0) → P → OnErr answer P
 OnErr-always (Ok x) P holds = tt

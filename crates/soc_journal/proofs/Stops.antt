@@ -1,5 +1,5 @@
 -- What the calls on a disk leave, one after another.
-use Rattle.std.proofs.Common.{◌≡◌, inl, inr, ℕ, ◌+◌, ◌≤◌, Option, Some, None, List, length, refl, sym, ◌∙◌, ap, subst, arith}
+use Rattle.std.proofs.Common.{◌≡◌, ℕ, Option, Some, None, List, length, refl, sym, ◌∙◌, subst}
 use Rattle.std.specs.Option.{option_map}
 use Rattle.soc_edge.proofs.Disks.{Tears-same, Tears-written, LeavesOnly-start, LeavesOnly-call, LeavesOnly-append, LeavesOnly-weaker}
 use Rattle.soc_edge.specs.Disk.{written, Tears, WhereTold, Follows, NoMore, Elapses, LeavesOnly}

@@ -1,10 +1,10 @@
 -- The text of a journal, put together from its parts.
-use Rattle.std.proofs.Common.{◌≡◌, ◌≢◌, inl, inr, ◌⊎◌, ℕ, ◌+◌, ◌-◌, ◌<◌, ◌≤◌, List, [], ◌∷◌, ◌++◌, length, take, drop, refl, sym, ◌∙◌, ap, subst, arith, append_assoc, length-append}
+use Rattle.std.proofs.Common.{◌≡◌, ℕ, ◌+◌, List, [], ◌∷◌, ◌++◌, length, drop, refl, sym, ◌∙◌, ap, subst, arith, append_assoc, length-append}
 use Rattle.std.specs.Int.{to_le_bytes, w32}
 use Rattle.std.specs.List.{AllByRecursion}
 use Rattle.std.proofs.lemmas.List.{append-nil}
 use Rattle.soc_journal.specs.Entries.{Entry, IsEntryOf, open_gate, closed_gate, header, entry_text, entries_text, gate_place, sealed}
-use Rattle.soc_journal.specs.Text.{version_of, Begins, JournalText}
+use Rattle.soc_journal.specs.Text.{version_of, Begins}
 
 -- how many bytes an entry has
 pub length-entry_text : (entry : Entry) → length (entry_text entry) ≡ 6 + length entry.body

@@ -1,5 +1,5 @@
 -- Entries of a journal and their bytes: this project's profile.
-use Rattle.std.specs.Prelude.{◌≡◌, ℕ, ◌+◌, ◌≤◌, Bool, ◌||◌, ◌&&◌, not, ◌==◌, IsTrue, List, [], ◌∷◌, ◌++◌, length, flat_map, codes}
+use Rattle.std.specs.Prelude.{ℕ, ◌+◌, ◌≤◌, Bool, ◌||◌, ◌&&◌, not, ◌==◌, IsTrue, List, [], ◌∷◌, ◌++◌, length, flat_map, codes}
 use Rattle.std.specs.Int.{to_le_bytes, w32}
 
 -- the gate of an entry that counts; every other byte is a closed gate, and this is the one that is written

@@ -1,6 +1,6 @@
 -- Journals and entries as they are written, by computation.
-use Rattle.std.specs.Prelude.{◌≡◌, true, false, List, [], ◌∷◌, ◌++◌, codes, refl}
-use Rattle.soc_journal.specs.Entries.{Entry, has_kind, first_version, second_version, accept_kind, ask_kind, withdraw_kind, report_kind, entry_text, entries_text, header, sealed, gate_place}
+use Rattle.std.specs.Prelude.{◌≡◌, true, false, [], ◌∷◌, ◌++◌, codes, refl}
+use Rattle.soc_journal.specs.Entries.{Entry, has_kind, first_version, second_version, accept_kind, ask_kind, withdraw_kind, report_kind, entry_text, header, sealed, gate_place}
 use Rattle.soc_journal.specs.Text.{version_of, empty_journal}
 
 -- a journal without entries

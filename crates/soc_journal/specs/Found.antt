@@ -1,5 +1,5 @@
 -- What stands where a gate is wanted.
-use Rattle.std.specs.Prelude.{◌≡◌, ◌≢◌, ℕ, ◌+◌, ◌^◌, ◌<◌, ◌≤◌, List, [], ◌∷◌, ◌++◌, length, IsTrue, ⊤}
+use Rattle.std.specs.Prelude.{◌≡◌, ◌≢◌, ℕ, ◌+◌, ◌^◌, ◌<◌, ◌≤◌, List, ◌∷◌, ◌++◌, length, IsTrue, ⊤}
 use Rattle.std.specs.Int.{to_le_bytes, w32}
 use Rattle.soc_journal.specs.Entries.{Entry, IsEntryOf, has_kind, max_body, open_gate, entry_text}
 use Rattle.soc_journal.specs.declared.found.Front.{Front}

@@ -1,6 +1,6 @@
 -- The text of a journal, the entries that it stands for, and the first place where it stands for none: this project's
 -- profile.
-use Rattle.std.specs.Prelude.{◌≡◌, ◌≢◌, ℕ, ◌+◌, ◌≤◌, ◌⊎◌, List, [], ◌∷◌, ◌++◌, length, slice_index}
+use Rattle.std.specs.Prelude.{◌≡◌, ◌≢◌, ℕ, ◌⊎◌, List, [], ◌∷◌, ◌++◌, length, slice_index}
 use Rattle.std.specs.List.{AllByRecursion}
 use Rattle.soc_journal.specs.Entries.{Entry, IsEntryOf, open_gate, closed_gate, second_version, header, entry_text, entries_text, gate_place}
 

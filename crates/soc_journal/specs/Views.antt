@@ -1,5 +1,5 @@
 -- What contracts see of a journal, an opening and the text of an entry.
-use Rattle.std.specs.Prelude.{◌≡◌, ℕ, ◌+◌, ◌-◌, ◌<◌, ◌^◌, List, length, take, drop, slice_index}
+use Rattle.std.specs.Prelude.{◌≡◌, ℕ, ◌-◌, List, length, take, drop, slice_index}
 use Rattle.soc_journal.specs.Entries.{Entry, IsEntryOf, second_version, sealed}
 
 -- the entry of a text that is written as a whole

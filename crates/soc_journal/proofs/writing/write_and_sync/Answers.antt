@@ -1,7 +1,5 @@
-use Rattle.std.proofs.Common.{length, ap, sym, ◌∙◌}
+use Rattle.std.proofs.Common.{length, ◌∙◌}
 use Rattle.soc_journal.proofs.Options.{OnErr-always}
-use Rattle.soc_journal.proofs.Texts.{front_begins}
-use Rattle.soc_journal.proofs.Torn.{written_byte}
 use Rattle.soc_journal.proofs.Stops.{WhereTold-written, LeavesOnly-write, LeavesOnly-sync}
 use Rattle.soc_journal.proofs.writing.write_and_sync.Goals as goal
 

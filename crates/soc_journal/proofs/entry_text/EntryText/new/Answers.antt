@@ -1,4 +1,3 @@
-use Rattle.std.proofs.Common.{◌≡◌}
 use Rattle.soc_journal.specs.Entries.{Entry}
 use Rattle.soc_journal.proofs.Sealed.{IsSealed-built}
 use Rattle.soc_journal.proofs.entry_text.EntryText.new.Goals as goal

@@ -1,5 +1,5 @@
-use Rattle.std.proofs.Common.{◌≡◌, ◌+◌, ◌-◌, ◌∙◌, ap, refl, sym, ℕ, List, Some, length, drop, arith}
-use Rattle.soc_journal.specs.Entries.{open_gate, entry_text}
+use Rattle.std.proofs.Common.{◌≡◌, ◌+◌, ◌-◌, ◌∙◌, ap, refl, sym, ℕ, List, Some, length, arith}
+use Rattle.soc_journal.specs.Entries.{entry_text}
 use Rattle.soc_journal.specs.States.{JournalState}
 use Rattle.soc_journal.proofs.Texts.{length-entry_text, length-sealed}
 use Rattle.soc_journal.proofs.Appends.{over_limit, within_limit, not_full, behind_slice, doubt_first, doubt_second, acknowledged, any_first, any_second}
