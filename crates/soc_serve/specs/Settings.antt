@@ -1,5 +1,5 @@
 -- The settings of the service, as a TOML document holds them: this project's profile.
-use Rattle.std.specs.Prelude.{◌≡◌, ℕ, Bool, false, if◌then◌else◌, List, Option, None, Some, Result, Ok, Err, codes, option_and_then, is_some, unwrap_or}
+use Rattle.std.specs.Prelude.{◌≡◌, ◌≤◌, ℕ, Bool, false, if◌then◌else◌, List, Option, None, Some, Result, Ok, Err, codes, option_and_then, is_some, unwrap_or}
 use Rattle.std.specs.Option.{option_map_or}
 use Rattle.std.specs.Ordering.{nat_cmp, is_lt}
 use Rattle.std.specs.Cmp.Lexicographic.{slice_cmp}
@@ -87,6 +87,17 @@ settings_in table = option_map_or (λ key. Err (BadSetting key)) (first_bad tabl
 -- the settings that a file's bytes say, or why they say none
 unfoldable pub settings_of : List ℕ → Result Settings SettingsError
 settings_of bytes = option_map_or settings_in (document_of bytes) (Err NotToml)
+
+-- a number from `low` to `high`
+pub record IsWithin (low high n : ℕ) : Type 0 where
+  pub at_least : low ≤ n
+  pub at_most : n ≤ high
+
+-- each number lies in its range
+pub record LieInRanges (settings : Settings) : Type 0 where
+  pub session_bytes : IsWithin 1 4294967296 settings.session_bytes
+  pub journal_bytes : IsWithin 64 68719476736 settings.limits.journal_bytes
+  pub crashes : IsWithin 1 65536 settings.limits.crashes
 
 -- why rules weren't read is why settings aren't
 abbrev pub of_rules : RuleError → SettingsError

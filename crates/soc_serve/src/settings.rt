@@ -90,6 +90,7 @@ impl Settings {
     #[tactic(auto, unfolding(crate::specs::Settings::settings_of))]
     pub fn read(alloc: Global, bytes: &[u8]) -> Result<Settings, SettingsError>
         ensures ok { IfOk result (λ settings. spec.settings_of bytes.now ≡ Ok settings) }
+        ensures ranges { IfOk result spec.LieInRanges }
         ensures refused { IfErr result (spec.IsRefusal (spec.settings_of bytes.now)) }
     {
         match document(alloc, bytes)? {
@@ -101,6 +102,7 @@ impl Settings {
 
 fn read_table(alloc: Global, table: &Table) -> Result<Settings, SettingsError>
     ensures ok { IfOk result (λ settings. spec.settings_in (table_view table.now) ≡ Ok settings) }
+    ensures ranges { IfOk result spec.LieInRanges }
     ensures refused { IfErr result (spec.IsRefusal (spec.settings_in (table_view table.now))) }
 {
     if let Some(key) = first_bad_key(table) {
@@ -114,7 +116,8 @@ fn read_table(alloc: Global, table: &Table) -> Result<Settings, SettingsError>
 
 /// The settings of a table whose keys are good.
 fn settings_with(alloc: Global, rules: RuleSet, table: &Table) -> Result<Settings, NoMemory>
-    ensures { IfOk result (λ settings. settings ≡ spec.settings_with rules (table_view table.now)) }
+    ensures ok { IfOk result (λ settings. settings ≡ spec.settings_with rules (table_view table.now)) }
+    ensures ranges { IfOk result spec.LieInRanges }
 {
     Ok(Settings {
         rules,
@@ -152,7 +155,8 @@ fn public_of(alloc: Global, table: &Table) -> Result<Products, NoMemory>
 }
 
 fn session_bytes_of(table: &Table) -> u64
-    ensures { result ≡ spec.at_or (codes "session_bytes") spec.session_bytes_of 4294967296 (table_view table.now) }
+    ensures value { result ≡ spec.at_or (codes "session_bytes") spec.session_bytes_of 4294967296 (table_view table.now) }
+    ensures range { spec.IsWithin 1 4294967296 result }
 {
     match soc_toml::value_at(table, "session_bytes") {
         Some(value) => session_bytes_in(value).unwrap_or(MOST_SESSION_BYTES),
@@ -161,7 +165,8 @@ fn session_bytes_of(table: &Table) -> u64
 }
 
 fn journal_bytes_of(table: &Table) -> u64
-    ensures { result ≡ spec.at_or (codes "journal_bytes") spec.journal_bytes_of 68719476736 (table_view table.now) }
+    ensures value { result ≡ spec.at_or (codes "journal_bytes") spec.journal_bytes_of 68719476736 (table_view table.now) }
+    ensures range { spec.IsWithin 64 68719476736 result }
 {
     match soc_toml::value_at(table, "journal_bytes") {
         Some(value) => journal_bytes_in(value).unwrap_or(MOST_JOURNAL_BYTES),
@@ -170,7 +175,8 @@ fn journal_bytes_of(table: &Table) -> u64
 }
 
 fn crashes_of(table: &Table) -> u32
-    ensures { result ≡ spec.at_or (codes "crashes") spec.crashes_of 65536 (table_view table.now) }
+    ensures value { result ≡ spec.at_or (codes "crashes") spec.crashes_of 65536 (table_view table.now) }
+    ensures range { spec.IsWithin 1 65536 result }
 {
     match soc_toml::value_at(table, "crashes") {
         Some(value) => crashes_in(value).unwrap_or(MOST_CRASHES as u32),
