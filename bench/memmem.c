@@ -38,9 +38,14 @@ static int is_delimiter(const unsigned char *at, const unsigned char *end) {
     return end - at >= 2 && at[0] == '\r' && at[1] == '\n';
 }
 
+// How many delimiters stand in the body, which is looked at as if a line end stood before it.
 static size_t delimiters(const unsigned char *body, size_t length) {
     const unsigned char *end = body + length, *at = body;
-    size_t found = 0;
+    size_t found = 0, first = sizeof MARK - 1 - 2;
+    if (length >= first && memcmp(body, &MARK[2], first) == 0) {
+        at += first;
+        found += (size_t)is_delimiter(at, end);
+    }
     while ((at = memmem(at, (size_t)(end - at), MARK, sizeof MARK - 1)) != NULL) {
         at += sizeof MARK - 1;
         found += (size_t)is_delimiter(at, end);
