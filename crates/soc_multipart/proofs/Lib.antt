@@ -15,6 +15,5 @@ pub mod ParamLemmas
 pub mod PartLemmas
 pub mod PartSizes
 pub mod RefusalLemmas
-pub mod SingleLemmas
 pub mod SubmissionLemmas
 pub mod TokenSizes

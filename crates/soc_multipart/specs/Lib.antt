@@ -11,7 +11,6 @@ pub mod Params
 pub mod PartViews
 pub mod Parts
 pub mod Reasons
-pub mod Single
 pub mod SubmissionViews
 pub mod Submissions
 pub mod Views

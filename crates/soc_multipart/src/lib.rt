@@ -1,5 +1,5 @@
-//! Messages of `multipart/form-data` (RFC 2046, section 5.1.1; RFC 7578): the parts of a whole body, the
-//! submission that a message is, and bodies of one short field alone.
+//! Messages of `multipart/form-data` (RFC 2046, section 5.1.1; RFC 7578): the parts of a whole body, and the
+//! submission that a message is.
 #![tactic(auto)]
 
 #[cfg(test)]
@@ -11,7 +11,6 @@ mod fields;
 mod form_error;
 mod form_lines;
 mod heads;
-mod one;
 mod params;
 mod parts;
 mod reasons;
@@ -20,7 +19,6 @@ mod submissions;
 mod tests;
 
 pub use form_error::FormError;
-pub use one::{Field, single, single_is_one};
 pub use parts::{Part, Parts, PartsError, cut_is_one, fault_is_one, read_whole};
 pub use reasons::Reason;
 pub use submissions::{Submission, read_submission, submission_is_one};

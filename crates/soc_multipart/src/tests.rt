@@ -1,5 +1,5 @@
 // Bodies as browsers, command lines and crash reporters write them, and bodies that are cut off or bad.
-use crate::{FormError, PartsError, Reason, Submission, read_submission, read_whole, single};
+use crate::{FormError, PartsError, Reason, Submission, read_submission, read_whole};
 use soc_raw::{Pairs, Text};
 use std::alloc::{AllocError, Global};
 use std::process::Abort;
@@ -7,25 +7,6 @@ use std::test::Fail;
 
 const FIREFOX: &[u8] =
     b"--b\r\nContent-Disposition: form-data; name=\"ProductName\"\r\n\r\nFirefox\r\n--b--\r\n";
-
-#[test]
-fn one_field(rt: HostRuntime) -> Result<(), Fail> {
-    assert_eq!(rt; FIREFOX.len(), 75);
-    let found = single(rt.alloc(), b"b", FIREFOX)?;
-    let field = found.ok_or("no field")?;
-    assert_eq!(rt; field.name.as_str(), "ProductName");
-    assert_eq!(rt; field.value.as_str(), "Firefox");
-    Ok(())
-}
-
-#[test]
-fn no_field(rt: HostRuntime) -> Result<(), Fail> {
-    let cut = single(rt.alloc(), b"b", &FIREFOX[..73])?;
-    assert!(rt; cut.is_none());
-    let other = single(rt.alloc(), b"c", FIREFOX)?;
-    assert!(rt; other.is_none());
-    Ok(())
-}
 
 #[test]
 fn near_delimiters_are_content(rt: HostRuntime) -> Result<(), Fail> {
