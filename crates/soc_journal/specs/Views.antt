@@ -1,4 +1,4 @@
--- What contracts see of a journal, an opening and the text of an entry.
+-- What contracts see of the text of an entry.
 use Rattle.std.specs.Prelude.{◌≡◌, ℕ, ◌-◌, List, length, take, drop, slice_index}
 use Rattle.soc_journal.specs.Entries.{Entry, IsEntryOf, second_version, sealed}
 

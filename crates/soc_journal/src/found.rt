@@ -1,5 +1,5 @@
 // What stands on a disk where a gate is wanted.
-ghost use Rattle.std.specs.Prelude.{◌≡◌, ◌≤◌, ◌+◌, List, ℕ, length, drop, nat_le, IfSome, IfOk, OnErr, IsTrue, ◌↔◌};
+ghost use Rattle.std.specs.Prelude.{◌≤◌, drop, IfSome, IfOk, OnErr, IsTrue, ◌↔◌};
 ghost use Rattle.soc_edge.specs.Faults.{Rose};
 ghost use Rattle.soc_journal.specs.Found.{Counts, IsFront, IsFound, FoundCounts};
 ghost use Rattle.soc_journal.specs.Images.{Stays};

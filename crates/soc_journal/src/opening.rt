@@ -1,6 +1,5 @@
 // Opening a journal: its entries in order, and then the journal itself.
-ghost use Rattle.std.specs.Prelude.{◌≡◌, ◌≢◌, ◌+◌, ◌<◌, ◌≤◌, ◌↔◌, ◌⊎◌, ℕ, List, Some, None, [], ◌∷◌, ◌++◌, length, IfSome, IsSomeAnd, IfOk, OnOk, OnErr, IfErr, IsErrOf, IsTrue, is_none, MatchOption};
-ghost use Rattle.std.specs.Option.{option_map};
+ghost use Rattle.std.specs.Prelude.{◌≡◌, ◌≢◌, ◌+◌, ◌≤◌, ◌⊎◌, List, Some, None, [], length, IfSome, IsSomeAnd, IfOk, OnOk, OnErr, IfErr, IsErrOf, IsTrue, is_none, MatchOption};
 ghost use Rattle.soc_edge.specs.Disk.{Only, LeavesOnly};
 ghost use Rattle.soc_edge.specs.Faults.{Rose};
 ghost use Rattle.soc_journal.specs.Entries.{Entry, first_version, header};
@@ -51,11 +50,13 @@ impl Journal {
     /// `NotOurs` comes exactly where the disk doesn't begin with `SOCJ000` and one more byte, and `StoreFault` only where
     /// the disk failed.
     pub fn open<D: Disk>(disk: &mut D, limit: u64) -> Result<Opening, OpenError>
-        ensures opened { IfOk result (λ opening. IfSome (D.content disk.new) (λ bytes. HasRead opening [] bytes (D.may_leave disk.new))) }
+        ensures opened { IfOk result (λ opening. IfSome (D.content disk.new) (λ bytes.
+            HasRead opening [] bytes (D.may_leave disk.new))) }
         ensures limit { IfOk result (λ opening. opening.limit ≡ limit) }
 
         ensures ours { OnOk result (IfSome (D.content disk.old) (λ bytes. (bytes ≡ []) ⊎ HasHeader bytes)) }
-        ensures not_ours { IsErrOf result OpenError.NotOurs → IfSome (D.content disk.old) (λ bytes. (bytes ≢ []) × ¬ (HasHeader bytes)) }
+        ensures not_ours { IsErrOf result OpenError.NotOurs → IfSome (D.content disk.old) (λ bytes.
+            (bytes ≢ []) × ¬ (HasHeader bytes)) }
         ensures no_other { IfErr result (λ error. (error ≡ OpenError.NotOurs) ⊎ (error ≡ OpenError.StoreFault)) }
 
         ensures created { OnOk result (D.content disk.old ≡ Some [] → D.content disk.new ≡ Some empty_journal) }
@@ -95,9 +96,11 @@ impl Opening {
     /// `BadEntry` names the first place where neither an entry nor a closed gate stands. After an error the opening is as
     /// it was.
     pub fn next<D: Disk>(&mut self, disk: &mut D) -> Result<Option<Mark>, OpenError>
-        ensures finds { IfSome (D.content disk.old) (λ bytes. (entries : List Entry) → HasRead self.old entries bytes (D.may_leave disk.old)
+        ensures finds { IfSome (D.content disk.old) (λ bytes.
+            (entries : List Entry) → HasRead self.old entries bytes (D.may_leave disk.old)
             → Finds entries bytes (D.may_leave disk.new) result self.new) }
-        ensures handed_out { IfOk result (λ next. IfSome next (λ mark. Counts self.new.version mark.kind mark.length mark.place self.new.length)) }
+        ensures handed_out { IfOk result (λ next. IfSome next (λ mark.
+            Counts self.new.version mark.kind mark.length mark.place self.new.length)) }
 
         ensures opening { self.new ≡ record self.old { place = self.new.place; ended = self.new.ended } }
         ensures ended { IfOk result (λ next. self.new.ended ≡ is_none next) }
@@ -153,14 +156,17 @@ impl Opening {
     pub fn finish<D: Disk>(self, disk: &mut D) -> Result<Journal, Failed>
         requires { IsTrue self.ended }
         ensures journal { IfOk result (λ journal. journal ≡ record { gate = self.place; limit = self.limit; doubt = None }) }
-        ensures at_rest { IfSome (D.content disk.old) (λ bytes. (entries : List Entry) → HasReadAll self entries bytes (D.may_leave disk.old)
+        ensures at_rest { IfSome (D.content disk.old) (λ bytes.
+            (entries : List Entry) → HasReadAll self entries bytes (D.may_leave disk.old)
             → IfOk result (λ journal. IsSomeAnd (D.content disk.new) (λ now. AtRest journal entries now (D.may_leave disk.new)))) }
 
         // The entries are the same in each image during and after the call, also where it fails, and so are those that the
         // disk reads as.
-        ensures any_moment { IfSome (D.content disk.old) (λ bytes. (entries : List Entry) → HasReadAll self entries bytes (D.may_leave disk.old)
+        ensures any_moment { IfSome (D.content disk.old) (λ bytes.
+            (entries : List Entry) → HasReadAll self entries bytes (D.may_leave disk.old)
             → LeavesOnly D.moment D.left_since disk.old disk.new (StandsFor entries)) }
-        ensures stands { IfSome (D.content disk.old) (λ bytes. (entries : List Entry) → HasReadAll self entries bytes (D.may_leave disk.old)
+        ensures stands { IfSome (D.content disk.old) (λ bytes.
+            (entries : List Entry) → HasReadAll self entries bytes (D.may_leave disk.old)
             → IsSomeAnd (D.content disk.new) (StandsFor entries)) }
 
         ensures untouched { self.version ≢ first_version → disk.new ≡ disk.old }

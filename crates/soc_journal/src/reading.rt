@@ -1,7 +1,6 @@
 // Reading what a journal holds.
-ghost use Rattle.std.specs.Prelude.{◌≡◌, ◌≢◌, ◌+◌, ◌<◌, ◌≤◌, ◌^◌, ◌↔◌, ℕ, List, length, IfSome, IfOk, OnOk, OnErr, IsErrOf, IsTrue, MatchResult, vec_len};
+ghost use Rattle.std.specs.Prelude.{◌≡◌, ◌≢◌, ◌+◌, ◌<◌, ◌≤◌, ◌^◌, ◌↔◌, length, IfSome, IfOk, OnOk, OnErr, IsErrOf, IsTrue, MatchResult, vec_len};
 ghost use Rattle.soc_edge.specs.Faults.{Rose};
-ghost use Rattle.soc_edge.specs.Disk.{ReadsAt};
 ghost use Rattle.soc_journal.specs.Entries.{Entry};
 ghost use Rattle.soc_journal.specs.Images.{Stays};
 ghost use Rattle.soc_journal.specs.Bodies.{StandsBefore, ReadsFrom, GivesBody};
@@ -21,9 +20,11 @@ impl Journal {
     /// The body of the entry at a place. `Altered` comes exactly where no entry that ends at or before the closed gate
     /// begins there, and `StoreFault` only where the disk failed.
     pub fn read<D: Disk>(&self, alloc: Global, disk: &mut D, place: u64) -> Result<Bytes, ReadError>
-        ensures body { IfSome (D.content disk.old) (λ bytes. (entry : Entry) → StandsBefore bytes place self.now.gate entry
+        ensures body { IfSome (D.content disk.old) (λ bytes.
+            (entry : Entry) → StandsBefore bytes place self.now.gate entry
             → MatchResult result (λ body. body ≡ entry.body) (λ error. error ≢ ReadError.Altered)) }
-        ensures found { OnOk result (IfSome (D.content disk.old) (λ bytes. (entry : Entry) × StandsBefore bytes place self.now.gate entry)) }
+        ensures found { OnOk result (IfSome (D.content disk.old) (λ bytes.
+            (entry : Entry) × StandsBefore bytes place self.now.gate entry)) }
         ensures disk_stays { Stays D.content D.may_leave D.moment D.left_since disk.old disk.new }
         ensures never_falls { D.disk_faults disk.old ≤ D.disk_faults disk.new }
         ensures cause { IsErrOf result ReadError.StoreFault → Rose (D.disk_faults disk.old) (D.disk_faults disk.new) }

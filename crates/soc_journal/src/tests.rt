@@ -112,11 +112,12 @@ fn the_limit_counts_the_closed_gate(rt: HostRuntime) -> Result<(), Fail> {
     let alloc = rt.alloc();
     let entry = EntryText::new(alloc, ACCEPT, &[7; 100])?;
     for (limit, wanted, length) in [(115, Ok(8), 115), (114, Err(AppendError::JournalFull), 9)] {
-        // Two writes and two syncs are left behind those of the creation.
-        let mut disk = MemDisk::new(alloc, 400, 6, Numbers::new(Vec::new(alloc)))?;
+        // The disk refuses its seventh call. The creation makes two, and an append four or none.
+        let mut disk = disk_that_fails(alloc, &[6])?;
         let mut journal = Journal::create(&mut disk, limit)?;
         assert_eq!(rt; journal.append(&mut disk, &entry), wanted);
-        assert_eq!(rt; disk.len()?, length);
+        assert_eq!(rt; disk.len().is_err(), wanted.is_ok());
+        assert_eq!(rt; disk.bytes().len(), length);
     }
     Ok(())
 }

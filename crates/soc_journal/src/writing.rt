@@ -1,5 +1,5 @@
 // Writing to a disk, so that a stop can't take it back.
-ghost use Rattle.std.specs.Prelude.{◌≡◌, ◌≤◌, List, ℕ, length, IfSome, OnOk, OnErr};
+ghost use Rattle.std.specs.Prelude.{◌≡◌, ◌≤◌, length, IfSome, OnOk, OnErr};
 ghost use Rattle.std.specs.Option.{option_map};
 ghost use Rattle.soc_edge.specs.Disk.{written, Tears, WhereTold, Follows, Only, LeavesOnly};
 ghost use Rattle.soc_edge.specs.Faults.{Rose};
