@@ -10,6 +10,7 @@ pub mod Once
 pub mod Options
 pub mod Pieces
 pub mod Sealed
+pub mod Standing
 pub mod Stops
 pub mod Texts
 pub mod Torn

@@ -2,7 +2,7 @@
 ghost use Rattle.std.specs.Prelude.{◌≡◌, ◌≤◌, length, IsTrue, IfOk};
 ghost use Rattle.soc_journal.specs.Entries.{IsEntryOf, has_kind, second_version, max_body, sealed};
 
-use crate::format::{CLOSED_GATE, HEAD, OPEN_GATE};
+use crate::format::{CLOSED_GATE, ENTRY_HEAD, OPEN_GATE};
 use soc_raw::NoMemory;
 use std::alloc::Global;
 use std::marker::Model;
@@ -32,7 +32,7 @@ impl EntryText {
         requires short { length body.now ≤ max_body }
         ensures { IfOk result (λ entry. entry ≡ record { kind = kind; body = body.now }) }
     {
-        let mut text = Vec::with_capacity(alloc, HEAD + body.len() + 1)?;
+        let mut text = Vec::with_capacity(alloc, ENTRY_HEAD + body.len() + 1)?;
         text.push(OPEN_GATE)?;
         text.push(kind)?;
         text.extend_from_slice(&(body.len() as u32).to_le_bytes())?;

@@ -42,7 +42,7 @@ pub const OPEN_GATE: u8 = 0x01;
 pub const CLOSED_GATE: u8 = 0x00;
 
 /// How many bytes stand before an entry's body: its gate, its kind and the body's length.
-pub const HEAD: usize = 6;
+pub const ENTRY_HEAD: usize = 6;
 
 /// Whether a version has entries of a kind.
 pub fn has_kind(version: u8, kind: u8) -> bool

@@ -4,7 +4,7 @@ ghost use Rattle.soc_edge.specs.Faults.{Rose};
 ghost use Rattle.soc_journal.specs.Found.{Counts, IsFront, IsFound, FoundCounts};
 ghost use Rattle.soc_journal.specs.Images.{Stays};
 
-use crate::format::{HEAD, MAX_BODY, OPEN_GATE, has_kind};
+use crate::format::{ENTRY_HEAD, MAX_BODY, OPEN_GATE, has_kind};
 use soc_edge::{Disk, Failed};
 
 /// What the first bytes from a gate on are.
@@ -55,7 +55,7 @@ fn front_at<D: Disk>(disk: &mut D, place: u64) -> Result<Front, Failed>
     ensures never_falls { D.disk_faults disk.old ≤ D.disk_faults disk.new }
     ensures cause { OnErr result (Rose (D.disk_faults disk.old) (D.disk_faults disk.new)) }
 {
-    let mut head = [0; HEAD];
+    let mut head = [0; ENTRY_HEAD];
     let count = disk.read_at(place, &mut head)?;
     Ok(front_of(&head[..count]))
 }
@@ -67,7 +67,7 @@ fn counts(version: u8, kind: u8, length: u32, place: u64, end: u64) -> bool
     has_kind(version, kind)
         && length <= MAX_BODY
         && place <= end
-        && HEAD as u64 + length as u64 <= end - place
+        && ENTRY_HEAD as u64 + length as u64 <= end - place
 }
 
 /// What stands at a place, where an entry counts only if it ends at or before the end.

@@ -11,7 +11,7 @@ ghost use Rattle.soc_journal.specs.Bodies.{GivesBody};
 ghost use Rattle.soc_journal.specs.Found.{Counts};
 
 use crate::error::{OpenError, ReadError};
-use crate::format::{FIRST_GATE, FIRST_VERSION, HEAD, MAGIC, SECOND_VERSION, VERSION_PLACE};
+use crate::format::{ENTRY_HEAD, FIRST_GATE, FIRST_VERSION, MAGIC, SECOND_VERSION, VERSION_PLACE};
 use crate::found::{Found, found_at};
 use crate::journal::Journal;
 use crate::mark::Mark;
@@ -114,7 +114,7 @@ impl Opening {
         let place = self.place;
         match found_at(disk, self.version, place, self.length)? {
             Found::Entry { kind, length } => {
-                self.place = place + HEAD as u64 + length as u64;
+                self.place = place + ENTRY_HEAD as u64 + length as u64;
                 self.ended = false;
                 Ok(Some(Mark {
                     place,
@@ -148,7 +148,7 @@ impl Opening {
         ensures cause { IsErrOf result ReadError.StoreFault → Rose (D.disk_faults disk.old) (D.disk_faults disk.new) }
     {
         prove!(mark.place <= self.length);
-        body_at(alloc, disk, mark.place + HEAD as u64, mark.length)
+        body_at(alloc, disk, mark.place + ENTRY_HEAD as u64, mark.length)
     }
 
     /// The journal, once `next` has answered `None`. One of the first version becomes one of the second, by a write of

@@ -6,7 +6,7 @@ ghost use Rattle.soc_journal.specs.Images.{Stays};
 ghost use Rattle.soc_journal.specs.Bodies.{StandsBefore, ReadsFrom, GivesBody};
 
 use crate::error::ReadError;
-use crate::format::{HEAD, SECOND_VERSION};
+use crate::format::{ENTRY_HEAD, SECOND_VERSION};
 use crate::found::{Found, found_at};
 use crate::journal::Journal;
 use soc_edge::{Disk, Failed};
@@ -30,7 +30,7 @@ impl Journal {
         ensures cause { IsErrOf result ReadError.StoreFault → Rose (D.disk_faults disk.old) (D.disk_faults disk.new) }
     {
         match found_at(disk, SECOND_VERSION, place, self.gate())? {
-            Found::Entry { length, .. } => body_at(alloc, disk, place + HEAD as u64, length),
+            Found::Entry { length, .. } => body_at(alloc, disk, place + ENTRY_HEAD as u64, length),
             Found::Closed => Err(ReadError::Altered),
             Found::Bad => Err(ReadError::Altered),
         }
