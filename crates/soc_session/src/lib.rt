@@ -10,6 +10,8 @@ mod replies;
 mod rows;
 mod rules;
 mod tasks;
+#[cfg(test)]
+mod tests;
 
 pub use connection::session;
 pub use ending::SessionEnd;
