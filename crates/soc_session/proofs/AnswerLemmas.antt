@@ -17,21 +17,11 @@ use Rattle.soc_session.specs.declared.answers.Outcome.{Outcome}
 use Rattle.soc_session.specs.declared.rules.Rules.{Rules}
 use Rattle.soc_session.specs.declared.tasks.Task.{Task}
 use Rattle.soc_session.specs.declared.tasks.Task.TheVariants.{Say, Ask}
-use Rattle.soc_session.specs.Desk.{Asking, IsExchange, IsRead, AnswersPlan}
+use Rattle.soc_session.specs.Desk.{Asking, IsExchange, AnswersPlan}
 use Rattle.soc_session.specs.Plan.{Drawn, Plan, says, keeps, shows, drains, IsAsked, MayDraw, Plans}
 use Rattle.soc_session.specs.Replies.{desk_reply, no_memory}
 use Rattle.soc_session.specs.Rows.{IsRow}
 use Rattle.soc_session.specs.Tasks.{Answers, AnswersTask, Carries, HandsDrawn, IsTask, Tasks, message_of, reply_of}
-
--- a row comes for a read alone
-pub row_read : (command : Command) (reply : Reply) → IsReplyTo command reply → IsRow reply → IsRead command
-row_read (C.Submit raw) (Row row) kind is = absurd kind
-row_read (C.Processed caller id) (Row row) kind is = tt
-row_read (C.Drain caller) (Row row) kind is = absurd kind
-row_read command (Stored id due) kind is = absurd is
-row_read command (Repeated id) kind is = absurd is
-row_read command (Drained count) kind is = absurd is
-row_read command (Refused refusal) kind is = absurd is
 
 -- memory wanted before the desk was asked
 pub Answers-wanting : {K : Type 0} (asks : K → Command → Receipt → K → Type 0) (rules : Rules) (message : Message) (desk : K) (x y : Outlook) (drawn : List Drawn) (outcome : Outcome)
@@ -58,14 +48,14 @@ may_draw rules message [] plan plans = tt
 may_draw rules message (d ∷ more) plan plans = (plan, plans)
 
 answers_asked : (plan : Plan) (command : Command) (asking : Asking) (reply : Answered) → IsTask plan (Ask command) → asking.command ≡ command
-    → IsReplyTo command asking.receipt.reply → (reply ≡ desk_reply asking.receipt.reply) ⊎ (IsRead command × (reply ≡ no_memory)) → AnswersPlan plan (Some asking) reply
+    → IsReplyTo command asking.receipt.reply → (reply ≡ desk_reply asking.receipt.reply) ⊎ (IsRow asking.receipt.reply × (reply ≡ no_memory)) → AnswersPlan plan (Some asking) reply
 answers_asked (says said) command asking reply is same kind how = absurd is
 answers_asked (keeps crash) command asking reply is same kind how =
-    (subst (IsAsked (keeps crash)) (sym same) is, subst (λ c. IsReplyTo c asking.receipt.reply) (sym same) kind, subst (λ c. (reply ≡ desk_reply asking.receipt.reply) ⊎ (IsRead c × (reply ≡ no_memory))) (sym same) how)
+    (subst (IsAsked (keeps crash)) (sym same) is, subst (λ c. IsReplyTo c asking.receipt.reply) (sym same) kind, how)
 answers_asked (shows caller id) command asking reply is same kind how =
-    (subst (IsAsked (shows caller id)) (sym same) is, subst (λ c. IsReplyTo c asking.receipt.reply) (sym same) kind, subst (λ c. (reply ≡ desk_reply asking.receipt.reply) ⊎ (IsRead c × (reply ≡ no_memory))) (sym same) how)
+    (subst (IsAsked (shows caller id)) (sym same) is, subst (λ c. IsReplyTo c asking.receipt.reply) (sym same) kind, how)
 answers_asked (drains caller) command asking reply is same kind how =
-    (subst (IsAsked (drains caller)) (sym same) is, subst (λ c. IsReplyTo c asking.receipt.reply) (sym same) kind, subst (λ c. (reply ≡ desk_reply asking.receipt.reply) ⊎ (IsRead c × (reply ≡ no_memory))) (sym same) how)
+    (subst (IsAsked (drains caller)) (sym same) is, subst (λ c. IsReplyTo c asking.receipt.reply) (sym same) kind, how)
 
 answers_said : (plan : Plan) (said reply : Answered) → IsTask plan (Say said) → reply ≡ said → AnswersPlan plan None reply
 answers_said (says s) said reply is same = same ∙ is
@@ -114,7 +104,7 @@ Carries-asked {K} asks command receipt desk after (Ok answered) reply step kind 
 Carries-asked {K} asks command receipt desk after (Err error) reply step kind is err ok = record {
   asked = Some (record { command = command; receipt = receipt });
   steps = step;
-  answers = subst (AnswersTask (Ask command) (Some (record { command = command; receipt = receipt }))) (sym ok) (refl, kind, row_read command receipt.reply kind err);
+  answers = subst (AnswersTask (Ask command) (Some (record { command = command; receipt = receipt }))) (sym ok) (refl, kind, err);
   stopped = refl;
 }
 

@@ -4,12 +4,12 @@ use Rattle.std.specs.Option.{option_map_or}
 use Rattle.soc_http.specs.declared.reply.Answered.{Answered}
 use Rattle.soc_http.specs.Message.{Message}
 use Rattle.soc_book.specs.declared.desk.Command.{Command}
-use Rattle.soc_book.specs.declared.desk.Command.TheVariants as C
 use Rattle.soc_book.specs.declared.desk.Receipt.{Receipt}
 use Rattle.soc_book.specs.Kinds.{IsReplyTo}
 use Rattle.soc_session.specs.declared.rules.Rules.{Rules}
 use Rattle.soc_session.specs.Plan.{Drawn, Plan, says, IsAsked, Plans, MayDraw}
 use Rattle.soc_session.specs.Replies.{desk_reply, no_memory}
+use Rattle.soc_session.specs.Rows.{IsRow}
 
 -- what the desk was asked, and what it gave
 pub record Asking : Type 0 where
@@ -23,17 +23,12 @@ pub record Exchange : Type 0 where
   pub asked : Option Asking
   pub reply : Answered
 
--- a read changes nothing at the desk: memory may want for its reply
-abbrev pub IsRead : Command → Type 0
-IsRead (C.Submit raw) = ⊥
-IsRead (C.Processed caller id) = ⊤
-IsRead (C.Drain caller) = ⊥
-
+-- the desk's reply is answered as it is; a row alone, which no change stands behind, memory may want for
 abbrev pub AnswersAsking : Plan → Asking → Answered → Type 0
 AnswersAsking plan asking reply =
     IsAsked plan asking.command
     × IsReplyTo asking.command asking.receipt.reply
-    × ((reply ≡ desk_reply asking.receipt.reply) ⊎ (IsRead asking.command × (reply ≡ no_memory)))
+    × ((reply ≡ desk_reply asking.receipt.reply) ⊎ (IsRow asking.receipt.reply × (reply ≡ no_memory)))
 
 -- the desk is asked once for what needs it, and not for what doesn't
 abbrev pub AnswersPlan : Plan → Option Asking → Answered → Type 0

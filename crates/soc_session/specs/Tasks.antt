@@ -13,9 +13,10 @@ use Rattle.soc_session.specs.declared.tasks.Task.TheVariants.{Say, Ask}
 use Rattle.soc_session.specs.declared.answers.Outcome.{Outcome}
 use Rattle.soc_session.specs.declared.rules.Rules.{Rules}
 use Rattle.soc_http.specs.Message.{Message}
-use Rattle.soc_session.specs.Desk.{Asking, Exchange, IsExchange, IsRead, StepsDesk, says_stopped}
+use Rattle.soc_session.specs.Desk.{Asking, Exchange, IsExchange, StepsDesk, says_stopped}
 use Rattle.soc_session.specs.Plan.{Drawn, Plan, says, keeps, shows, drains, IsAsked, MayDrawFor}
 use Rattle.soc_session.specs.Replies.{desk_reply, no_memory}
+use Rattle.soc_session.specs.Rows.{IsRow}
 
 abbrev pub message_of : Head → List ℕ → Message
 message_of head body = record { head = head; body = body }
@@ -58,7 +59,7 @@ AnswersTask (Ask command) None None = ⊤
 AnswersTask (Ask command) None (Some reply) = ⊥
 AnswersTask (Ask command) (Some asking) (Some reply) =
     (asking.command ≡ command) × IsReplyTo command asking.receipt.reply × (reply ≡ desk_reply asking.receipt.reply)
-AnswersTask (Ask command) (Some asking) None = (asking.command ≡ command) × IsReplyTo command asking.receipt.reply × IsRead command
+AnswersTask (Ask command) (Some asking) None = (asking.command ≡ command) × IsReplyTo command asking.receipt.reply × IsRow asking.receipt.reply
 
 -- a task is carried out
 pub record Carries {K : Type 0} (asks : K → Command → Receipt → K → Type 0) (task : Task) (before after : K) (outcome : Outcome) : Type 0 where
