@@ -1,5 +1,8 @@
 //! Why a workload wasn't done.
+use soc_edge::Failed;
+use soc_journal::{AppendError, OpenError};
 use soc_multipart::PartsError;
+use soc_raw::NoMemory;
 use std::alloc::{AllocError, AllocFailed};
 use std::io;
 use thiserror::Error;
@@ -8,7 +11,7 @@ use thiserror::Error;
 #[derive(Debug, Drop, Error)]
 pub enum Fault {
     /// The words name no workload.
-    #[error("usage: soc_bench multipart MEGABYTES [plain|near]")]
+    #[error("usage: soc_bench multipart MEGABYTES [plain|near] | journal ENTRIES SIZE")]
     Words,
     /// An allocation was refused.
     #[error("out of memory")]
@@ -16,6 +19,18 @@ pub enum Fault {
     /// The body that was made has no parts.
     #[error("no parts: {0}")]
     NoParts(PartsError),
+    /// No journal was made.
+    #[error("no journal: {0}")]
+    NoJournal(Failed),
+    /// An entry was not appended.
+    #[error("not appended: {0}")]
+    NotAppended(AppendError),
+    /// The journal that was made is not opened.
+    #[error("not opened: {0}")]
+    NotOpened(OpenError),
+    /// The journal has more entries than were appended.
+    #[error("more entries than were appended")]
+    TooManyEntries,
     /// The system gave no words or no time, or took no text.
     #[error("{0}")]
     Io(io::Error),
@@ -46,6 +61,30 @@ impl<T: Drop> From<AllocFailed<T>> for Fault {
 impl From<PartsError> for Fault {
     fn from(error: PartsError) -> Fault {
         Fault::NoParts(error)
+    }
+}
+
+impl From<NoMemory> for Fault {
+    fn from(_error: NoMemory) -> Fault {
+        Fault::NoMemory
+    }
+}
+
+impl From<Failed> for Fault {
+    fn from(error: Failed) -> Fault {
+        Fault::NoJournal(error)
+    }
+}
+
+impl From<AppendError> for Fault {
+    fn from(error: AppendError) -> Fault {
+        Fault::NotAppended(error)
+    }
+}
+
+impl From<OpenError> for Fault {
+    fn from(error: OpenError) -> Fault {
+        Fault::NotOpened(error)
     }
 }
 

@@ -5,7 +5,9 @@
 mod bodies;
 mod counts;
 mod fault;
+mod journal;
 mod multipart;
+mod numbers;
 mod timing;
 
 use fault::Fault;
@@ -35,6 +37,7 @@ fn run(rt: &(impl Env + Clock + Print + Eprint + AllocGlobal)) -> Result<(), Fau
     };
     match workload.as_str() {
         "multipart" => multipart::run(rt, words),
+        "journal" => journal::run(rt, words),
         _ => Err(Fault::Words),
     }
 }

@@ -5,3 +5,8 @@ use std::time::Duration;
 pub fn megabytes_a_second(bytes: u128, elapsed: Duration) -> u128 {
     bytes / elapsed.as_micros().max(1)
 }
+
+/// How often a second it was done, of so many times.
+pub fn a_second(times: u64, elapsed: Duration) -> u128 {
+    u128::from(times) * 1_000_000 / elapsed.as_micros().max(1)
+}
