@@ -3,6 +3,7 @@ use soc_edge::Failed;
 use soc_journal::{AppendError, OpenError};
 use soc_multipart::PartsError;
 use soc_raw::NoMemory;
+use soc_symfile::SymError;
 use std::alloc::{AllocError, AllocFailed};
 use std::io;
 use thiserror::Error;
@@ -11,7 +12,7 @@ use thiserror::Error;
 #[derive(Debug, Drop, Error)]
 pub enum Fault {
     /// The words name no workload.
-    #[error("usage: soc_bench multipart MEGABYTES [plain|near] | journal ENTRIES SIZE")]
+    #[error("usage: soc_bench multipart MEGABYTES [plain|near] | journal ENTRIES SIZE | symbols MEGABYTES")]
     Words,
     /// An allocation was refused.
     #[error("out of memory")]
@@ -31,6 +32,9 @@ pub enum Fault {
     /// The journal has more entries than were appended.
     #[error("more entries than were appended")]
     TooManyEntries,
+    /// The symbol text that was made is not read.
+    #[error("no symbols: {0}")]
+    NoSymbols(SymError),
     /// The system gave no words or no time, or took no text.
     #[error("{0}")]
     Io(io::Error),
@@ -85,6 +89,12 @@ impl From<AppendError> for Fault {
 impl From<OpenError> for Fault {
     fn from(error: OpenError) -> Fault {
         Fault::NotOpened(error)
+    }
+}
+
+impl From<SymError> for Fault {
+    fn from(error: SymError) -> Fault {
+        Fault::NoSymbols(error)
     }
 }
 

@@ -8,6 +8,9 @@ mod fault;
 mod journal;
 mod multipart;
 mod numbers;
+mod offsets;
+mod symbol_text;
+mod symbols;
 mod timing;
 
 use fault::Fault;
@@ -38,6 +41,7 @@ fn run(rt: &(impl Env + Clock + Print + Eprint + AllocGlobal)) -> Result<(), Fau
     match workload.as_str() {
         "multipart" => multipart::run(rt, words),
         "journal" => journal::run(rt, words),
+        "symbols" => symbols::run(rt, words),
         _ => Err(Fault::Words),
     }
 }
