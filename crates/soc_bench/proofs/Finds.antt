@@ -1,5 +1,5 @@
 -- One more entry of a journal is found, or all of them were.
-use Rattle.std.proofs.Common.{◌≡◌, ℕ, ◌+◌, Bool, true, false, Option, Some, None, is_none, unwrap_or, Ok, List, [], ◌∷◌, ◌++◌, length, sym, ◌∙◌, ap, subst}
+use Rattle.std.proofs.Common.{◌≡◌, ℕ, ◌+◌, Bool, true, false, Option, Some, None, is_some, unwrap_or, Ok, List, [], ◌∷◌, ◌++◌, length, sym, ◌∙◌, ap, subst}
 use Rattle.std.proofs.lemmas.List.{length_push}
 use Rattle.soc_journal.specs.Entries.{Entry}
 use Rattle.soc_journal.specs.Text.{JournalText, IsOneText}
@@ -16,7 +16,7 @@ still entries now bytes same text = subst (λ (b : List ℕ). JournalText entrie
 
 module _ (count : ℕ) (opening next : OpeningState) (bytes : List ℕ) (images after : List ℕ → Type 0) (so_far : HasFound count opening bytes images) where
   pub found_more : (mark : Option Mark) (now : List ℕ) → ((entries : List Entry) → HasRead opening entries bytes images → Finds entries bytes after (Ok mark) next)
-      → is_none mark ≡ false → Some now ≡ Some bytes → HasFound (count + 1) next now after
+      → is_some mark ≡ true → Some now ≡ Some bytes → HasFound (count + 1) next now after
   found_more None now finds some same = absurd (let no : ⊥ = cc in no)
   found_more (Some mark) now finds some same =
       let more = finds so_far.entries so_far.read in
@@ -27,7 +27,7 @@ module _ (count : ℕ) (opening next : OpeningState) (bytes : List ℕ) (images 
       })
 
   pub found_all : (mark : Option Mark) → ((entries : List Entry) → HasRead opening entries bytes images → Finds entries bytes after (Ok mark) next)
-      → is_none mark ≡ true → IsOneText → (entries : List Entry) → JournalText entries bytes → count ≡ length entries
+      → is_some mark ≡ false → IsOneText → (entries : List Entry) → JournalText entries bytes → count ≡ length entries
   found_all (Some mark) finds none one entries text = absurd (let no : ⊥ = cc in no)
   found_all None finds none one entries text =
       sym so_far.many ∙ ap length (one bytes so_far.entries entries (finds so_far.entries so_far.read).text text)
