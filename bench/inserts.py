@@ -11,6 +11,7 @@ body = b"x" * size
 
 database = sqlite3.connect(name, isolation_level=None)
 database.execute("PRAGMA synchronous=FULL")
+database.execute("PRAGMA journal_mode=TRUNCATE")
 database.execute("CREATE TABLE journal (place INTEGER PRIMARY KEY, kind TEXT, body BLOB)")
 
 start = time.monotonic()

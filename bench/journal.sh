@@ -10,9 +10,9 @@ size=${2:-1000}
 program=crates/soc_bench/out/soc_bench
 [ -x "$program" ] || { echo "build $program first: cd crates/soc_bench && rt run" >&2; exit 1; }
 
-folder=$(mktemp -d)
-trap 'rm -rf "$folder"' EXIT
+database=$(mktemp)
+trap ': > "$database"' EXIT
 
 "$program" journal "$entries" "$size"
 python3 bench/inserts.py :memory: "$entries" "$size"
-python3 bench/inserts.py "$folder/journal.sqlite" "$entries" "$size"
+python3 bench/inserts.py "$database" "$entries" "$size"
