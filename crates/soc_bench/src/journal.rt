@@ -86,12 +86,7 @@ fn empty_disk(alloc: Global, limit: u64, count: u64) -> Result<MemDisk, NoMemory
 }
 
 /// Makes a journal on an empty disk, and appends an entry to it so often.
-fn write_entries(
-    disk: &mut MemDisk,
-    limit: u64,
-    entry: &EntryText,
-    count: u64,
-) -> Result<(), Fault>
+fn write_entries(disk: &mut MemDisk, limit: u64, entry: &EntryText, count: u64) -> Result<(), Fault>
     requires { content_of disk.old ≡ [] }
     ensures { OnOk result (JournalText (replicate count entry.now) (content_of disk.new)) }
 {

@@ -55,7 +55,10 @@ fn write_function(text: &mut String, function: u64) -> Result<(), AllocError>
     writeln!(text, "{second:x} 10 102 {file}")?;
     writeln!(text, "{third:x} 20 103 {file}")?;
     let pushed = address + 1;
-    writeln!(text, "STACK CFI INIT {address:x} 40 .cfa: $rsp 8 + .ra: .cfa -8 + ^")?;
+    writeln!(
+        text,
+        "STACK CFI INIT {address:x} 40 .cfa: $rsp 8 + .ra: .cfa -8 + ^"
+    )?;
     writeln!(text, "STACK CFI {pushed:x} .cfa: $rsp 16 +")
 }
 

@@ -50,7 +50,10 @@ fn look_up(
     let found = found_among(&file, offsets);
     let look_up_rate = a_second(offsets.len() as u64, start.elapsed(rt)?);
     let lines = line_count(text);
-    println!(rt; "symbols: {lines} lines, {} look-ups, {found} found", offsets.len())?;
+    println!(rt;
+        "symbols: {lines} lines, {} look-ups, {found} found",
+        offsets.len()
+    )?;
     eprintln!(rt; "symbols: {rate} MB/s read, {look_up_rate} look-ups/s")?;
     Ok(())
 }
