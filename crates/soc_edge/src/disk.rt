@@ -1,6 +1,7 @@
 // A disk, whose writes are safe only after a sync.
 ghost use Rattle.std.specs.Prelude.{◌≡◌, ℕ, ◌<◌, ◌≤◌, List, Option, Some, length, IfSome, IfOk, OnOk, OnErr};
 ghost use Rattle.std.specs.Option.{option_map};
+ghost use Rattle.soc_edge.specs.Calls.{one_more};
 ghost use Rattle.soc_edge.specs.Disk.{written, Tears, ReadsAt, WhereTold, Follows, NoMore, Only, Elapses};
 ghost use Rattle.soc_edge.specs.Faults.{Rose};
 
@@ -23,6 +24,9 @@ pub trait Disk {
     /// The images that a stop at that moment or a later one, until now, might have left.
     ghost left_since: { Self → ℕ → List ℕ → Type 0 };
 
+    /// How many calls were made.
+    ghost disk_calls: { Self → ℕ };
+
     /// How often a call has failed.
     ghost disk_faults: { Self → ℕ };
 
@@ -32,6 +36,7 @@ pub trait Disk {
         ensures same { content self.new ≡ content self.old }
         ensures images { NoMore (may_leave self.old) (may_leave self.new) }
         ensures time { Elapses moment left_since may_leave self.old self.new }
+        ensures counted { disk_calls self.new ≡ one_more (disk_calls self.old) }
         ensures never_falls { disk_faults self.old ≤ disk_faults self.new }
         ensures cause { OnErr result (Rose (disk_faults self.old) (disk_faults self.new)) };
 
@@ -43,6 +48,7 @@ pub trait Disk {
         ensures same { content self.new ≡ content self.old }
         ensures images { NoMore (may_leave self.old) (may_leave self.new) }
         ensures time { Elapses moment left_since may_leave self.old self.new }
+        ensures counted { disk_calls self.new ≡ one_more (disk_calls self.old) }
         ensures never_falls { disk_faults self.old ≤ disk_faults self.new }
         ensures cause { OnErr result (Rose (disk_faults self.old) (disk_faults self.new)) };
 
@@ -52,6 +58,7 @@ pub trait Disk {
         ensures torn { OnErr result (WhereTold (Tears place (length bytes.now)) (content self.old) (content self.new)) }
         ensures images { Follows (Tears place (length bytes.now)) (may_leave self.old) (may_leave self.new) }
         ensures time { Elapses moment left_since may_leave self.old self.new }
+        ensures counted { disk_calls self.new ≡ one_more (disk_calls self.old) }
         ensures never_falls { disk_faults self.old ≤ disk_faults self.new }
         ensures cause { OnErr result (Rose (disk_faults self.old) (disk_faults self.new)) };
 
@@ -61,6 +68,7 @@ pub trait Disk {
         ensures same { content self.new ≡ content self.old }
         ensures images { NoMore (may_leave self.old) (may_leave self.new) }
         ensures time { Elapses moment left_since may_leave self.old self.new }
+        ensures counted { disk_calls self.new ≡ one_more (disk_calls self.old) }
         ensures never_falls { disk_faults self.old ≤ disk_faults self.new }
         ensures cause { OnErr result (Rose (disk_faults self.old) (disk_faults self.new)) };
 
@@ -83,6 +91,8 @@ impl<D: Disk> Disk for &mut D {
     ghost moment = { λ d. D.moment d.now };
 
     ghost left_since = { λ d. D.left_since d.now };
+
+    ghost disk_calls = { λ d. D.disk_calls d.now };
 
     ghost disk_faults = { λ d. D.disk_faults d.now };
 

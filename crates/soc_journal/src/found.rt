@@ -1,5 +1,5 @@
 // What stands on a disk where a gate is wanted.
-ghost use Rattle.std.specs.Prelude.{◌≤◌, drop, IfSome, IfOk, OnErr, IsTrue, ◌↔◌};
+ghost use Rattle.std.specs.Prelude.{◌≤◌, ◌+◌, drop, IfSome, IfOk, OnErr, IsTrue, ◌↔◌};
 ghost use Rattle.soc_edge.specs.Faults.{Rose};
 ghost use Rattle.soc_journal.specs.Found.{Counts, IsFront, IsFound, FoundCounts};
 ghost use Rattle.soc_journal.specs.Images.{Stays};
@@ -52,6 +52,7 @@ fn front_of(bytes: &[u8]) -> Front
 fn front_at<D: Disk>(disk: &mut D, place: u64) -> Result<Front, Failed>
     ensures front { IfOk result (λ front. IfSome (D.content disk.old) (λ bytes. IsFront (drop place bytes) front)) }
     ensures disk_stays { Stays D.content D.may_leave D.moment D.left_since disk.old disk.new }
+    ensures calls { D.disk_calls disk.new ≤ D.disk_calls disk.old + 1 }
     ensures never_falls { D.disk_faults disk.old ≤ D.disk_faults disk.new }
     ensures cause { OnErr result (Rose (D.disk_faults disk.old) (D.disk_faults disk.new)) }
 {
@@ -75,6 +76,7 @@ pub fn found_at<D: Disk>(disk: &mut D, version: u8, place: u64, end: u64) -> Res
     ensures found { IfOk result (λ found. IfSome (D.content disk.old) (λ bytes. IsFound version place end (drop place bytes) found)) }
     ensures counts { IfOk result (λ found. FoundCounts version place end found) }
     ensures disk_stays { Stays D.content D.may_leave D.moment D.left_since disk.old disk.new }
+    ensures calls { D.disk_calls disk.new ≤ D.disk_calls disk.old + 1 }
     ensures never_falls { D.disk_faults disk.old ≤ D.disk_faults disk.new }
     ensures cause { OnErr result (Rose (D.disk_faults disk.old) (D.disk_faults disk.new)) }
 {

@@ -48,6 +48,7 @@ impl Journal {
         ensures journal { IfOk result (λ journal. journal ≡ record { gate = 8; limit = limit; doubt = None }) }
         ensures content { OnOk result (D.content disk.new ≡ option_map (λ _. empty_journal) (D.content disk.old)) }
         ensures at_rest { IfOk result (λ journal. IfSome (D.content disk.new) (λ bytes. AtRest journal [] bytes (D.may_leave disk.new))) }
+        ensures calls { D.disk_calls disk.new ≤ D.disk_calls disk.old + 2 }
         ensures never_falls { D.disk_faults disk.old ≤ D.disk_faults disk.new }
         ensures cause { OnErr result (Rose (D.disk_faults disk.old) (D.disk_faults disk.new)) }
     {
@@ -92,6 +93,7 @@ impl Journal {
             (entries : List Entry) → AtRest self.old entries bytes (D.may_leave disk.old)
             → LeavesOnly D.moment D.left_since disk.old disk.new (StandsForEither entries entry.now)) }
 
+        ensures calls { D.disk_calls disk.new ≤ D.disk_calls disk.old + 4 }
         ensures never_falls { D.disk_faults disk.old ≤ D.disk_faults disk.new }
         ensures cause { IsErrOf result AppendError.StoreFault → Rose (D.disk_faults disk.old) (D.disk_faults disk.new) }
     {
@@ -131,6 +133,7 @@ impl Journal {
             → InDoubt self.new entries entry bytes (D.may_leave disk.new))) }
 
         ensures disk_stays { Stays D.content D.may_leave D.moment D.left_since disk.old disk.new }
+        ensures calls { D.disk_calls disk.new ≤ D.disk_calls disk.old + 2 }
         ensures never_falls { D.disk_faults disk.old ≤ D.disk_faults disk.new }
         ensures cause { OnErr result (Rose (D.disk_faults disk.old) (D.disk_faults disk.new)) }
     {
@@ -179,6 +182,7 @@ fn settled_gate<D: Disk>(disk: &mut D, place: u64) -> Result<bool, Failed>
     ensures open_gate { IfOk result (λ is_open. IfSome (D.content disk.old) (λ bytes. IsTrue is_open ↔ ReadsOpen bytes place)) }
     ensures only { OnOk result (IfSome (D.content disk.old) (λ bytes. Only bytes (D.may_leave disk.new))) }
     ensures disk_stays { Stays D.content D.may_leave D.moment D.left_since disk.old disk.new }
+    ensures calls { D.disk_calls disk.new ≤ D.disk_calls disk.old + 2 }
     ensures never_falls { D.disk_faults disk.old ≤ D.disk_faults disk.new }
     ensures cause { OnErr result (Rose (D.disk_faults disk.old) (D.disk_faults disk.new)) }
 {

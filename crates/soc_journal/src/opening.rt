@@ -63,6 +63,7 @@ impl Journal {
         ensures disk_stays { IfSome (D.content disk.old) (λ bytes.
             bytes ≢ [] → Stays D.content D.may_leave D.moment D.left_since disk.old disk.new) }
 
+        ensures calls { D.disk_calls disk.new ≤ D.disk_calls disk.old + 4 }
         ensures never_falls { D.disk_faults disk.old ≤ D.disk_faults disk.new }
         ensures cause { IsErrOf result OpenError.StoreFault → Rose (D.disk_faults disk.old) (D.disk_faults disk.new) }
     {
@@ -108,6 +109,7 @@ impl Opening {
         ensures no_other { IfErr result (λ error. (error ≢ OpenError.NotOurs) × (error ≢ OpenError.NoMemory)) }
 
         ensures disk_stays { Stays D.content D.may_leave D.moment D.left_since disk.old disk.new }
+        ensures calls { D.disk_calls disk.new ≤ D.disk_calls disk.old + 1 }
         ensures never_falls { D.disk_faults disk.old ≤ D.disk_faults disk.new }
         ensures cause { IsErrOf result OpenError.StoreFault → Rose (D.disk_faults disk.old) (D.disk_faults disk.new) }
     {
@@ -144,6 +146,7 @@ impl Opening {
             → IfOk result (λ body. body ≡ entry.body)) }
         ensures gives { IfSome (D.content disk.old) (λ bytes. GivesBody bytes (mark.now.place + 6) mark.now.length result) }
         ensures disk_stays { Stays D.content D.may_leave D.moment D.left_since disk.old disk.new }
+        ensures calls { D.disk_calls disk.new ≤ D.disk_calls disk.old + 1 }
         ensures never_falls { D.disk_faults disk.old ≤ D.disk_faults disk.new }
         ensures cause { IsErrOf result ReadError.StoreFault → Rose (D.disk_faults disk.old) (D.disk_faults disk.new) }
     {
@@ -170,6 +173,7 @@ impl Opening {
             → IsSomeAnd (D.content disk.new) (StandsFor entries)) }
 
         ensures untouched { self.version ≢ first_version → disk.new ≡ disk.old }
+        ensures calls { D.disk_calls disk.new ≤ D.disk_calls disk.old + 2 }
         ensures never_falls { D.disk_faults disk.old ≤ D.disk_faults disk.new }
         ensures cause { OnErr result (Rose (D.disk_faults disk.old) (D.disk_faults disk.new)) }
     {
@@ -187,6 +191,7 @@ fn synced_len<D: Disk>(disk: &mut D) -> Result<u64, Failed>
     ensures count { IfOk result (λ n. IfSome (D.content disk.old) (λ bytes. n ≡ length bytes)) }
     ensures only { OnOk result (IfSome (D.content disk.old) (λ bytes. Only bytes (D.may_leave disk.new))) }
     ensures disk_stays { Stays D.content D.may_leave D.moment D.left_since disk.old disk.new }
+    ensures calls { D.disk_calls disk.new ≤ D.disk_calls disk.old + 2 }
     ensures never_falls { D.disk_faults disk.old ≤ D.disk_faults disk.new }
     ensures cause { OnErr result (Rose (D.disk_faults disk.old) (D.disk_faults disk.new)) }
 {
@@ -199,6 +204,7 @@ fn version_at<D: Disk>(disk: &mut D) -> Result<Option<u8>, Failed>
     ensures version { IfOk result (λ version. IfSome (D.content disk.old) (λ bytes.
         MatchOption version (¬ (HasHeader bytes)) (λ v. HasHeader bytes × (v ≡ version_of bytes)))) }
     ensures disk_stays { Stays D.content D.may_leave D.moment D.left_since disk.old disk.new }
+    ensures calls { D.disk_calls disk.new ≤ D.disk_calls disk.old + 1 }
     ensures never_falls { D.disk_faults disk.old ≤ D.disk_faults disk.new }
     ensures cause { OnErr result (Rose (D.disk_faults disk.old) (D.disk_faults disk.new)) }
 {

@@ -26,6 +26,7 @@ impl Journal {
         ensures found { OnOk result (IfSome (D.content disk.old) (λ bytes.
             (entry : Entry) × StandsBefore bytes place self.now.gate entry)) }
         ensures disk_stays { Stays D.content D.may_leave D.moment D.left_since disk.old disk.new }
+        ensures calls { D.disk_calls disk.new ≤ D.disk_calls disk.old + 2 }
         ensures never_falls { D.disk_faults disk.old ≤ D.disk_faults disk.new }
         ensures cause { IsErrOf result ReadError.StoreFault → Rose (D.disk_faults disk.old) (D.disk_faults disk.new) }
     {
@@ -60,6 +61,7 @@ pub(crate) fn body_at<D: Disk>(
 ) -> Result<Bytes, ReadError>
     ensures gives { IfSome (D.content disk.old) (λ bytes. GivesBody bytes place length result) }
     ensures disk_stays { Stays D.content D.may_leave D.moment D.left_since disk.old disk.new }
+    ensures calls { D.disk_calls disk.new ≤ D.disk_calls disk.old + 1 }
     ensures never_falls { D.disk_faults disk.old ≤ D.disk_faults disk.new }
     ensures cause { IsErrOf result ReadError.StoreFault → Rose (D.disk_faults disk.old) (D.disk_faults disk.new) }
 {
@@ -109,6 +111,7 @@ fn reads_piece<D: Disk>(
     requires { length into.old ≡ length piece.now }
     ensures holds { IfOk result (λ holds. IfSome (D.content disk.old) (λ bytes. IsTrue holds ↔ ReadsFrom bytes place piece.now)) }
     ensures disk_stays { Stays D.content D.may_leave D.moment D.left_since disk.old disk.new }
+    ensures calls { D.disk_calls disk.new ≤ D.disk_calls disk.old + 1 }
     ensures never_falls { D.disk_faults disk.old ≤ D.disk_faults disk.new }
     ensures cause { OnErr result (Rose (D.disk_faults disk.old) (D.disk_faults disk.new)) }
 {

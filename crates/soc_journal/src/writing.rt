@@ -1,5 +1,5 @@
 // Writing to a disk, so that a stop can't take it back.
-ghost use Rattle.std.specs.Prelude.{◌≡◌, ◌≤◌, length, IfSome, OnOk, OnErr};
+ghost use Rattle.std.specs.Prelude.{◌≡◌, ◌+◌, ◌≤◌, length, IfSome, OnOk, OnErr};
 ghost use Rattle.std.specs.Option.{option_map};
 ghost use Rattle.soc_edge.specs.Disk.{written, Tears, WhereTold, Follows, Only, LeavesOnly};
 ghost use Rattle.soc_edge.specs.Faults.{Rose};
@@ -14,6 +14,7 @@ pub fn write_and_sync<D: Disk>(disk: &mut D, place: u64, bytes: &[u8]) -> Result
     ensures torn { OnErr result (WhereTold (Tears place (length bytes.now)) (D.content disk.old) (D.content disk.new)) }
     ensures images { Follows (Tears place (length bytes.now)) (D.may_leave disk.old) (D.may_leave disk.new) }
     ensures any_moment { LeavesOnly D.moment D.left_since disk.old disk.new (IsTorn (D.may_leave disk.old) place (length bytes.now)) }
+    ensures calls { D.disk_calls disk.new ≤ D.disk_calls disk.old + 2 }
     ensures never_falls { D.disk_faults disk.old ≤ D.disk_faults disk.new }
     ensures cause { OnErr result (Rose (D.disk_faults disk.old) (D.disk_faults disk.new)) }
 {

@@ -207,6 +207,8 @@ impl Disk for MemDisk {
 
     ghost left_since = { left_since_of };
 
+    ghost disk_calls = { λ d. d.calls.made };
+
     ghost disk_faults = { λ d. d.calls.failed };
 
     ghost reads_as_image = { λ d bytes told. IsImage-told d.first d.log bytes told };
