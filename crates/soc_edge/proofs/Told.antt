@@ -1,7 +1,7 @@
 -- That appends and reads go on: of told content, one step after another.
-use Rattle.std.proofs.Common.{◌≡◌, ℕ, ◌+◌, ◌-◌, ◌<◌, ◌≤◌, List, [], ◌++◌, length, take, drop, Option, Some, None, refl, sym, ◌∙◌, ap, append_assoc}
-use Rattle.std.proofs.lemmas.List.{append-nil, take_at, take-append-drop, drop-drop, take_rest, length-take-le}
-use Rattle.std.proofs.Math.Seq.{take-add}
+use Rattle.std.proofs.Common.{◌≡◌, ℕ, ◌+◌, ◌-◌, ◌<◌, ◌≤◌, List, [], ◌++◌, length, take, drop, Option, Some, None, refl, sym, subst, ◌∙◌, ap, append_assoc, arith, length-append}
+use Rattle.std.proofs.lemmas.List.{append-nil, take_at, take-append-drop, drop-drop, take_rest, length-take-le, take-append-le}
+use Rattle.std.proofs.Math.Seq.{take-add, take-append-add}
 use Rattle.std.specs.Io.KnownBytes.{append_known, prepend_known}
 use Rattle.soc_edge.specs.Told.{Gives, Takes, TakesFront}
 
@@ -76,6 +76,27 @@ Takes-more before middle after bytes rest at n is first then =
 pub TakesFront-failed : (before middle after : Option (List ℕ)) (bytes : List ℕ) (at : ℕ) → at < length bytes → Takes before middle (take at bytes) → after ≡ middle → TakesFront before after bytes
 TakesFront-failed before middle after bytes at less first same =
     record { count = at; not_all = less; takes = same ∙ first }
+
+-- a front of bytes that go on
+pub TakesFront-longer : (before after : Option (List ℕ)) (bytes more : List ℕ) → TakesFront before after bytes → TakesFront before after (bytes ++ more)
+TakesFront-longer before after bytes more front =
+    let less : front.count < length bytes = front.not_all in
+    let within : front.count ≤ length bytes = omega arith in
+    record {
+      count = front.count;
+      not_all = omega (arith, length-append bytes more);
+      takes = subst (Takes before after) (sym (take-append-le front.count bytes more within)) front.takes;
+    }
+
+-- a front behind bytes that were taken whole
+pub TakesFront-behind : (before middle after : Option (List ℕ)) (bytes more : List ℕ) → Takes before middle bytes → TakesFront middle after more → TakesFront before after (bytes ++ more)
+TakesFront-behind before middle after bytes more taken front =
+    let less : front.count < length more = front.not_all in
+    record {
+      count = length bytes + front.count;
+      not_all = omega (arith, length-append bytes more);
+      takes = subst (Takes before after) (sym (take-append-add bytes more front.count)) (Takes-append before middle after bytes (take front.count more) taken front.takes);
+    }
 
 -- the same of a slice of the bytes, as a read finds it
 pub copied-left : (left bytes slice copied room : List ℕ) (at n : ℕ) → left ≡ drop at bytes → slice ≡ bytes → copied ≡ take n (take (length slice - at) (drop at slice)) → length copied ≡ length (take n room) → n ≤ length room → Some left ≡ Some (take n (copied ++ drop n room) ++ drop (at + n) bytes)

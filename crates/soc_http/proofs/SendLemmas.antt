@@ -5,29 +5,8 @@ use Rattle.std.proofs.lemmas.Grind.{flat_map-append}
 use Rattle.std.specs.Borrow.{Bor}
 use Rattle.std.proofs.Math.Seq.{take-append-add}
 use Rattle.soc_edge.specs.Told.{Takes, TakesFront}
-use Rattle.soc_edge.proofs.Told.{Takes-append}
+use Rattle.soc_edge.proofs.Told.{Takes-append, TakesFront-longer, TakesFront-behind}
 use Rattle.soc_http.specs.Pieces.{IsSent, pieces_text}
-
--- a front of a text that goes on
-pub TakesFront-longer : (a b : Option (List ℕ)) (xs ys : List ℕ) → TakesFront a b xs → TakesFront a b (xs ++ ys)
-TakesFront-longer a b xs ys p =
-    let less : p.count < length xs = p.not_all in
-    let within : p.count ≤ length xs = omega arith in
-    record {
-      count = p.count;
-      not_all = omega (arith, length-append xs ys);
-      takes = subst (Takes a b) (sym (take-append-le p.count xs ys within)) p.takes;
-    }
-
--- a front behind bytes that were taken whole
-pub TakesFront-behind : (a b c : Option (List ℕ)) (xs ys : List ℕ) → Takes a b xs → TakesFront b c ys → TakesFront a c (xs ++ ys)
-TakesFront-behind a b c xs ys p q =
-    let less : q.count < length ys = q.not_all in
-    record {
-      count = length xs + q.count;
-      not_all = omega (arith, length-append xs ys);
-      takes = subst (Takes a c) (sym (take-append-add xs ys q.count)) (Takes-append a b c xs (take q.count ys) p q.takes);
-    }
 
 -- the pending bytes were written
 pub IsSent-flushed : (s a b : Option (List ℕ)) (p d : List ℕ) → IsSent s a p d → Takes a b p → Takes s b d

@@ -1,5 +1,6 @@
 use Rattle.std.proofs.lemmas.Result.{err_from_is_err_and}
-use Rattle.soc_http.proofs.SendLemmas.{IsSent-written, TakesFront-pending, TakesFront-piece, TakesFront-longer}
+use Rattle.soc_edge.proofs.Told.{TakesFront-longer}
+use Rattle.soc_http.proofs.SendLemmas.{IsSent-written, TakesFront-pending, TakesFront-piece}
 use Rattle.soc_http.proofs.pieces.put.Goals as goal
 
 pub returns-in_err-flush-clause-front : goal.returns-in_err-flush-clause-front
