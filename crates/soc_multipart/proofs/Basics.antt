@@ -1,5 +1,5 @@
 -- Facts on clauses, lists and runs that every reader of this crate needs.
-use Rattle.std.proofs.Common.{◌≡◌, ℕ, ◌<◌, ◌≤◌, List, [], ◌∷◌, ◌++◌, length, take, drop, get_or, Bool, true, false, sym, refl, ap, ◌∙◌, subst, arith, add-zero, MatchOption, MatchBool, is_some, IsTrue, ◌↔◌, ◌==◌, Option, Some, None}
+use Rattle.std.proofs.Common.{◌≡◌, ℕ, ◌<◌, ◌≤◌, List, [], ◌∷◌, ◌++◌, length, take, drop, get_or, Bool, true, false, sym, refl, ap, ◌∙◌, subst, arith, add-zero, MatchOption, MatchBool, IsTrue, ◌↔◌, ◌==◌, Option, Some, None}
 use Rattle.std.specs.List.{prefix_len, AllPass}
 use Rattle.std.proofs.lemmas.Bool.Decides.{nat_tests}
 use Rattle.std.proofs.lemmas.List.{append_cancel_left, append_cancel_right, take-append-drop, length-take, length-drop, get_or-take, get_or-drop}
@@ -94,12 +94,3 @@ zero_from_test n b e f = grind (arith, nat_tests)
 
 pub some_from_test : (n : ℕ) (b : Bool) → b ≡ (n == 0) → b ≡ false → n ≡ 0 → ⊥
 some_from_test n b e f g = grind (arith, nat_tests)
-
--- what `is_some` says of an answer by cases
-pub some_by_test : {X : Type 0} (r : Option X) (b : Bool) (P : Type 0) (Q : X → Type 0) → MatchOption r P Q → b ≡ is_some r → b ≡ true → (x : X) × Q x
-some_by_test None b P Q h e f = absurd (let clash : ⊥ = cc in clash)
-some_by_test (Some x) b P Q h e f = (x, h)
-
-pub none_by_test : {X : Type 0} (r : Option X) (b : Bool) (P : Type 0) (Q : X → Type 0) → MatchOption r P Q → b ≡ is_some r → b ≡ false → P
-none_by_test None b P Q h e f = h
-none_by_test (Some x) b P Q h e f = absurd (let clash : ⊥ = cc in clash)

@@ -15,5 +15,6 @@ pub mod ParamLemmas
 pub mod PartLemmas
 pub mod PartSizes
 pub mod RefusalLemmas
+pub mod SeenLemmas
 pub mod SubmissionLemmas
 pub mod TokenSizes

@@ -9,6 +9,7 @@ use crate::delimiters::split_blanks;
 use soc_raw::NoMemory;
 use soc_text::strip_front;
 use std::alloc::Global;
+use std::collections::BTreeSet;
 
 /// A parameter.
 #[derive(Debug, Drop)]
@@ -42,13 +43,17 @@ pub fn params<'a>(
     ensures { IfOk result (λ found. MatchOption found ((params : List ParamText) → ¬ (AreParams spaced text.now params)) (λ params. AreParams spaced text.now (param_texts params.items))) }
 {
     let mut found = Vec::new(alloc);
+    // The names so far, in lower case.
+    let mut seen = BTreeSet::new(alloc);
     let mut rest = text;
     while !rest.is_empty() {
         let Some(read) = read_param(alloc, spaced, rest)? else {
             return Ok(None);
         };
         let ReadParam { param, rest: later } = read;
-        if find_param(found.as_slice(), param.name).is_some() {
+        let name = param.name.to_ascii_lowercase(alloc)?;
+        let is_new = seen.insert(name)?;
+        if !is_new {
             return Ok(None);
         }
         found.push(param)?;
