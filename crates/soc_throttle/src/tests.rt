@@ -65,97 +65,50 @@ fn annotations(alloc: Global, pairs: &[(&str, &str)]) -> Result<Texts, Fail> {
     Ok(texts)
 }
 
+/// Arrays of rules without a bad one.
+const GOOD: [&str; 6] = [
+    "rule = []",
+    "rule = [{name = 'a', form = 'always', result = 'accept'}]",
+    "rule = [{name = 'abcdefghij_123456789_abcdefghij_12345678', form = 'always', result = 'accept'}]",
+    "rule = [{name = 'a', form = 'always', result = 'accept', percent = 0}]",
+    "rule = [{name = 'a', form = 'always', result = 'accept', percent = 100}]",
+    "rule = [{name = 'a', form = 'one_of', result = 'accept', key = 'k', value = []}]",
+];
+
+/// No array, or an array whose first rule is bad.
+const BAD: [&str; 16] = [
+    "rule = 1",
+    "rule = [1]",
+    "rule = [{name = 'a', form = 'never', result = 'accept'}]",
+    "rule = [{name = 'a', form = 'always', result = 'Accept'}]",
+    "rule = [{name = 'a', form = 'always', result = 'accept', key = 'k'}]",
+    "rule = [{name = 'a', form = 'always', result = 'accept', colour = 1}]",
+    "rule = [{name = '', form = 'always', result = 'accept'}]",
+    "rule = [{name = 'A', form = 'always', result = 'accept'}]",
+    "rule = [{name = 'abcdefghij_123456789_abcdefghij_123456789', form = 'always', result = 'accept'}]",
+    "rule = [{name = 'a', form = 'always', result = 'accept', percent = 101}]",
+    "rule = [{name = 'a', form = 'always', result = 'accept', percent = -1}]",
+    "rule = [{name = 'a', form = 'present', result = 'accept'}]",
+    "rule = [{name = 'a', form = 'present', result = 'accept', key = 'k', value = 'v'}]",
+    "rule = [{name = 'a', form = 'equals', result = 'accept', key = 'k', value = ['v']}]",
+    "rule = [{name = 'a', form = 'one_of', result = 'accept', key = 'k', value = 'v'}]",
+    "rule = [{name = 'a', form = 'one_of', result = 'accept', key = 'k', value = ['v', 1]}]",
+];
+
+/// A good rule and a bad one.
+const BAD_BEHIND: &str =
+    "rule = [{name = 'a', form = 'always', result = 'accept'}, {name = 'a', form = 'always'}]";
+
 #[test]
 fn names_the_first_bad_rule(rt: HostRuntime) -> Result<(), Fail> {
     let alloc = rt.alloc();
-    let rows = [
-        ("rule = []", None),
-        ("rule = 1", Some(0)),
-        ("rule = [1]", Some(0)),
-        (
-            "rule = [{name = 'a', form = 'always', result = 'accept'}]",
-            None,
-        ),
-        (
-            "rule = [{name = 'a', form = 'always', result = 'accept'}, {name = 'a', form = 'always'}]",
-            Some(1),
-        ),
-        (
-            "rule = [{name = 'a', form = 'never', result = 'accept'}]",
-            Some(0),
-        ),
-        (
-            "rule = [{name = 'a', form = 'always', result = 'Accept'}]",
-            Some(0),
-        ),
-        (
-            "rule = [{name = 'a', form = 'always', result = 'accept', key = 'k'}]",
-            Some(0),
-        ),
-        (
-            "rule = [{name = 'a', form = 'always', result = 'accept', colour = 1}]",
-            Some(0),
-        ),
-        (
-            "rule = [{name = '', form = 'always', result = 'accept'}]",
-            Some(0),
-        ),
-        (
-            "rule = [{name = 'A', form = 'always', result = 'accept'}]",
-            Some(0),
-        ),
-        (
-            "rule = [{name = 'abcdefghij_123456789_abcdefghij_12345678', form = 'always', result = 'accept'}]",
-            None,
-        ),
-        (
-            "rule = [{name = 'abcdefghij_123456789_abcdefghij_123456789', form = 'always', result = 'accept'}]",
-            Some(0),
-        ),
-        (
-            "rule = [{name = 'a', form = 'always', result = 'accept', percent = 0}]",
-            None,
-        ),
-        (
-            "rule = [{name = 'a', form = 'always', result = 'accept', percent = 100}]",
-            None,
-        ),
-        (
-            "rule = [{name = 'a', form = 'always', result = 'accept', percent = 101}]",
-            Some(0),
-        ),
-        (
-            "rule = [{name = 'a', form = 'always', result = 'accept', percent = -1}]",
-            Some(0),
-        ),
-        (
-            "rule = [{name = 'a', form = 'present', result = 'accept'}]",
-            Some(0),
-        ),
-        (
-            "rule = [{name = 'a', form = 'present', result = 'accept', key = 'k', value = 'v'}]",
-            Some(0),
-        ),
-        (
-            "rule = [{name = 'a', form = 'equals', result = 'accept', key = 'k', value = ['v']}]",
-            Some(0),
-        ),
-        (
-            "rule = [{name = 'a', form = 'one_of', result = 'accept', key = 'k', value = 'v'}]",
-            Some(0),
-        ),
-        (
-            "rule = [{name = 'a', form = 'one_of', result = 'accept', key = 'k', value = ['v', 1]}]",
-            Some(0),
-        ),
-        (
-            "rule = [{name = 'a', form = 'one_of', result = 'accept', key = 'k', value = []}]",
-            None,
-        ),
-    ];
-    for (text, bad) in &rows {
-        assert_eq!(rt; bad_place(alloc, *text)?, *bad, "{text}");
+    for text in &GOOD {
+        assert_eq!(rt; bad_place(alloc, text)?, None, "{text}");
     }
+    for text in &BAD {
+        assert_eq!(rt; bad_place(alloc, text)?, Some(0), "{text}");
+    }
+    assert_eq!(rt; bad_place(alloc, BAD_BEHIND)?, Some(1));
     Ok(())
 }
 
@@ -172,79 +125,54 @@ fn takes_256_rules(rt: HostRuntime) -> Result<(), Fail> {
     Ok(())
 }
 
+/// The annotations of a release.
+const RELEASE: [(&str, &str); 2] = [("ProductName", "Firefox"), ("ReleaseChannel", "release")];
+
+/// Annotations, a draw, and what the rules of the example make of them.
+const VERDICTS: [([(&str, &str); 2], u64, &str, Outcome); 11] = [
+    (
+        [("Comments", ""), ("ReleaseChannel", "release")],
+        99,
+        "has_comments",
+        Outcome::Accept,
+    ),
+    (RELEASE, 0, "release_tenth", Outcome::Accept),
+    (RELEASE, 9, "release_tenth", Outcome::Accept),
+    (RELEASE, 10, "release_rest", Outcome::Defer),
+    (RELEASE, 99, "release_rest", Outcome::Defer),
+    (RELEASE, 100, "release_tenth", Outcome::Accept),
+    (RELEASE, u64::MAX, "release_rest", Outcome::Defer),
+    (
+        [("ProductName", "Firefox"), ("ReleaseChannel", "released")],
+        0,
+        "known_products",
+        Outcome::Accept,
+    ),
+    (
+        [("ProductName", "Firefox"), ("Version", "128.3.1")],
+        0,
+        "esr",
+        Outcome::Defer,
+    ),
+    (
+        [("ProductName", "Fenix"), ("Version", "1.128.")],
+        0,
+        "known_products",
+        Outcome::Accept,
+    ),
+    (
+        [("ProductName", "Firefo"), ("Version", "")],
+        0,
+        "no_match",
+        Outcome::Reject,
+    ),
+];
+
 #[test]
 fn first_rule_decides(rt: HostRuntime) -> Result<(), Fail> {
     let alloc = rt.alloc();
     let rules = rules_of(alloc, EXAMPLE)?;
-    let rows = [
-        (
-            [("Comments", ""), ("ReleaseChannel", "release")],
-            99,
-            "has_comments",
-            Outcome::Accept,
-        ),
-        (
-            [("ProductName", "Firefox"), ("ReleaseChannel", "release")],
-            0,
-            "release_tenth",
-            Outcome::Accept,
-        ),
-        (
-            [("ProductName", "Firefox"), ("ReleaseChannel", "release")],
-            9,
-            "release_tenth",
-            Outcome::Accept,
-        ),
-        (
-            [("ProductName", "Firefox"), ("ReleaseChannel", "release")],
-            10,
-            "release_rest",
-            Outcome::Defer,
-        ),
-        (
-            [("ProductName", "Firefox"), ("ReleaseChannel", "release")],
-            99,
-            "release_rest",
-            Outcome::Defer,
-        ),
-        (
-            [("ProductName", "Firefox"), ("ReleaseChannel", "release")],
-            100,
-            "release_tenth",
-            Outcome::Accept,
-        ),
-        (
-            [("ProductName", "Firefox"), ("ReleaseChannel", "release")],
-            u64::MAX,
-            "release_rest",
-            Outcome::Defer,
-        ),
-        (
-            [("ProductName", "Firefox"), ("ReleaseChannel", "released")],
-            0,
-            "known_products",
-            Outcome::Accept,
-        ),
-        (
-            [("ProductName", "Firefox"), ("Version", "128.3.1")],
-            0,
-            "esr",
-            Outcome::Defer,
-        ),
-        (
-            [("ProductName", "Fenix"), ("Version", "1.128.")],
-            0,
-            "known_products",
-            Outcome::Accept,
-        ),
-        (
-            [("ProductName", "Firefo"), ("Version", "")],
-            0,
-            "no_match",
-            Outcome::Reject,
-        ),
-    ];
-    for (pairs, draw, rule, outcome) in &rows {
+    for (pairs, draw, rule, outcome) in &VERDICTS {
         let texts = annotations(alloc, pairs)?;
         let verdict = rules.verdict(&texts, *draw);
         assert_eq!(rt; verdict.rule, *rule);
