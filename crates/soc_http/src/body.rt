@@ -1,5 +1,5 @@
 // Reading bodies from a source.
-ghost use Rattle.std.specs.Prelude.{◌≡◌, ◌≤◌, ◌<◌, ◌+◌, length, take, drop, vec_len, IfOk, IfErr, OnErr};
+ghost use Rattle.std.specs.Prelude.{◌≡◌, ◌≤◌, ◌<◌, ◌+◌, length, take, vec_len, IfOk, IfErr, OnErr};
 ghost use Rattle.soc_edge.specs.Faults.{Rose};
 ghost use Rattle.soc_http.specs.Reading.{ahead};
 ghost use Rattle.std.specs.Borrow.{sem};

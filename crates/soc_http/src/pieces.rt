@@ -1,5 +1,5 @@
 // Texts in several pieces, written in as few writes as a small buffer allows.
-ghost use Rattle.std.specs.Prelude.{◌≡◌, ◌≤◌, ◌+◌, ◌↔◌, ◌++◌, [], List, ℕ, Option, length, OnOk, OnErr, IsTrue};
+ghost use Rattle.std.specs.Prelude.{◌≡◌, ◌<◌, ◌≤◌, ◌+◌, ◌++◌, [], List, ℕ, Option, length, OnOk, OnErr};
 ghost use Rattle.std.specs.Bool.{OnTrue, OnFalse};
 ghost use Rattle.soc_edge.specs.Faults.{Rose};
 ghost use Rattle.soc_edge.specs.Told.{Takes, TakesFront};
@@ -41,7 +41,8 @@ impl Pending {
     /// Adds the piece, where there is room for it, and says whether there was.
     fn add(&mut self, piece: &[u8]) -> bool
         ensures added { OnTrue result (self.new ≡ self.old ++ piece.now) }
-        ensures full { OnFalse result (self.new ≡ self.old) }
+        ensures full { OnFalse result (1024 < length self.old + length piece.now) }
+        ensures stays { OnFalse result (self.new ≡ self.old) }
     {
         if piece.len() > ROOM - self.len {
             return false;

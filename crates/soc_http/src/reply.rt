@@ -111,7 +111,8 @@ pub fn write_reply<K: Sink>(sink: &mut K, answered: &Answered) -> Result<(), Wri
 
 /// The pieces of a reply's text, in order.
 fn pieces_of<'a>(answered: &'a Answered, status: &'a [u8], body_length: &'a [u8]) -> [&'a [u8]; 13]
-    ensures { status.now ≡ decimal answered.now.status → body_length.now ≡ decimal (length answered.now.body) → pieces_text result ≡ reply_text answered.now }
+    ensures { status.now ≡ decimal answered.now.status → body_length.now ≡ decimal (length answered.now.body)
+        → pieces_text result ≡ reply_text answered.now }
 {
     let phrase: &'a [u8] = phrase_of(answered.status);
     let kind: &'a [u8] = media_type(answered.kind);

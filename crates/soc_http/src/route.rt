@@ -1,6 +1,6 @@
 // Routes.
-ghost use Rattle.std.specs.Prelude.{◌≡◌, IsOk, IsTrue, ◌↔◌, MatchOption, IfOk, IfErr, MatchResult, None, Some};
-ghost use Rattle.soc_http.specs.Route.{IsRouteOf, literal_target, report_id, is_verb, Target};
+ghost use Rattle.std.specs.Prelude.{◌≡◌, IsOk, MatchOption, None, Some};
+ghost use Rattle.soc_http.specs.Route.{IsRouteOf, literal_target, report_id, is_verb};
 
 use crate::verb::Verb;
 use soc_raw::{NoMemory, Text};
