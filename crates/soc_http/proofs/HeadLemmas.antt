@@ -157,44 +157,6 @@ ReadsHeadFrom-refused a b old new block end error fills found is refused = recor
   unfinished = not_faulty block error (IsWithinHead new) refused;
 }
 
--- a search that found no block
-pub ReadsHeadFrom-searched : (a b : Option (List ℕ)) (old new : List ℕ) (error : HeadError) → Fills a b old new
-    → IsSearched new b (Err error) → ReadsHeadFrom a b old (Err error) new
-ReadsHeadFrom-searched a b old new error fills found = record {
-  given = fills.given;
-  gives = fills.gives;
-  reads = (fills.grown, subst (λ text. ByText error (RefusesHead text error)) fills.grown (searched error found));
-  ended = ended error found;
-  unfinished = unfinished error found;
-}
-  where
-    searched : (e : HeadError) → IsSearched new b (Err e) → ByText e (RefusesHead new e)
-    searched H.BadHead f = absurd f
-    searched H.HeadTooLarge f = inl f
-    searched H.NoLength f = absurd f
-    searched H.BodyTooLarge f = absurd f
-    searched H.CutShort f = f.0
-    searched H.ReadFault f = tt
-    searched H.NoMemory f = tt
-
-    ended : (e : HeadError) → IsSearched new b (Err e) → IfEnded (Err e) (IsAtEnd b)
-    ended H.BadHead f = tt
-    ended H.HeadTooLarge f = tt
-    ended H.NoLength f = tt
-    ended H.BodyTooLarge f = tt
-    ended H.CutShort f = f.1
-    ended H.ReadFault f = tt
-    ended H.NoMemory f = tt
-
-    unfinished : (e : HeadError) → IsSearched new b (Err e) → IfFault (Err e) (IsWithinHead new)
-    unfinished H.BadHead f = tt
-    unfinished H.HeadTooLarge f = tt
-    unfinished H.NoLength f = tt
-    unfinished H.BodyTooLarge f = tt
-    unfinished H.CutShort f = tt
-    unfinished H.ReadFault f = f
-    unfinished H.NoMemory f = tt
-
 -- ---- all that is ahead
 
 TakesBlock-more : (text block rest more : List ℕ) → TakesBlock text block rest → TakesBlock (text ++ more) block (rest ++ more)

@@ -1,9 +1,8 @@
 -- What a sink took of a text in pieces.
-use Rattle.std.proofs.Common.{◌≡◌, ℕ, ◌+◌, ◌<◌, ◌≤◌, List, [], ◌∷◌, ◌++◌, Option, length, take, sym, ap, subst, ◌∙◌, append_assoc, append-nil, arith, length-append, drop, get_or, take-append-drop}
-use Rattle.std.proofs.lemmas.List.{take-append-le, take_more, take_all}
+use Rattle.std.proofs.Common.{◌≡◌, ℕ, ◌+◌, ◌<◌, ◌≤◌, List, [], ◌∷◌, ◌++◌, Option, length, take, sym, ap, subst, ◌∙◌, append-nil, drop, get_or, take-append-drop}
+use Rattle.std.proofs.lemmas.List.{take_more, take_all}
 use Rattle.std.proofs.lemmas.Grind.{flat_map-append}
 use Rattle.std.specs.Borrow.{Bor}
-use Rattle.std.proofs.Math.Seq.{take-append-add}
 use Rattle.soc_edge.specs.Told.{Takes, TakesFront}
 use Rattle.soc_edge.proofs.Told.{Takes-append, TakesFront-longer, TakesFront-behind}
 use Rattle.soc_http.specs.Pieces.{IsSent, pieces_text}
@@ -13,28 +12,12 @@ pub IsSent-flushed : (s a b : Option (List ℕ)) (p d : List ℕ) → IsSent s a
 IsSent-flushed s a b p d sent t =
     subst (Takes s b) (sym sent.whole) (Takes-append s a b sent.taken p sent.takes t)
 
--- they and then a piece that waits
-pub IsSent-waiting : (s a b : Option (List ℕ)) (p q r d x : List ℕ) → IsSent s a p d → Takes a b p → q ≡ [] → r ≡ q ++ x → IsSent s b r (d ++ x)
-IsSent-waiting s a b p q r d x sent t none waits = record {
-  taken = d;
-  whole = ap (λ l. d ++ l) (sym (waits ∙ ap (λ l. l ++ x) none));
-  takes = IsSent-flushed s a b p d sent t;
-}
-
 -- they and then a piece were written
 pub IsSent-written : (s a b c : Option (List ℕ)) (p q r d x : List ℕ) → IsSent s a p d → Takes a b p → q ≡ [] → r ≡ q → Takes b c x → IsSent s c r (d ++ x)
 IsSent-written s a b c p q r d x sent t none same u = record {
   taken = d ++ x;
   whole = sym (ap (λ l. (d ++ x) ++ l) (same ∙ none) ∙ append-nil (d ++ x));
   takes = Takes-append s b c d x (IsSent-flushed s a b p d sent t) u;
-}
-
--- a piece joined the pending bytes
-pub IsSent-added : (s a : Option (List ℕ)) (p q d x : List ℕ) → IsSent s a p d → q ≡ p ++ x → IsSent s a q (d ++ x)
-IsSent-added s a p q d x sent e = record {
-  taken = sent.taken;
-  whole = ap (λ l. l ++ x) sent.whole ∙ append_assoc sent.taken p x ∙ ap (λ l. sent.taken ++ l) (sym e);
-  takes = sent.takes;
 }
 
 -- a fault at the pending bytes

@@ -1,5 +1,5 @@
--- The messages of a text: what stands at a message's edge, which refusal comes first, and all messages up to the end.
-use Rattle.std.specs.Prelude.{◌≡◌, ℕ, ◌<◌, ◌≤◌, ◌⊎◌, List, [], ◌∷◌, ◌++◌, length, take, Option, None, Some, Result, Ok, Err, ⊤}
+-- The messages of a text: what stands at a message's edge, and which refusal comes first.
+use Rattle.std.specs.Prelude.{◌≡◌, ℕ, ◌<◌, ◌≤◌, ◌⊎◌, List, [], ◌++◌, length, take, Option, None, Some, Result, Ok, Err, ⊤}
 use Rattle.httparse.specs.Grammar.{RequestHead, ReadsRequest}
 use Rattle.soc_http.specs.declared.head.Head.{Head}
 use Rattle.soc_http.specs.declared.head.HeadError.{HeadError}
@@ -143,9 +143,3 @@ RefusesMessage text NoLength = RefusesHead text NoLength
 RefusesMessage text BodyTooLarge = RefusesHead text BodyTooLarge
 RefusesMessage text ReadFault = ⊥
 RefusesMessage text NoMemory = ⊥
-
--- the text is these messages, and then its end or a refusal
-abbrev pub HasMessages : List ℕ → List Message → Option HeadError → Type 0
-HasMessages text [] None = text ≡ []
-HasMessages text [] (Some error) = RefusesMessage text error
-HasMessages text (message ∷ messages) end = (rest : List ℕ) × TakesMessage text message rest × HasMessages rest messages end
