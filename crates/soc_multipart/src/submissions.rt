@@ -45,18 +45,12 @@ pub fn read_submission(
     ensures fits { IfOk result (λ said. length body.now ≤ 16777216 → FitsCrash (submission_text said)) }
     ensures refused { IfErr result (λ error. SubmissionRefusal (option_copied encoding.entry) kinds.now body.now error) }
 {
-    let boundary = match boundary_of(alloc, encoding, kinds) {
-        Ok(boundary) => boundary,
-        Err(error) => return Err(error),
-    };
+    let boundary = boundary_of(alloc, encoding, kinds)?;
     let parts = match read_whole(alloc, boundary.as_slice(), body) {
         Ok(parts) => parts,
         Err(error) => return Err(form_error(error)),
     };
-    match said_by(alloc, parts.as_slice()) {
-        Ok(said) => Ok(said),
-        Err(error) => Err(error),
-    }
+    said_by(alloc, parts.as_slice())
 }
 
 /// A message is one submission at most, and none that has a reason to be refused.
@@ -82,10 +76,7 @@ fn said_by(alloc: Global, parts: &[Part<'_>]) -> Result<Submission, FormError>
     ensures found { IfOk result (λ said. SaysSubmission (part_texts parts.now) (submission_text said)) }
     ensures refused { IfErr result (λ error. SaysRefusal (part_texts parts.now) error) }
 {
-    let fields = match fields_of(alloc, parts) {
-        Ok(fields) => fields,
-        Err(error) => return Err(error),
-    };
+    let fields = fields_of(alloc, parts)?;
     let count = fields.annotations.len();
     let most = if fields.sent.is_some() {
         ANNOTATIONS_LIMIT - 1
@@ -122,8 +113,7 @@ fn fields_of(alloc: Global, parts: &[Part<'_>]) -> Result<Fields, FormError>
     ensures refused { IfErr result (λ error. SaysRefusal (part_texts parts.now) error) }
 {
     let Some(place) = next_extra(parts, 0) else {
-        let fields = plain_fields(alloc, parts)?;
-        return Ok(fields);
+        return Ok(plain_fields(alloc, parts)?);
     };
     if next_extra(parts, place + 1).is_some() {
         return Err(FormError::Malformed(Reason::BadExtra));
@@ -138,8 +128,7 @@ fn fields_of(alloc: Global, parts: &[Part<'_>]) -> Result<Fields, FormError>
     let Some(members) = extra.as_object() else {
         return Err(FormError::Malformed(Reason::BadExtra));
     };
-    let fields = with_members(alloc, no_fields(alloc), members)?;
-    Ok(fields)
+    Ok(with_members(alloc, no_fields(alloc), members)?)
 }
 
 /// The place of the first JSON part from `from` on.
