@@ -5,7 +5,7 @@ mod cases;
 mod replies;
 mod requests;
 
-use cases::{CASES, Case};
+use cases::{CASES, Case, Time};
 use replies::STORED;
 use requests::FIREFOX;
 use soc_edge::{Both, Ids16, MemClock, MemDraws, MemSink, MemSource, MemTree, Numbers};
@@ -14,9 +14,6 @@ use soc_serve::run_words;
 use std::alloc::{AllocError, Global};
 use std::process::Abort;
 use std::test::Fail;
-
-/// The moment of each submission, on 18 September 2016.
-const MOMENT: u64 = 1_474_156_800;
 
 /// What is drawn for each id.
 const ID_DRAW: [u8; 16] = *b"\xde\x1b\xb2\x58\xcb\xbf\x45\x89\xa6\x73\x34\xf8\0\0\0\0";
@@ -33,6 +30,18 @@ const NO_FAULTS: Faults<'static> = Faults {
     tree: &[],
     source: &[],
     sink: &[],
+};
+
+/// What a run draws: the moment, and the number for the rules.
+#[derive(Clone, Copy)]
+struct Drawn {
+    time: Time,
+    throttle: u64,
+}
+
+const FIRST_DRAWN: Drawn = Drawn {
+    time: Time::FirstSecond,
+    throttle: 0,
 };
 
 /// What a run leaves.
@@ -76,7 +85,7 @@ fn run(
     word: &str,
     files: Blobs,
     input: Bytes,
-    throttle: u64,
+    drawn: Drawn,
     faults: &Faults<'_>,
 ) -> Result<Left, Fail> {
     let words = vec![in alloc; String::from_str(alloc, word)?]?;
@@ -84,8 +93,8 @@ fn run(
     let source = MemSource::new(input, numbers(alloc, faults.source)?);
     let sink = MemSink::new(alloc, 4_096, numbers(alloc, faults.sink)?)?;
     let mut streams = Both { source, sink };
-    let mut clock = MemClock::new(numbers(alloc, &[MOMENT])?);
-    let mut draws = draws(alloc, throttle)?;
+    let mut clock = MemClock::new(numbers(alloc, &[drawn.time.moment()])?);
+    let mut draws = draws(alloc, drawn.throttle)?;
     let status = run_words(
         alloc,
         words.as_slice(),
@@ -106,7 +115,11 @@ fn run_case(alloc: Global, case: &Case) -> Result<Left, Fail> {
     add(alloc, &mut files, "tokens.toml", case.tokens)?;
     let input = joined(alloc, case.input)?;
     let input = Bytes::of(alloc, input.as_bytes())?;
-    run(alloc, "replay", files, input, case.draw, &NO_FAULTS)
+    let drawn = Drawn {
+        time: case.time,
+        throttle: case.draw,
+    };
+    run(alloc, "replay", files, input, drawn, &NO_FAULTS)
 }
 
 fn expect(rt: &impl Abort, left: &Left, name: &str, output: &str, status: u8) -> Result<(), Fail> {
@@ -133,7 +146,14 @@ fn other_words_are_refused(rt: HostRuntime) -> Result<(), Fail> {
     let usage = "usage: socorro check|make|replay|serve|storm\n";
     for word in ["fly", "", "Replay", "replay "] {
         let input = Bytes::of(alloc, FIREFOX.as_bytes())?;
-        let left = run(alloc, word, Blobs::new(alloc), input, 0, &NO_FAULTS)?;
+        let left = run(
+            alloc,
+            word,
+            Blobs::new(alloc),
+            input,
+            FIRST_DRAWN,
+            &NO_FAULTS,
+        )?;
         expect(&rt, &left, word, usage, 2)?;
     }
     Ok(())
@@ -169,7 +189,14 @@ fn the_largest_body_is_taken(rt: HostRuntime) -> Result<(), Fail> {
     let alloc = rt.alloc();
     let input = largest(alloc)?;
     assert_eq!(rt; input.as_slice().len(), LARGEST_HEAD.len() + 16_777_216);
-    let left = run(alloc, "replay", Blobs::new(alloc), input, 0, &NO_FAULTS)?;
+    let left = run(
+        alloc,
+        "replay",
+        Blobs::new(alloc),
+        input,
+        FIRST_DRAWN,
+        &NO_FAULTS,
+    )?;
     expect(&rt, &left, "the largest body", STORED, 0)
 }
 
@@ -188,7 +215,14 @@ fn faults_have_their_status(rt: HostRuntime) -> Result<(), Fail> {
     ] {
         let faults = Faults { tree, source, sink };
         let input = Bytes::of(alloc, FIREFOX.as_bytes())?;
-        let left = run(alloc, "replay", Blobs::new(alloc), input, 0, &faults)?;
+        let left = run(
+            alloc,
+            "replay",
+            Blobs::new(alloc),
+            input,
+            FIRST_DRAWN,
+            &faults,
+        )?;
         expect(&rt, &left, "a fault", output, status)?;
     }
     Ok(())

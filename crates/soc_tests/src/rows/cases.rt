@@ -1,4 +1,6 @@
 // Whole runs, and what each of them answers.
+ghost use Rattle.soc_raw.specs.Day.{IsMoment};
+
 use super::replies::{
     BAD_EXTRA, BARE_REPORT, BODY_TOO_LARGE, BOTH_FORMS, CUT_SHORT, DASHES_REPORT, DEFERRED,
     DRAINED_NONE, DRAINED_ONE, ENCODED, NEEDS_OPERATE, NO_CLOSE, NO_MATCH, NOT_FOUND,
@@ -11,6 +13,24 @@ use super::requests::{
     ZIPPED,
 };
 
+/// When each submission of a run comes, on 18 September 2016.
+#[derive(Clone, Copy)]
+pub(super) enum Time {
+    FirstSecond,
+    LastSecond,
+}
+
+impl Time {
+    pub(super) fn moment(self) -> u64
+        ensures { IsMoment result }
+    {
+        match self {
+            Time::FirstSecond => 1_474_156_800,
+            Time::LastSecond => 1_474_243_199,
+        }
+    }
+}
+
 /// A run over the files of a tree and an input.
 pub(super) struct Case {
     pub(super) name: &'static str,
@@ -18,6 +38,7 @@ pub(super) struct Case {
     pub(super) settings: &'static str,
     /// `tokens.toml`; an empty one isn't there.
     pub(super) tokens: &'static str,
+    pub(super) time: Time,
     /// What is drawn for the rules.
     pub(super) draw: u64,
     pub(super) input: &'static [&'static str],
@@ -87,11 +108,22 @@ products = 'all'
 permissions = []
 ";
 
-pub(super) const CASES: [Case; 25] = [
+pub(super) const CASES: [Case; 26] = [
     Case {
         name: "one crash",
         settings: "",
         tokens: "",
+        time: Time::FirstSecond,
+        draw: 0,
+        input: &[FIREFOX],
+        output: &[STORED],
+        status: 0,
+    },
+    Case {
+        name: "one crash in the last second of its day",
+        settings: "",
+        tokens: "",
+        time: Time::LastSecond,
         draw: 0,
         input: &[FIREFOX],
         output: &[STORED],
@@ -101,6 +133,7 @@ pub(super) const CASES: [Case; 25] = [
         name: "a draw below ten in a hundred",
         settings: TENTH_AND_REST,
         tokens: "",
+        time: Time::FirstSecond,
         draw: 9,
         input: &[FIREFOX],
         output: &[STORED],
@@ -110,6 +143,7 @@ pub(super) const CASES: [Case; 25] = [
         name: "a draw of ten in a hundred",
         settings: TENTH_AND_REST,
         tokens: "",
+        time: Time::FirstSecond,
         draw: 10,
         input: &[FIREFOX],
         output: &[DEFERRED],
@@ -119,6 +153,7 @@ pub(super) const CASES: [Case; 25] = [
         name: "a draw that no rule takes",
         settings: TENTH,
         tokens: "",
+        time: Time::FirstSecond,
         draw: 10,
         input: &[FIREFOX],
         output: &[NO_MATCH],
@@ -128,6 +163,7 @@ pub(super) const CASES: [Case; 25] = [
         name: "contents with dashes",
         settings: "",
         tokens: TOKENS,
+        time: Time::FirstSecond,
         draw: 0,
         input: &[DASHES, DRAIN, READ],
         output: &[STORED, DRAINED_ONE, DASHES_REPORT],
@@ -137,6 +173,7 @@ pub(super) const CASES: [Case; 25] = [
         name: "one byte too large",
         settings: "",
         tokens: "",
+        time: Time::FirstSecond,
         draw: 0,
         input: &[TOO_LARGE],
         output: &[BODY_TOO_LARGE],
@@ -146,6 +183,7 @@ pub(super) const CASES: [Case; 25] = [
         name: "no closing delimiter",
         settings: "",
         tokens: TOKENS,
+        time: Time::FirstSecond,
         draw: 0,
         input: &[CUT, DRAIN],
         output: &[NO_CLOSE, DRAINED_NONE],
@@ -155,6 +193,7 @@ pub(super) const CASES: [Case; 25] = [
         name: "one id three times",
         settings: "",
         tokens: TOKENS,
+        time: Time::FirstSecond,
         draw: 0,
         input: &[SENT, SENT, SENT_OTHER, DRAIN],
         output: &[STORED, STORED, OTHER_CONTENT, DRAINED_ONE],
@@ -164,6 +203,7 @@ pub(super) const CASES: [Case; 25] = [
         name: "annotations in JSON",
         settings: "",
         tokens: "",
+        time: Time::FirstSecond,
         draw: 0,
         input: &[EXTRA_AND_PLAIN, EXTRA_ARRAY, EXTRA],
         output: &[BOTH_FORMS, BAD_EXTRA, STORED],
@@ -173,6 +213,7 @@ pub(super) const CASES: [Case; 25] = [
         name: "one crash too many",
         settings: "crashes = 1",
         tokens: "",
+        time: Time::FirstSecond,
         draw: 0,
         input: &[FIREFOX, ANOTHER],
         output: &[STORED, TOO_MANY],
@@ -182,6 +223,7 @@ pub(super) const CASES: [Case; 25] = [
         name: "a session that is full",
         settings: "session_bytes = 176",
         tokens: "",
+        time: Time::FirstSecond,
         draw: 0,
         input: &[FIREFOX, FIREFOX],
         output: &[STORED],
@@ -191,6 +233,7 @@ pub(super) const CASES: [Case; 25] = [
         name: "a session that ends in time",
         settings: "session_bytes = 353",
         tokens: "",
+        time: Time::FirstSecond,
         draw: 0,
         input: &[FIREFOX, FIREFOX],
         output: &[STORED, STORED],
@@ -200,6 +243,7 @@ pub(super) const CASES: [Case; 25] = [
         name: "an unknown setting",
         settings: "colour = 1",
         tokens: "",
+        time: Time::FirstSecond,
         draw: 0,
         input: &[FIREFOX],
         output: &["refused settings.toml: 111 colour\n"],
@@ -209,6 +253,7 @@ pub(super) const CASES: [Case; 25] = [
         name: "a bad rule",
         settings: BAD_FOURTH_RULE,
         tokens: "",
+        time: Time::FirstSecond,
         draw: 0,
         input: &[FIREFOX],
         output: &["refused settings.toml: 20 3\n"],
@@ -218,6 +263,7 @@ pub(super) const CASES: [Case; 25] = [
         name: "settings that are no TOML",
         settings: "colour",
         tokens: "",
+        time: Time::FirstSecond,
         draw: 0,
         input: &[FIREFOX],
         output: &["refused settings.toml: 110\n"],
@@ -227,6 +273,7 @@ pub(super) const CASES: [Case; 25] = [
         name: "a key twice",
         settings: "",
         tokens: TOKENS_OF_ONE_KEY,
+        time: Time::FirstSecond,
         draw: 0,
         input: &[FIREFOX],
         output: &["refused tokens.toml: 70 1\n"],
@@ -236,6 +283,7 @@ pub(super) const CASES: [Case; 25] = [
         name: "tokens that are no TOML",
         settings: "",
         tokens: "token",
+        time: Time::FirstSecond,
         draw: 0,
         input: &[FIREFOX],
         output: &["refused tokens.toml: 110\n"],
@@ -245,6 +293,7 @@ pub(super) const CASES: [Case; 25] = [
         name: "settings before tokens",
         settings: "colour = 1",
         tokens: "token",
+        time: Time::FirstSecond,
         draw: 0,
         input: &[FIREFOX],
         output: &["refused settings.toml: 111 colour\n"],
@@ -254,6 +303,7 @@ pub(super) const CASES: [Case; 25] = [
         name: "refusals of requests",
         settings: "",
         tokens: TOKENS,
+        time: Time::FirstSecond,
         draw: 0,
         input: &[NO_ROUTE, WRONG_METHOD, STRANGE_READ, ZIPPED],
         output: &[ROUTELESS, POST_ONLY, UNKNOWN_TOKEN, ENCODED],
@@ -263,6 +313,7 @@ pub(super) const CASES: [Case; 25] = [
         name: "a head that is cut short",
         settings: "",
         tokens: "",
+        time: Time::FirstSecond,
         draw: 0,
         input: &["GET / HT"],
         output: &[CUT_SHORT],
@@ -272,6 +323,7 @@ pub(super) const CASES: [Case; 25] = [
         name: "a report of a product",
         settings: "",
         tokens: TOKENS,
+        time: Time::FirstSecond,
         draw: 0,
         input: &[FIREFOX, READ, PUBLIC_DRAIN, DRAIN, READ],
         output: &[STORED, NOT_PROCESSED, NEEDS_OPERATE, DRAINED_ONE, REPORT],
@@ -281,6 +333,7 @@ pub(super) const CASES: [Case; 25] = [
         name: "a report by permission",
         settings: "",
         tokens: TOKENS,
+        time: Time::FirstSecond,
         draw: 0,
         input: &[ADDRESS, DRAIN, READ, TRUSTED_READ],
         output: &[STORED, DRAINED_ONE, BARE_REPORT, WHOLE_REPORT],
@@ -290,6 +343,7 @@ pub(super) const CASES: [Case; 25] = [
         name: "one draw three times",
         settings: "",
         tokens: "",
+        time: Time::FirstSecond,
         draw: 0,
         input: &[FIREFOX, FIREFOX, ADDRESS],
         output: &[STORED, STORED, OTHER_CONTENT],
@@ -299,6 +353,7 @@ pub(super) const CASES: [Case; 25] = [
         name: "no crash",
         settings: "",
         tokens: "",
+        time: Time::FirstSecond,
         draw: 0,
         input: &[READ],
         output: &[NOT_FOUND],
@@ -308,6 +363,7 @@ pub(super) const CASES: [Case; 25] = [
         name: "nothing",
         settings: "",
         tokens: "",
+        time: Time::FirstSecond,
         draw: 0,
         input: &[],
         output: &[],
