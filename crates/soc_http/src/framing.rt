@@ -35,10 +35,10 @@ pub(crate) struct Framing {
     pub close: bool,
 }
 
-fn is_same_name(name: &[u8], other: &[u8]) -> bool
-    ensures { result ≡ str_eq_ignore_ascii_case name.now other.now }
+fn is_same_word(word: &[u8], other: &[u8]) -> bool
+    ensures { result ≡ str_eq_ignore_ascii_case word.now other.now }
 {
-    name.eq_ignore_ascii_case(other)
+    word.eq_ignore_ascii_case(other)
 }
 
 /// The number that 1 to 19 digits write.
@@ -74,7 +74,7 @@ fn stated_more(stated: Stated, value: &[u8]) -> Stated
 fn stated_by_line(stated: Stated, name: &[u8], value: &[u8]) -> Stated
     ensures { result ≡ stated_by_line stated (name.now, value.now) }
 {
-    if is_same_name(name, b"content-length") {
+    if is_same_word(name, b"content-length") {
         stated_more(stated, value)
     } else {
         stated
@@ -84,7 +84,7 @@ fn stated_by_line(stated: Stated, name: &[u8], value: &[u8]) -> Stated
 fn is_close(name: &[u8], value: &[u8]) -> bool
     ensures { result ≡ is_close (name.now, value.now) }
 {
-    is_same_name(name, b"connection") && is_same_name(value, b"close")
+    is_same_word(name, b"connection") && is_same_word(value, b"close")
 }
 
 impl Framing {
@@ -104,7 +104,7 @@ impl Framing {
             → self.new ≡ framing_of (before ++ (name.now, value.now) ∷ []) }
     {
         self.stated = stated_by_line(self.stated, name, value);
-        self.coded = self.coded | is_same_name(name, b"transfer-encoding");
+        self.coded = self.coded | is_same_word(name, b"transfer-encoding");
         self.close = self.close | is_close(name, value);
     }
 
