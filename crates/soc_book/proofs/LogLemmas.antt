@@ -1,15 +1,14 @@
 -- What one more change at the end of a log means.
-use Rattle.std.proofs.Common.{◌≡◌, ℕ, zero, suc, ◌+◌, ◌<◌, ◌≤◌, Bool, true, false, not, ◌||◌, List, [], ◌∷◌, ◌++◌, length, Option, Some, None, cond, sym, ap, subst, ◌∙◌, arith, refl, map, filter, reverse, take, drop, ◌==◌, is_some, zero-add}
-use Rattle.std.specs.Prelude.{filter_map, bytes_eq, unwrap_or, if◌then◌else◌}
-use Rattle.std.specs.Option.{option_map, option_map_or, option_and_then}
-use Rattle.std.specs.List.{list_any, enumerate_from, find, cons_option, AllByRecursion}
+use Rattle.std.proofs.Common.{◌≡◌, ℕ, ◌+◌, ◌<◌, ◌≤◌, Bool, true, false, not, List, [], ◌∷◌, ◌++◌, length, Option, Some, None, cond, sym, ap, subst, ◌∙◌, arith, refl, filter, reverse, ◌==◌, zero-add}
+use Rattle.std.specs.Prelude.{filter_map, bytes_eq, if◌then◌else◌}
+use Rattle.std.specs.Option.{option_map_or, option_and_then}
+use Rattle.std.specs.List.{enumerate_from, cons_option, AllByRecursion}
 use Rattle.std.proofs.lemmas.List.{reverse-append, length-reverse, append-nil}
-use Rattle.std.proofs.lemmas.List.Elements.{filter-append, filter_map-append}
+use Rattle.std.proofs.lemmas.List.Elements.{filter_map-append}
 use Rattle.std.proofs.lemmas.Bool.{eqb-true, eq-eqb}
 use Rattle.std.proofs.lemmas.Slice.Eq.{bytes_eq-Decides}
-use Rattle.std.proofs.lemmas.List.Folds.{list_any-append, find-append}
 use Rattle.soc_book.specs.Basis.{Basis}
-use Rattle.soc_book.specs.Log.{Change, keep, done, stop, Kept, accept, ask, withdraw, report, due_after, due_since_back, due_since, due_from, due_of, row_after, row_back, row_in, urged_in, Accepted, is_due_at_once}
+use Rattle.soc_book.specs.Log.{Change, keep, done, accept, due_after, due_since_back, due_since, due_from, due_of, row_after, row_back, row_in, urged_in, Accepted, is_due_at_once}
 
 none_is_not_some : {A : Type 0} {x : A} → None ≡ Some x → ⊥
 none_is_not_some is = cc

@@ -1,9 +1,9 @@
 -- A desk in memory stays one over each of its changes.
-use Rattle.std.proofs.Common.{◌≡◌, ℕ, ◌+◌, Bool, true, false, not, ◌&&◌, ◌||◌, List, [], ◌∷◌, ◌++◌, length, Option, Some, None, cond, sym, ap, subst, ◌∙◌, arith, refl, map, reverse, is_some, get_or, zero-add, add-zero, ◌<◌, drop}
+use Rattle.std.proofs.Common.{◌≡◌, ℕ, ◌+◌, Bool, true, false, not, ◌&&◌, List, [], ◌∷◌, ◌++◌, length, Option, Some, None, cond, sym, ap, subst, ◌∙◌, arith, refl, reverse, is_some, get_or, zero-add, add-zero, ◌<◌, drop}
 use Rattle.std.specs.Prelude.{bytes_eq, if◌then◌else◌, IsTrue, unwrap_or, nat_lt, slice_get}
 use Rattle.std.specs.Option.{option_map, option_map_or, option_and_then}
 use Rattle.std.specs.List.{count_by}
-use Rattle.std.specs.List.{list_any, find, position_from, filter_map, filter, cons_option, AllByRecursion}
+use Rattle.std.specs.List.{list_any, find, filter_map, filter, cons_option, AllByRecursion}
 use Rattle.std.specs.Ordering.{nat_cmp}
 use Rattle.std.specs.Cmp.Lexicographic.{slice_cmp}
 use Rattle.std.specs.BTreeMap.{insert_entry}
@@ -22,10 +22,10 @@ use Rattle.soc_book.specs.declared.entry.Entry.TheVariants.{Held, Done}
 use Rattle.soc_schema.specs.declared.caller.Caller.{Caller}
 use Rattle.soc_book.specs.View.{view_of}
 use Rattle.soc_book.specs.Basis.{Basis}
-use Rattle.soc_book.specs.Log.{Change, keep, done, stop, Kept, accept, ask, withdraw, report, Accepted, is_accept_of, was_accepted, was_withdrawn, is_of_run, raw_of, due_since, due_since_back, due_after, row_in, row_back, row_after, due_of, is_due_at_once, IsLegal, IsLegalBack, IsLegalNext, accept_count, accepted_in, crashes_of, has_stop, is_ask, rows_of}
+use Rattle.soc_book.specs.Log.{Change, keep, done, stop, accept, ask, withdraw, report, Accepted, is_accept_of, was_accepted, was_withdrawn, is_of_run, raw_of, due_since, due_since_back, row_in, row_back, due_of, is_due_at_once, IsLegal, IsLegalBack, IsLegalNext, accept_count, accepted_in, crashes_of, has_stop, is_ask, rows_of}
 use Rattle.soc_book.specs.Memory.{log_of, change_of, place_of, has_row, IsMemoryDesk}
 use Rattle.soc_book.proofs.LogLemmas.{reverse-more, row_in-more, due_of-accept, due_of-first_done, first_is_due}
-use Rattle.soc_book.proofs.PlaceLemmas.{none-some, or_left, or_right, list_any-reverse, find-none, position_from-new, position_from-none, none-position_from, position_from-other, position_from-at, FoundAt}
+use Rattle.soc_book.proofs.PlaceLemmas.{none-some, or_left, or_right, list_any-reverse, find-none, position_from-new, none-position_from, position_from-other, position_from-at, FoundAt}
 use Rattle.soc_book.proofs.ViewLemmas.{value_of-with_value, turned_eq, has_id, IsApart, seen_at, view_finds}
 
 same_id : (a b : List ℕ) → bytes_eq a b ≡ true → a ≡ b

@@ -1,10 +1,10 @@
 -- What a view has of one id.
-use Rattle.std.proofs.Common.{◌≡◌, ℕ, Bool, true, false, not, List, [], ◌∷◌, Option, Some, None, cond, sym, ap, ◌∙◌, refl, nat_eq}
+use Rattle.std.proofs.Common.{◌≡◌, ℕ, Bool, true, false, List, [], ◌∷◌, Option, Some, None, cond, sym, ap, ◌∙◌, refl}
 use Rattle.std.specs.Prelude.{bytes_eq, if◌then◌else◌}
 use Rattle.std.specs.List.{AllByRecursion, find}
 use Rattle.std.specs.Option.{option_and_then}
-use Rattle.std.specs.Ordering.{nat_cmp, match_ordering, is_eq, ordering_reverse}
-use Rattle.std.specs.Cmp.Lexicographic.{slice_cmp, nat_list_cmp_total}
+use Rattle.std.specs.Ordering.{nat_cmp, match_ordering, is_eq}
+use Rattle.std.specs.Cmp.Lexicographic.{slice_cmp}
 use Rattle.std.specs.Map.{lookup}
 use Rattle.std.specs.BTreeMap.{insert_entry, is_at}
 use Rattle.std.specs.declared.cmp.Ordering.{Ordering}
@@ -12,11 +12,10 @@ use Rattle.std.specs.declared.cmp.Ordering.TheVariants.{Less, Equal, Greater}
 use Rattle.std.proofs.lemmas.Map.Text.{is_eq-slice_cmp}
 use Rattle.std.proofs.lemmas.Slice.Eq.{bytes_eq-Decides}
 use Rattle.soc_raw.specs.Names.{value_of, with_value}
-use Rattle.soc_raw.specs.Record.{Crash}
 use Rattle.soc_schema.specs.declared.caller.Caller.{Caller}
 use Rattle.soc_book.specs.Basis.{Basis}
 use Rattle.soc_book.specs.Log.{Change, Accepted, row_in}
-use Rattle.soc_book.specs.View.{Seen, View, view_with, view_of_crashes, seen_of}
+use Rattle.soc_book.specs.View.{Seen, view_with, view_of_crashes, seen_of}
 use Rattle.soc_schema.specs.Permits.{shows}
 use Rattle.soc_schema.specs.Reports.{product_of}
 

@@ -1,5 +1,5 @@
 -- The desk: one command, one step. A step settles a doubt, decides by the state, and changes the log. This project's profile.
-use Rattle.std.specs.Prelude.{◌≡◌, ◌⊎◌, ℕ, ◌+◌, ◌<◌, ◌≤◌, Bool, true, false, not, IsTrue, List, [], ◌∷◌, ◌++◌, length, map, take, sum, filter_map, Option, None, Some, IsSome, IfSome, MatchOption, ⊤}
+use Rattle.std.specs.Prelude.{◌≡◌, ◌⊎◌, ℕ, ◌+◌, ◌<◌, ◌≤◌, not, IsTrue, List, [], ◌∷◌, ◌++◌, length, map, take, sum, filter_map, Option, None, Some, IsSome, IfSome, MatchOption, ⊤}
 use Rattle.std.specs.Option.{option_map_or}
 use Rattle.soc_raw.specs.RawCrash.{crash_of}
 use Rattle.soc_raw.specs.Names.{value_of}
@@ -9,8 +9,8 @@ use Rattle.soc_schema.specs.declared.permission.Permission.TheVariants.{Operate}
 use Rattle.soc_schema.specs.Permits.{holds}
 use Rattle.soc_schema.specs.RowText.{row_text}
 use Rattle.soc_book.specs.Basis.{Basis}
-use Rattle.soc_book.specs.Log.{Kept, accept, ask, withdraw, report, Change, keep, done, stop, Accepted, was_accepted, was_withdrawn, accept_count, raw_of, is_due_at_once, due_of, has_stop}
-use Rattle.soc_book.specs.View.{View, Seen, view_of}
+use Rattle.soc_book.specs.Log.{Kept, accept, ask, withdraw, report, Change, keep, done, stop, was_accepted, was_withdrawn, accept_count, raw_of, is_due_at_once, due_of, has_stop}
+use Rattle.soc_book.specs.View.{Seen, view_of}
 use Rattle.soc_book.specs.declared.desk.Command.{Command}
 use Rattle.soc_book.specs.declared.desk.Command.TheVariants.{Submit, Processed, Drain}
 use Rattle.soc_book.specs.declared.desk.Reply.{Reply}

@@ -1,17 +1,11 @@
 -- Worked logs: what is held, due and reported, and who sees what.
-use Rattle.std.specs.Prelude.{◌≡◌, ℕ, List, [], ◌∷◌, ◌++◌, Option, Some, None, Bool, true, false, codes, map, length, refl}
+use Rattle.std.specs.Prelude.{◌≡◌, ℕ, List, [], ◌∷◌, ◌++◌, Some, None, codes, map, refl}
 use Rattle.soc_raw.specs.Record.{Crash}
-use Rattle.soc_schema.specs.declared.caller.Caller.{Caller}
-use Rattle.soc_schema.specs.declared.caller.Products.TheVariants.{All, Some as Only}
-use Rattle.soc_schema.specs.declared.value.Cell.{Cell}
 use Rattle.soc_schema.specs.declared.value.Value.TheVariants.{Text}
 use Rattle.soc_schema.specs.Rows.{cell}
 use Rattle.soc_book.specs.Basis.{Basis}
-use Rattle.soc_book.specs.Desk.{processed_reply, after_turns}
-use Rattle.soc_book.specs.Log.{Kept, accept, ask, withdraw, report, Change, keep, done, stop, Accepted, Report, crashes_of, due_of, row_in, is_held, has_stop, accept_count}
-use Rattle.soc_book.specs.View.{view_of}
-use Rattle.soc_book.specs.declared.desk.Reply.TheVariants.{Row, Refused}
-use Rattle.soc_book.specs.declared.desk.Refusal.TheVariants.{NoCrash, NotProcessed}
+use Rattle.soc_book.specs.Desk.{after_turns}
+use Rattle.soc_book.specs.Log.{accept, ask, withdraw, report, Change, keep, done, Accepted, crashes_of, due_of, row_in, accept_count}
 
 -- due at once, and due only when it is asked for
 abbrev first : List ℕ

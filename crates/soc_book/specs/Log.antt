@@ -1,6 +1,6 @@
 -- The log of a desk: what was accepted, asked for, withdrawn, reported, processed and stopped, in order.
 -- This project's profile. What a log says is found by filters and recursions over the whole of it.
-use Rattle.std.specs.Prelude.{◌≡◌, ℕ, ◌+◌, ◌==◌, Bool, true, false, not, ◌&&◌, IsTrue, List, [], ◌∷◌, length, reverse, filter, map, count_by, Option, None, Some, is_some, IfSome, unwrap_or, if◌then◌else◌, slice_index, bytes_eq, codes, ⊤}
+use Rattle.std.specs.Prelude.{◌≡◌, ℕ, ◌==◌, Bool, true, false, not, ◌&&◌, IsTrue, List, [], ◌∷◌, length, reverse, filter, count_by, Option, None, Some, is_some, IfSome, unwrap_or, if◌then◌else◌, slice_index, bytes_eq, ⊤}
 use Rattle.std.specs.Option.{option_map, option_map_or, option_and_then}
 use Rattle.std.specs.List.{list_any, find, filter_map, enumerate_from}
 use Rattle.soc_raw.specs.Record.{Crash}

@@ -4,7 +4,6 @@ use Rattle.soc_raw.specs.Names.{value_of as text_of}
 use Rattle.soc_raw.specs.Record.{Crash}
 use Rattle.soc_schema.specs.declared.value.Cell.{Cell}
 use Rattle.soc_schema.specs.declared.value.Value.TheVariants.{Text}
-use Rattle.soc_schema.specs.Fields.{uuid_field, product_field}
 use Rattle.soc_schema.specs.Reports.{TellsCrash, product_of}
 use Rattle.soc_schema.specs.Rows.{value_of, with_value}
 

@@ -1,6 +1,6 @@
 -- What one caller sees of a log: of each visible crash its granted annotations, its dumps where the caller may see them,
 -- and the granted fields of its row. Nothing else of a log is shown. This project's profile.
-use Rattle.std.specs.Prelude.{◌≡◌, ℕ, Bool, true, false, bytes_eq, List, [], ◌∷◌, filter, Option, None, Some, if◌then◌else◌, codes}
+use Rattle.std.specs.Prelude.{ℕ, List, [], ◌∷◌, Option, None, Some, if◌then◌else◌}
 use Rattle.std.specs.Option.{option_map}
 use Rattle.soc_raw.specs.Names.{with_value}
 use Rattle.soc_raw.specs.Record.{Crash}

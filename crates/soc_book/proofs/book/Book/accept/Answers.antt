@@ -1,11 +1,6 @@
-use Rattle.std.proofs.Common.{◌≡◌, ◌∙◌, ◌++◌, ◌∷◌, [], ap, sym, rules, List, ℕ, length}
-use Rattle.std.specs.Prelude.{if◌then◌else◌}
-use Rattle.std.specs.Ordering.{nat_cmp}
-use Rattle.std.specs.Cmp.Lexicographic.{slice_cmp}
-use Rattle.std.specs.BTreeMap.{insert_entry}
+use Rattle.std.proofs.Common.{◌∙◌, ◌++◌, ◌∷◌, [], ap, rules}
 use Rattle.soc_book.specs.declared.entry.Entry.TheVariants.{Held}
-use Rattle.soc_book.specs.Log.{is_due_at_once, was_accepted}
-use Rattle.soc_book.specs.Memory.{basis_of, log_of}
+use Rattle.soc_book.specs.Log.{was_accepted}
 use Rattle.soc_book.proofs.MemoryLemmas.{accept_keeps, desk_along}
 use Rattle.soc_book.proofs.book.Book.accept.Goals as goal
 

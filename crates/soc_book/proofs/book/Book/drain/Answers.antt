@@ -1,4 +1,4 @@
-use Rattle.std.proofs.Common.{◌≡◌, ◌<◌, subst}
+use Rattle.std.proofs.Common.{◌<◌, subst}
 use Rattle.soc_book.proofs.StepLemmas.{turned}
 use Rattle.soc_book.proofs.book.Book.drain.Goals as goal
 

@@ -1,4 +1,4 @@
-use Rattle.std.proofs.Common.{◌≡◌, ◌∙◌, ap, sym, subst, None, Some}
+use Rattle.std.proofs.Common.{◌∙◌, ap, sym, subst}
 use Rattle.std.specs.Option.{option_map}
 use Rattle.soc_raw.specs.RawCrash.{crash_of}
 use Rattle.soc_book.specs.Log.{was_accepted, was_withdrawn, raw_of, IsLegal}

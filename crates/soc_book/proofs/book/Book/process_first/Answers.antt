@@ -1,4 +1,4 @@
-use Rattle.std.proofs.Common.{◌≡◌, ◌∙◌, ◌++◌, ◌∷◌, [], ap, sym, rules, drop}
+use Rattle.std.proofs.Common.{◌∙◌, ◌++◌, ◌∷◌, [], ap, sym, rules, drop}
 use Rattle.soc_raw.specs.RawCrash.{crash_of}
 use Rattle.soc_book.specs.declared.entry.Entry.TheVariants.{Done}
 use Rattle.soc_book.specs.Log.{raw_of, was_accepted}

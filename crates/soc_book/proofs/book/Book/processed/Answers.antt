@@ -1,4 +1,4 @@
-use Rattle.std.proofs.Common.{◌≡◌, ◌∙◌, ap, sym, refl}
+use Rattle.std.proofs.Common.{◌∙◌, ap, sym, refl}
 use Rattle.soc_raw.specs.RawCrash.{crash_of}
 use Rattle.soc_schema.specs.Permits.{shows}
 use Rattle.soc_book.specs.declared.desk.Reply.TheVariants.{Row}
