@@ -1,11 +1,10 @@
 -- Small dumps, read by computation.
-use Rattle.std.specs.Prelude.{◌≡◌, ℕ, List, [], ◌∷◌, ◌++◌, Option, None, Some, replicate, refl}
+use Rattle.std.specs.Prelude.{◌≡◌, ℕ, List, [], ◌∷◌, ◌++◌, None, Some, replicate, refl}
 use Rattle.byteorder.specs.Endian.{little_bytes}
 use Rattle.soc_dump.specs.declared.error.DumpError.{DumpError}
-use Rattle.soc_dump.specs.declared.error.DumpError.TheVariants.{NoMagic, BadVersion, OutOfFile, BadStream, TwoStreams}
+use Rattle.soc_dump.specs.declared.error.DumpError.TheVariants.{OutOfFile, TwoStreams}
 use Rattle.soc_dump.specs.Layout.{signature, version}
 use Rattle.soc_dump.specs.Checks.{first_refusal}
-use Rattle.soc_dump.specs.Entries.{ThreadEntry}
 use Rattle.soc_dump.specs.Dump.{Contents, contents_in, contents_of, contents_checks, dump_checks}
 
 abbrev pub four : ℕ → List ℕ

@@ -1,9 +1,7 @@
 -- The files of a tree, and a session that memory wanted for before it began.
-use Rattle.std.proofs.Common.{◌≡◌, ℕ, List, [], Option, None, Some, refl, sym, ap, subst, ◌∙◌}
+use Rattle.std.proofs.Common.{◌≡◌, ℕ, List, [], Option, None, Some, refl, subst}
 use Rattle.std.specs.Prelude.{IfSome, codes}
-use Rattle.soc_edge.specs.Told.{Outlook}
 use Rattle.soc_edge.proofs.Told.{Takes-none}
-use Rattle.soc_book.specs.declared.desk.Limits.{Limits}
 use Rattle.soc_book.specs.declared.small.Small.{Small}
 use Rattle.soc_book.specs.Memory.{AnswersInMemory, MemoryDesk}
 use Rattle.soc_book.specs.Small.{small_row}

@@ -11,7 +11,6 @@ use Rattle.soc_book.specs.declared.desk.Command.{Command}
 use Rattle.soc_book.specs.declared.desk.Command.TheVariants as C
 use Rattle.soc_book.specs.declared.desk.Receipt.{Receipt}
 use Rattle.soc_book.specs.declared.desk.Reply.{Reply}
-use Rattle.soc_book.specs.declared.desk.Reply.TheVariants.{Stored, Repeated, Row, Drained, Refused}
 use Rattle.soc_book.specs.Kinds.{IsReplyTo}
 use Rattle.soc_session.specs.declared.answers.Outcome.{Outcome}
 use Rattle.soc_session.specs.declared.rules.Rules.{Rules}

@@ -1,5 +1,5 @@
 -- The desk along a session: what is asked for each message, and what comes of it.
-use Rattle.std.specs.Prelude.{◌≡◌, ◌⊎◌, Bool, false, List, Option, None, Some, ⊤}
+use Rattle.std.specs.Prelude.{◌≡◌, ◌⊎◌, Bool, false, List, Option, None, Some}
 use Rattle.std.specs.Option.{option_map_or}
 use Rattle.soc_http.specs.declared.reply.Answered.{Answered}
 use Rattle.soc_http.specs.Message.{Message}
