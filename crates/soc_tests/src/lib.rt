@@ -1,5 +1,9 @@
-//! Tests of whole runs: files, messages and what they are answered, over objects in memory.
+//! Whole runs over objects in memory, and tests of them: files, messages and what they are answered.
 #![tactic(auto)]
+
+mod memory;
+
+pub use memory::run_in_memory;
 
 #[cfg(test)]
 mod rows;

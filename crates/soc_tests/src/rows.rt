@@ -5,12 +5,12 @@ mod cases;
 mod replies;
 mod requests;
 
+use crate::run_in_memory;
 use cases::{CASES, Case, Time};
 use replies::STORED;
 use requests::FIREFOX;
 use soc_edge::{Both, Ids16, MemClock, MemDraws, MemSink, MemSource, MemTree, Numbers};
 use soc_raw::{Blobs, Bytes, Text};
-use soc_serve::run_words;
 use std::alloc::{AllocError, Global};
 use std::process::Abort;
 use std::test::Fail;
@@ -95,7 +95,7 @@ fn run(
     let mut streams = Both { source, sink };
     let mut clock = MemClock::new(numbers(alloc, &[drawn.time.moment()])?);
     let mut draws = draws(alloc, drawn.throttle)?;
-    let status = run_words(
+    let status = run_in_memory(
         alloc,
         words.as_slice(),
         &mut tree,
