@@ -1,12 +1,13 @@
 -- The log of a disk in memory, by its entries and the bytes of their writes.
-use Rattle.std.proofs.Common.{◌≡◌, ℕ, ◌+◌, ◌≤◌, List, [], ◌∷◌, ◌++◌, length, take, drop, refl, sym, ◌∙◌, ap, subst, arith}
+use Rattle.std.proofs.Common.{◌≡◌, inl, inr, ℕ, ◌+◌, ◌≤◌, List, [], ◌∷◌, ◌++◌, length, take, drop, refl, sym, ◌∙◌, ap, subst, arith}
 use Rattle.std.proofs.lemmas.List.{length-take, length-drop, drop-drop, take-append-le, drop-append-le, drop_at, take_all}
 use Rattle.soc_edge.specs.declared.memory.disk.Entry.{Entry}
 use Rattle.soc_edge.specs.declared.memory.disk.Entry.TheVariants.{Write, Sync}
 use Rattle.soc_edge.specs.Calls.{Calls}
-use Rattle.soc_edge.specs.Disk.{written, NoMore}
-use Rattle.soc_edge.specs.DiskLaws.{Tears-written, IsImage-reads}
-use Rattle.soc_edge.specs.DiskLog.{DiskState, may_leave_of, Made, Wrote, Synced, reads_as, bytes_written}
+use Rattle.soc_edge.specs.Disk.{written, GoesOn, Looks, MayTear}
+use Rattle.soc_edge.specs.DiskLaws.{Tears-written, IsImage-reads, IsDisk-told}
+use Rattle.soc_edge.specs.DiskLog.{DiskState, disk_told, IsImage, Made, Wrote, Synced, reads_as, bytes_written}
+use Rattle.soc_edge.proofs.Disks.{IsTorn-same}
 use Rattle.soc_edge.specs.DiskEntries.{bytes_of, AllEnd, made_by, bytes_after, log_of}
 
 pub length-log_of : (log : List Made) (entries : List Entry) (bytes : List ℕ) → length (log_of log entries bytes) ≡ length log + length entries
@@ -101,10 +102,68 @@ bytes_of-kept entries more place count is = ap (λ (x : List Entry). bytes_of x)
 pub length-written-le : (content : List ℕ) (place : ℕ) (bytes : List ℕ) (room : ℕ) → length content ≤ room → place + length bytes ≤ room → length (written content place bytes) ≤ room
 length-written-le content place bytes room low ends = omega (arith, (Tears-written content place bytes).no_longer)
 
+-- a call that makes nothing
+pub Looks-calls : (before after : DiskState) (calls : Calls) → before.calls.failed ≤ calls.failed → after ≡ record before { calls = calls } → Looks (disk_told before) (disk_told after)
+Looks-calls before after calls rises is =
+    let P : DiskState → Type 0 = λ disk. Looks (disk_told before) (disk_told disk) in
+    let same = IsDisk-told before in
+    let looks : Looks (disk_told before) (disk_told (record before { calls = calls })) = record {
+      same = refl;
+      images = λ image left. left;
+      any_moment = record { each = same.only_now };
+      goes_on = record {
+        later = omega arith;
+        keeps = λ t image low left. left;
+        nothing_else = λ t image low left. inl left;
+        wider = same.wider;
+        faults_never_fall = rises;
+      };
+    } in
+    subst P (sym is) looks
+
+-- a write or a sync
+GoesOn-made : (before after : DiskState) (made : Made) → after ≡ record before { log = made ∷ before.log } → GoesOn (disk_told before) (disk_told after)
+GoesOn-made before after made is =
+    let P : DiskState → Type 0 = λ disk. GoesOn (disk_told before) (disk_told disk) in
+    let more : DiskState = record before { log = made ∷ before.log } in
+    let goes_on : GoesOn (disk_told before) (disk_told more) = record {
+      later = omega arith;
+      keeps = λ t image low left. inr left;
+      nothing_else = λ t image low left. elim left [ inl now ↦ inr (inl (omega arith, now.1)) | inr past ↦ inl past ];
+      wider = (IsDisk-told more).wider;
+      faults_never_fall = omega arith;
+    } in
+    subst P (sym is) goes_on
+
 -- after a sync the one image is one of those before it
-pub NoMore-settled : (before after : DiskState) (calls : Calls) → after ≡ record before { log = Synced ∷ before.log; calls = calls } → NoMore (may_leave_of before) (may_leave_of after)
-NoMore-settled before after calls is image left =
-    let Now : DiskState → Type 0 = λ disk. may_leave_of disk image in
-    let only : image ≡ reads_as before.first before.log = subst Now is left in
-    let Before : List ℕ → Type 0 = λ x. may_leave_of before x in
-    subst Before (sym only) (IsImage-reads before.first before.log)
+pub Looks-synced : (before after : DiskState) → after ≡ record before { log = Synced ∷ before.log } → Looks (disk_told before) (disk_told after)
+Looks-synced before after is =
+    let P : DiskState → Type 0 = λ disk. Looks (disk_told before) (disk_told disk) in
+    let more : DiskState = record before { log = Synced ∷ before.log } in
+    let I : List ℕ → Type 0 = IsImage before.first before.log in
+    let one : (image : List ℕ) → image ≡ reads_as before.first before.log → I image =
+    λ image only. subst I (sym only) (IsImage-reads before.first before.log) in
+    let looks : Looks (disk_told before) (disk_told more) = record {
+      same = refl;
+      images = one;
+      any_moment = record { each = λ image left. elim left [ inl now ↦ one image now.1 | inr past ↦ (IsDisk-told before).only_now image past ] };
+      goes_on = GoesOn-made before more Synced refl;
+    } in
+    subst P (sym is) looks
+
+pub MayTear-wrote : (before after : DiskState) (place : ℕ) (bytes : List ℕ) → after ≡ record before { log = Wrote place bytes ∷ before.log } → MayTear place (length bytes) (disk_told before) (disk_told after)
+MayTear-wrote before after place bytes is =
+    let P : DiskState → Type 0 = λ disk. MayTear place (length bytes) (disk_told before) (disk_told disk) in
+    let more : DiskState = record before { log = Wrote place bytes ∷ before.log } in
+    let I : List ℕ → Type 0 = IsImage before.first before.log in
+    let tears : MayTear place (length bytes) (disk_told before) (disk_told more) = record {
+      images = λ image left. left;
+      any_moment = record {
+        each = λ image left. elim left [
+          | inl now ↦ record { earlier = now.1.0; was = now.1.1; tears = now.1.2 }
+          | inr past ↦ IsTorn-same I place (length bytes) image ((IsDisk-told before).only_now image past)
+        ];
+      };
+      goes_on = GoesOn-made before more (Wrote place bytes) refl;
+    } in
+    subst P (sym is) tears

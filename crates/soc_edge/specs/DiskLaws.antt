@@ -2,8 +2,8 @@
 use Rattle.std.specs.Prelude.{◌≡◌, ℕ, ◌+◌, ◌-◌, ◌≤◌, min, Some, List, [], ◌∷◌, ◌++◌, length, take, drop, replicate, refl}
 use Rattle.std.proofs.Common.{sym, ◌∙◌, ap, subst, inl, inr, arith, append_assoc}
 use Rattle.std.proofs.lemmas.List.{length-append, length-take, length-drop, length-replicate, take_min, take_at, drop_at}
-use Rattle.soc_edge.specs.Disk.{written, Tears}
-use Rattle.soc_edge.specs.DiskLog.{Made, Wrote, Synced, reads_as, IsImage, WasImageSince}
+use Rattle.soc_edge.specs.Disk.{written, Tears, IsDisk}
+use Rattle.soc_edge.specs.DiskLog.{DiskState, disk_told, Made, Wrote, Synced, reads_as, IsImage, WasImageSince}
 
 -- a content that stays is one that a torn write may leave
 pub Tears-same : (place count : ℕ) (content : List ℕ) → Tears place count content content
@@ -70,3 +70,16 @@ pub WasImageSince-only : (first : List ℕ) (log : List Made) (image : List ℕ)
 WasImageSince-only first [] image was = was.1
 WasImageSince-only first (made ∷ log) image (inl now) = now.1
 WasImageSince-only first (made ∷ log) image (inr past) = absurd (omega (arith, WasImageSince-low first log (length (made ∷ log)) image past))
+
+pub WasImageSince-wider : (first : List ℕ) (log : List Made) (s t : ℕ) (image : List ℕ) → s ≤ t → WasImageSince first log t image → WasImageSince first log s image
+WasImageSince-wider first [] s t image low was = (omega (arith, was.0), was.1)
+WasImageSince-wider first (made ∷ log) s t image low (inl now) = inl (omega (arith, now.0), now.1)
+WasImageSince-wider first (made ∷ log) s t image low (inr past) = inr (WasImageSince-wider first log s t image low past)
+
+pub IsDisk-told : (disk : DiskState) → IsDisk (disk_told disk)
+IsDisk-told disk = record {
+  reads_as_image = λ bytes told. IsImage-told disk.first disk.log bytes told;
+  counts_now = λ t image low now. WasImageSince-now disk.first disk.log t image low now;
+  only_now = λ image left. WasImageSince-only disk.first disk.log image left;
+  wider = λ s t image low was. WasImageSince-wider disk.first disk.log s t image low was;
+}

@@ -1,7 +1,7 @@
 -- A disk in memory, by what it began with and the writes and syncs that it has made since, the latest first.
-use Rattle.std.specs.Prelude.{◌≡◌, ◌⊎◌, ℕ, ◌+◌, ◌-◌, ◌/◌, ◌%◌, ◌≤◌, Bool, ◌||◌, nat_lt, nat_le, ◌==◌, if◌then◌else◌, List, [], ◌∷◌, length, take, map}
+use Rattle.std.specs.Prelude.{◌≡◌, ◌⊎◌, ℕ, ◌+◌, ◌-◌, ◌/◌, ◌%◌, ◌≤◌, Bool, ◌||◌, nat_lt, nat_le, ◌==◌, if◌then◌else◌, Some, List, [], ◌∷◌, length, take, map}
 use Rattle.soc_edge.specs.Calls.{Calls, is_due}
-use Rattle.soc_edge.specs.Disk.{written, Tears}
+use Rattle.soc_edge.specs.Disk.{written, Tears, DiskTold}
 
 -- a write at a place, or a sync
 pub data Made : Type 0 where
@@ -81,14 +81,13 @@ stopped first (Wrote place bytes ∷ log) choice = record {
 }
 stopped first (Synced ∷ log) choice = record { image = reads_as first log; choice = choice }
 
--- what a stop may leave now
-abbrev pub may_leave_of : DiskState → List ℕ → Type 0
-may_leave_of disk = IsImage disk.first disk.log
-
--- how many writes and syncs were made
-abbrev pub moment_of : DiskState → ℕ
-moment_of disk = length disk.log
-
--- what a stop since a moment might have left
-abbrev pub left_since_of : DiskState → ℕ → List ℕ → Type 0
-left_since_of disk = WasImageSince disk.first disk.log
+-- as contracts see it; the moment is how many writes and syncs were made
+abbrev pub disk_told : DiskState → DiskTold
+disk_told disk = record {
+  content = Some (content_of disk);
+  images = IsImage disk.first disk.log;
+  since = WasImageSince disk.first disk.log;
+  moment = length disk.log;
+  calls = disk.calls.made;
+  faults = disk.calls.failed;
+}

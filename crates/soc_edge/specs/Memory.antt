@@ -1,17 +1,24 @@
 -- What the stand-ins in memory are, as contracts see them.
-use Rattle.std.specs.Prelude.{ℕ, ◌-◌, min, Option, List, length, slice_get}
+use Rattle.std.specs.Prelude.{ℕ, ◌-◌, min, Option, Some, List, length, slice_get}
 use Rattle.soc_edge.specs.Calls.{Calls}
+use Rattle.soc_edge.specs.Told.{Told, untold}
 
 -- a source: the bytes that are left, and its calls
 pub record InputState : Type 0 where
   pub left : List ℕ
   pub calls : Calls
 
+abbrev pub source_told : InputState → Told
+source_told source = record untold { left = Some source.left; read_faults = source.calls.failed }
+
 -- a sink: the bytes that it holds, how many it has room for in all, and its calls
 pub record OutputState : Type 0 where
   pub held : List ℕ
   pub room : ℕ
   pub calls : Calls
+
+abbrev pub sink_told : OutputState → Told
+sink_told sink = record untold { held = Some sink.held; write_faults = sink.calls.failed }
 
 -- draws: the numbers and the ids that are still to come
 pub record DrawsState : Type 0 where

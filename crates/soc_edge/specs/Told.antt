@@ -1,7 +1,48 @@
 -- What an object outside tells of its content. It is optional: `None` where the object doesn't tell.
 -- A clause on content holds where it is told, and is written `IfSome told (λ bytes. ..)`.
-use Rattle.std.specs.Prelude.{◌≡◌, ℕ, ◌+◌, ◌<◌, Option, IfSome, List, [], ◌∷◌, length, take}
+use Rattle.std.specs.Prelude.{◌≡◌, ℕ, ◌+◌, ◌<◌, ◌≤◌, Option, None, IfSome, List, [], ◌∷◌, length, take}
 use Rattle.std.specs.Io.KnownBytes.{append_known, prepend_known}
+use Rattle.soc_edge.specs.Faults.{Rose}
+
+-- what is left to be read, what was written, and how often a read and a write have failed
+pub record Told : Type 0 where
+  pub left : Option (List ℕ)
+  pub held : Option (List ℕ)
+  pub read_faults : ℕ
+  pub write_faults : ℕ
+
+-- of what tells nothing
+abbrev pub untold : Told
+untold = record { left = None; held = None; read_faults = 0; write_faults = 0 }
+
+-- a source and a sink as one
+abbrev pub joined : Told → Told → Told
+joined source sink = record source { held = sink.held; write_faults = sink.write_faults }
+
+-- nothing but reads: what is held stays, and no write failed
+pub record OnlyReads (before after : Told) : Type 0 where
+  pub held_stays : after.held ≡ before.held
+  pub reads_never_fall : before.read_faults ≤ after.read_faults
+  pub write_faults_stay : after.write_faults ≡ before.write_faults
+
+-- nothing but writes: what is left stays, and no read failed
+pub record OnlyWrites (before after : Told) : Type 0 where
+  pub left_stays : after.left ≡ before.left
+  pub read_faults_stay : after.read_faults ≡ before.read_faults
+  pub writes_never_fall : before.write_faults ≤ after.write_faults
+
+-- whatever was read and written, no fault is forgotten
+pub record NeverFall (before after : Told) : Type 0 where
+  pub reads : before.read_faults ≤ after.read_faults
+  pub writes : before.write_faults ≤ after.write_faults
+
+-- a read failed
+abbrev pub ReadFailed : Told → Told → Type 0
+ReadFailed before after = Rose before.read_faults after.read_faults
+
+-- a write failed
+abbrev pub WriteFailed : Told → Told → Type 0
+WriteFailed before after = Rose before.write_faults after.write_faults
 
 -- what was left began with these bytes, and loses them; what wasn't told is not told afterwards
 abbrev pub Gives : Option (List ℕ) → Option (List ℕ) → List ℕ → Type 0
@@ -16,6 +57,21 @@ pub record TakesFront (before after : Option (List ℕ)) (bytes : List ℕ) : Ty
   pub count : ℕ
   pub not_all : count < length bytes
   pub takes : Takes before after (take count bytes)
+
+-- reads gave these bytes, and nothing else was done
+pub record Reads (before after : Told) (bytes : List ℕ) : Type 0 where
+  pub gives : Gives before.left after.left bytes
+  pub only : OnlyReads before after
+
+-- writes took these bytes, and nothing else was done
+pub record Writes (before after : Told) (bytes : List ℕ) : Type 0 where
+  pub takes : Takes before.held after.held bytes
+  pub only : OnlyWrites before after
+
+-- writes took the first of these bytes and not all of them, and nothing else was done
+pub record WritesFront (before after : Told) (bytes : List ℕ) : Type 0 where
+  pub front : TakesFront before.held after.held bytes
+  pub only : OnlyWrites before after
 
 -- the first of what was to come was handed out, and the rest has moved up by one.
 -- What is to come is told number by number: the k-th call from here gives the k-th of it, where that is told.

@@ -1,4 +1,6 @@
 // A source and a sink as one.
+ghost use Rattle.soc_edge.specs.Told.{joined};
+
 use crate::{Failed, Sink, Source, Tells};
 
 /// Joins a source and a sink, as the two directions of a connection.
@@ -11,13 +13,7 @@ pub struct Both<S, K> {
 }
 
 impl<S: Tells, K: Tells> Tells for Both<S, K> {
-    ghost left = { λ b. S.left b.source };
-
-    ghost held = { λ b. K.held b.sink };
-
-    ghost read_faults = { λ b. S.read_faults b.source };
-
-    ghost write_faults = { λ b. K.write_faults b.sink };
+    ghost told = { λ b. joined (S.told b.source) (K.told b.sink) };
 }
 
 impl<S: Source, K: Tells> Source for Both<S, K> {

@@ -1,7 +1,6 @@
 // Where bytes go to.
-ghost use Rattle.std.specs.Prelude.{◌≡◌, ◌<◌, ◌≤◌, length, take, IfOk, OnErr};
-ghost use Rattle.soc_edge.specs.Faults.{Rose};
-ghost use Rattle.soc_edge.specs.Told.{Takes};
+ghost use Rattle.std.specs.Prelude.{◌<◌, ◌≤◌, [], length, take, IfOk, OnErr};
+ghost use Rattle.soc_edge.specs.Told.{Writes, WriteFailed};
 
 use crate::{Failed, Tells};
 
@@ -12,12 +11,9 @@ pub trait Sink: Tells {
     fn write(&mut self, bytes: &[u8]) -> Result<usize, Failed>
         ensures count { IfOk result (λ n. n ≤ length bytes.now) }
         ensures some { IfOk result (λ n. 0 < length bytes.now → 0 < n) }
-        ensures takes { IfOk result (λ n. Takes (Self.held self.old) (Self.held self.new) (take n bytes.now)) }
-        ensures untouched { OnErr result (Self.held self.new ≡ Self.held self.old) }
-        ensures never_falls { Self.write_faults self.old ≤ Self.write_faults self.new }
-        ensures cause { OnErr result (Rose (Self.write_faults self.old) (Self.write_faults self.new)) }
-        ensures left_stays { Self.left self.new ≡ Self.left self.old }
-        ensures read_faults_stay { Self.read_faults self.new ≡ Self.read_faults self.old };
+        ensures writes { IfOk result (λ n. Writes (Self.told self.old) (Self.told self.new) (take n bytes.now)) }
+        ensures untouched { OnErr result (Writes (Self.told self.old) (Self.told self.new) []) }
+        ensures cause { OnErr result (WriteFailed (Self.told self.old) (Self.told self.new)) };
 }
 
 /// A sink that is lent holds the same bytes and has the same count of faults.

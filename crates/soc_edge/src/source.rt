@@ -1,8 +1,7 @@
 // Where bytes come from.
-ghost use Rattle.std.specs.Prelude.{◌≡◌, ◌<◌, ◌≤◌, length, take, IfOk, OnErr};
+ghost use Rattle.std.specs.Prelude.{◌≡◌, ◌<◌, ◌≤◌, [], length, take, IfOk, OnErr};
 ghost use Rattle.std.specs.Io.KnownBytes.{IsAtEnd};
-ghost use Rattle.soc_edge.specs.Faults.{Rose};
-ghost use Rattle.soc_edge.specs.Told.{Gives};
+ghost use Rattle.soc_edge.specs.Told.{Reads, ReadFailed};
 
 use crate::{Failed, Tells};
 
@@ -13,13 +12,10 @@ pub trait Source: Tells {
     /// After `Failed` nothing was moved. What was written stays, where the source is a sink too.
     fn read(&mut self, into: &mut [u8]) -> Result<usize, Failed>
         ensures count { IfOk result (λ n. n ≤ length into.new) }
-        ensures gives { IfOk result (λ n. Gives (Self.left self.old) (Self.left self.new) (take n into.new)) }
-        ensures end { IfOk result (λ n. n ≡ 0 → 0 < length into.new → IsAtEnd (Self.left self.new)) }
-        ensures unmoved { OnErr result (Self.left self.new ≡ Self.left self.old) }
-        ensures never_falls { Self.read_faults self.old ≤ Self.read_faults self.new }
-        ensures cause { OnErr result (Rose (Self.read_faults self.old) (Self.read_faults self.new)) }
-        ensures held_stays { Self.held self.new ≡ Self.held self.old }
-        ensures write_faults_stay { Self.write_faults self.new ≡ Self.write_faults self.old };
+        ensures reads { IfOk result (λ n. Reads (Self.told self.old) (Self.told self.new) (take n into.new)) }
+        ensures end { IfOk result (λ n. n ≡ 0 → 0 < length into.new → IsAtEnd (Self.told self.new).left) }
+        ensures unmoved { OnErr result (Reads (Self.told self.old) (Self.told self.new) []) }
+        ensures cause { OnErr result (ReadFailed (Self.told self.old) (Self.told self.new)) };
 }
 
 /// A source that is lent has the same bytes left and the same count of faults.

@@ -3,8 +3,8 @@ use Rattle.std.proofs.Common.{◌≡◌, ℕ, ◌+◌, ◌-◌, ◌<◌, ◌≤�
 use Rattle.std.proofs.lemmas.List.{take-take, length-take-le, drop-drop, drop-take}
 use Rattle.std.proofs.Math.Seq.{take-add}
 use Rattle.std.specs.Io.KnownBytes.{IsAtEnd}
-use Rattle.soc_edge.specs.Told.{Gives}
-use Rattle.soc_edge.proofs.Told.{Gives-append}
+use Rattle.soc_edge.specs.Told.{Told, Reads}
+use Rattle.soc_edge.proofs.Told.{Reads-append}
 use Rattle.soc_http.specs.declared.body.BodyError.{BodyError}
 use Rattle.soc_http.specs.declared.body.BodyError.TheVariants as B
 use Rattle.soc_http.specs.Body.{IfCut, IsPiece, IsPieceReady, PassesOver, Passes, Past, IsFilledTo}
@@ -15,7 +15,7 @@ use Rattle.soc_http.specs.Body.{IfCut, IsPiece, IsPieceReady, PassesOver, Passes
 joined : (u v g h front : List ℕ) → u ++ g ≡ front ++ v → u ++ (g ++ h) ≡ front ++ (v ++ h)
 joined u v g h front e = sym (append_assoc u g h) ∙ ap (λ l. l ++ h) e ∙ append_assoc front v h
 
-pub Past-more : (a b c : Option (List ℕ)) (u v w x : List ℕ) (n left k m : ℕ) → Past a b u v n → IsPieceReady b c v left (Ok k) w
+pub Past-more : (a b c : Told) (u v w x : List ℕ) (n left k m : ℕ) → Past a b u v n → IsPieceReady b c v left (Ok k) w
     → x ≡ drop k w → m ≡ n + k → Past a c u x m
 Past-more a b c u v w x n left k m past ready is counted =
     let front = past.skips.front in
@@ -23,7 +23,7 @@ Past-more a b c u v w x n left k m past ready is counted =
     let before : length front ≡ n = past.skips.counted in
     record {
       given = past.given ++ ready.given;
-      gives = Gives-append a b c past.given ready.given past.gives ready.gives;
+      gives = Reads-append a b c past.given ready.given past.gives ready.gives;
       skips = record {
         front = front ++ take k w;
         whole = joined u v past.given ready.given front past.skips.whole
@@ -33,11 +33,11 @@ Past-more a b c u v w x n left k m past ready is counted =
       };
     }
 
-pub Passes-failed : (a b c : Option (List ℕ)) (u v w : List ℕ) (n left count : ℕ) (error : BodyError) → Past a b u v n
+pub Passes-failed : (a b c : Told) (u v w : List ℕ) (n left count : ℕ) (error : BodyError) → Past a b u v n
     → IsPieceReady b c v left (Err error) w → n < count → Passes a c u count (Err error) w
 Passes-failed a b c u v w n left count error past ready less = record {
   given = past.given ++ ready.given;
-  gives = Gives-append a b c past.given ready.given past.gives ready.gives;
+  gives = Reads-append a b c past.given ready.given past.gives ready.gives;
   reads = failed error ready.reads;
   ended = ended error ready.ended;
 }
@@ -59,22 +59,22 @@ Passes-failed a b c u v w n left count error past ready less = record {
     failed B.ReadFault p = few p
     failed B.NoMemory p = absurd p
 
-    ended : (e : BodyError) → IfCut {A = ℕ} (Err e) (IsAtEnd c) → IfCut {A = Unit {0}} (Err e) (IsAtEnd c)
+    ended : (e : BodyError) → IfCut {A = ℕ} (Err e) (IsAtEnd c.left) → IfCut {A = Unit {0}} (Err e) (IsAtEnd c.left)
     ended B.CutShort p = p
     ended B.ReadFault p = tt
     ended B.NoMemory p = tt
 
 -- ---- reading into place
 
-pub IsFilledTo-more : (a b c : Option (List ℕ)) (u body grown new : List ℕ) (at n : ℕ) → IsFilledTo a b u body new at
+pub IsFilledTo-more : (a b c : Told) (u body grown new : List ℕ) (at n : ℕ) → IsFilledTo a b u body new at
     → at < length body → length grown ≡ length body → take at grown ≡ take at body → at + n ≤ length grown
-    → Gives b c (take n (drop at grown)) → IsFilledTo a c u grown new (at + n)
+    → Reads b c (take n (drop at grown)) → IsFilledTo a c u grown new (at + n)
 IsFilledTo-more a b c u body grown new at n filled less size front within gives =
     let more = take n (drop at grown) in
     let empty : new ≡ [] = filled.emptied less in
     record {
       given = filled.given ++ more;
-      gives = Gives-append a b c filled.given more filled.gives gives;
+      gives = Reads-append a b c filled.given more filled.gives gives;
       whole = sym (append_assoc u filled.given more)
           ∙ ap (λ l. l ++ more) (filled.whole ∙ ap (λ l. take at body ++ l) empty ∙ append-nil (take at body) ∙ sym front)
           ∙ sym (take-add at n grown)

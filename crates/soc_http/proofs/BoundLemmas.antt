@@ -3,6 +3,7 @@ use Rattle.std.proofs.Common.{◌≡◌, ℕ, ◌≤◌, ◌||◌, Bool, true, f
 use Rattle.std.proofs.lemmas.Bool.Decides.{nat_tests}
 use Rattle.std.specs.Prelude.{IfOk, IfSome, codes}
 use Rattle.std.specs.List.{list_any}
+use Rattle.soc_edge.specs.Told.{Told}
 use Rattle.soc_http.specs.declared.verb.Verb.{Verb}
 use Rattle.soc_http.specs.declared.framing.Stated.{Stated}
 use Rattle.soc_http.specs.declared.framing.Stated.TheVariants.{Nothing, Length, Bad}
@@ -59,7 +60,7 @@ TakesHead-within text head rest takes =
       bytes = omega arith;
     }
 
-pub ReadsHeadFrom-within : (a b : Option (List ℕ)) (old new : List ℕ) (result : Result (Option Head) HeadError)
+pub ReadsHeadFrom-within : (a b : Told) (old new : List ℕ) (result : Result (Option Head) HeadError)
     → ReadsHeadFrom a b old result new → IfOk result (λ found. IfSome found IsWithinLimits)
 ReadsHeadFrom-within a b old new (Ok None) p = tt
 ReadsHeadFrom-within a b old new (Ok (Some head)) p = TakesHead-within _ head new p.reads

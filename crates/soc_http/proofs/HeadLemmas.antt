@@ -1,8 +1,9 @@
 -- What the search for a block and the reading of a head say of the text so far, and of all that is ahead.
 use Rattle.std.proofs.Common.{◌≡◌, ℕ, ◌+◌, ◌<◌, ◌≤◌, inl, inr, List, [], ◌++◌, length, take, drop, Option, None, Some, Result, Ok, Err, refl, sym, ap, subst, ◌∙◌, append_assoc, append-nil, arith, length-append, take-append-drop, min}
 use Rattle.std.proofs.lemmas.List.{take_all, take-take, take-append-le, length-take-le, take_min}
-use Rattle.std.specs.Io.KnownBytes.{IsAtEnd}
-use Rattle.soc_edge.proofs.Told.{Gives-none, Gives-append}
+use Rattle.std.specs.Io.KnownBytes.{IsAtEnd, prepend_known}
+use Rattle.soc_edge.proofs.Told.{Reads-none, Reads-append}
+use Rattle.soc_edge.specs.Told.{Told, Gives}
 use Rattle.soc_http.specs.declared.head.Head.{Head}
 use Rattle.soc_http.specs.declared.head.HeadError.{HeadError}
 use Rattle.soc_http.specs.declared.head.HeadError.TheVariants as H
@@ -12,13 +13,13 @@ use Rattle.soc_http.specs.Reading.{Fills, ahead, IfEnded, IfFault, IsWithinHead,
 
 -- ---- the search
 
-pub Fills-none : (a : Option (List ℕ)) (w : List ℕ) → Fills a a w w
-Fills-none a w = record { given = []; gives = Gives-none a a refl; grown = sym (append-nil w) }
+pub Fills-none : (a : Told) (w : List ℕ) → Fills a a w w
+Fills-none a w = record { given = []; gives = Reads-none a; grown = sym (append-nil w) }
 
-pub Fills-more : (a b c : Option (List ℕ)) (u v w : List ℕ) → Fills a b u v → Fills b c v w → Fills a c u w
+pub Fills-more : (a b c : Told) (u v w : List ℕ) → Fills a b u v → Fills b c v w → Fills a c u w
 Fills-more a b c u v w p q = record {
   given = p.given ++ q.given;
-  gives = Gives-append a b c p.given q.given p.gives q.gives;
+  gives = Reads-append a b c p.given q.given p.gives q.gives;
   grown = q.grown ∙ ap (λ l. l ++ q.given) p.grown ∙ append_assoc u p.given q.given;
 }
 
@@ -62,14 +63,14 @@ HasNoBlockInLimit-none text longer none = record {
 }
 
 -- nothing was given
-Fills-same : (a b : Option (List ℕ)) (old new : List ℕ) (n : ℕ) → Fills a b old new → length new ≡ length old + n → n ≡ 0 → new ≡ old
+Fills-same : (a b : Told) (old new : List ℕ) (n : ℕ) → Fills a b old new → length new ≡ length old + n → n ≡ 0 → new ≡ old
 Fills-same a b old new n fills count none =
     let len : length new ≡ length old + length fills.given = ap length fills.grown ∙ length-append old fills.given in
     let empty : fills.given ≡ [] = sym (take_all 0 fills.given (omega arith)) in
     fills.grown ∙ ap (λ l. old ++ l) empty ∙ append-nil old
 
 -- the input ends within a head
-pub EndsInHead-at : (a b : Option (List ℕ)) (old new : List ℕ) (n : ℕ) → Fills a b old new → length new ≡ length old + n → n ≡ 0
+pub EndsInHead-at : (a b : Told) (old new : List ℕ) (n : ℕ) → Fills a b old new → length new ≡ length old + n → n ≡ 0
     → (length old ≡ 0 → ⊥) → length old ≤ block_limit → HasNoBlock old → EndsInHead new
 EndsInHead-at a b old new n fills count none begun within unfinished =
     let same = Fills-same a b old new n fills count none in
@@ -88,7 +89,7 @@ TakesBlock-at text window block end same is within few shortest =
     }
 
 -- a head that was found
-pub ReadsHeadFrom-found : (a b : Option (List ℕ)) (old new block rest : List ℕ) (end : ℕ) (head : Head) → Fills a b old new
+pub ReadsHeadFrom-found : (a b : Told) (old new block rest : List ℕ) (end : ℕ) (head : Head) → Fills a b old new
     → IsSearched new b (Ok (Some end)) → block ≡ take end new → HasFewLines block → HeadOf block head → rest ≡ drop end new
     → ReadsHeadFrom a b old (Ok (Some head)) rest
 ReadsHeadFrom-found a b old new block rest end head fills found is few says behind = record {
@@ -142,7 +143,7 @@ not_faulty block H.ReadFault P refused = absurd refused
 not_faulty block H.NoMemory P refused = tt
 
 -- a block that is refused
-pub ReadsHeadFrom-refused : (a b : Option (List ℕ)) (old new block : List ℕ) (end : ℕ) (error : HeadError) → Fills a b old new
+pub ReadsHeadFrom-refused : (a b : Told) (old new block : List ℕ) (end : ℕ) (error : HeadError) → Fills a b old new
     → IsSearched new b (Ok (Some end)) → block ≡ take end new → OrNoMemory error (RefusesBlock block error)
     → ReadsHeadFrom a b old (Err error) new
 ReadsHeadFrom-refused a b old new block end error fills found is refused = record {
@@ -153,7 +154,7 @@ ReadsHeadFrom-refused a b old new block end error fills found is refused = recor
     by_text (old ++ fills.given) block error
         (λ e r. begins-refused _ new block end e (sym fills.grown) is found.0 found.1 found.2 r) refused,
   );
-  ended = not_ended block error (IsAtEnd b) refused;
+  ended = not_ended block error (IsAtEnd b.left) refused;
   unfinished = not_faulty block error (IsWithinHead new) refused;
 }
 
@@ -207,17 +208,21 @@ ReadsHead-more text rest more (Err error) ended p =
 none_is_some : (x : List ℕ) → None ≡ Some x → ⊥
 none_is_some x e = cc
 
--- where the source tells what it has left, the answer is that of all that is ahead
-pub ReadsHeadAhead-from : (a b : Option (List ℕ)) (old new : List ℕ) (result : Result (Option Head) HeadError)
-    → ReadsHeadFrom a b old result new → ReadsHeadAhead (ahead old a) result (ahead new b)
-ReadsHeadAhead-from None None old new result p = refl
-ReadsHeadAhead-from None (Some m) old new result p = absurd (none_is_some _ p.gives)
-ReadsHeadAhead-from (Some l) None old new result p = absurd (none_is_some _ (sym p.gives))
-ReadsHeadAhead-from (Some l) (Some m) old new result p =
-    let left : l ≡ p.given ++ m = some_is _ _ p.gives in
+ahead_from : (x y : Option (List ℕ)) (given old new : List ℕ) (result : Result (Option Head) HeadError) → Gives x y given
+    → ReadsHead (old ++ given) result new → IfEnded result (IsAtEnd y) → ReadsHeadAhead (prepend_known old x) result (prepend_known new y)
+ahead_from None None given old new result gives reads ended = refl
+ahead_from None (Some m) given old new result gives reads ended = absurd (none_is_some _ gives)
+ahead_from (Some l) None given old new result gives reads ended = absurd (none_is_some _ (sym gives))
+ahead_from (Some l) (Some m) given old new result gives reads ended =
+    let left : l ≡ given ++ m = some_is _ _ gives in
     subst (λ text. ReadsHead text result (new ++ m))
-    (append_assoc old p.given m ∙ ap (λ x. old ++ x) (sym left))
-    (ReadsHead-more (old ++ p.given) new m result p.ended p.reads)
+    (append_assoc old given m ∙ ap (λ x. old ++ x) (sym left))
+    (ReadsHead-more (old ++ given) new m result ended reads)
   where
     some_is : (x y : List ℕ) → Some x ≡ Some y → x ≡ y
     some_is x y e = cc
+
+-- where the source tells what it has left, the answer is that of all that is ahead
+pub ReadsHeadAhead-from : (a b : Told) (old new : List ℕ) (result : Result (Option Head) HeadError)
+    → ReadsHeadFrom a b old result new → ReadsHeadAhead (ahead old a) result (ahead new b)
+ReadsHeadAhead-from a b old new result p = ahead_from a.left b.left p.given old new result p.gives.gives p.reads p.ended

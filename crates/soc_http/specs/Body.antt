@@ -2,7 +2,7 @@
 use Rattle.std.specs.Prelude.{◌≡◌, ℕ, ◌<◌, ◌≤◌, List, [], ◌++◌, length, take, Option, None, Some, Result, Ok, Err}
 use Rattle.std.specs.Borrow.{Bor}
 use Rattle.std.specs.Io.KnownBytes.{IsAtEnd}
-use Rattle.soc_edge.specs.Told.{Gives}
+use Rattle.soc_edge.specs.Told.{Told, Reads}
 use Rattle.soc_http.specs.declared.body.BodyError.{BodyError}
 use Rattle.soc_http.specs.declared.body.BodyError.TheVariants as B
 
@@ -41,11 +41,11 @@ IfCut (Err B.NoMemory) P = Unit {0}
 
 -- the source gave bytes, and with them the window's text gives this answer, whatever else the source has left
 pub record BodyFrom
-    (before after : Option (List ℕ)) (old : List ℕ) (count : ℕ) (result : Result (List ℕ) BodyError) (new : List ℕ) : Type 0 where
+    (before after : Told) (old : List ℕ) (count : ℕ) (result : Result (List ℕ) BodyError) (new : List ℕ) : Type 0 where
   pub given : List ℕ
-  pub gives : Gives before after given
+  pub gives : Reads before after given
   pub reads : ReadsBodyFrom (old ++ given) count result new
-  pub ended : IfCut result (IsAtEnd after)
+  pub ended : IfCut result (IsAtEnd after.left)
 
 -- the same over all that is ahead, where it is told
 abbrev pub ReadsBodyAhead : Option (List ℕ) → ℕ → Result (List ℕ) BodyError → Option (List ℕ) → Type 0
@@ -63,11 +63,11 @@ IsPiece text left (Err B.ReadFault) window = (text ≡ []) × (window ≡ [])
 IsPiece text left (Err B.NoMemory) window = ⊥
 
 pub record IsPieceReady
-    (before after : Option (List ℕ)) (old : List ℕ) (left : ℕ) (result : Result ℕ BodyError) (new : List ℕ) : Type 0 where
+    (before after : Told) (old : List ℕ) (left : ℕ) (result : Result ℕ BodyError) (new : List ℕ) : Type 0 where
   pub given : List ℕ
-  pub gives : Gives before after given
+  pub gives : Reads before after given
   pub reads : IsPiece (old ++ given) left result new
-  pub ended : IfCut result (IsAtEnd after)
+  pub ended : IfCut result (IsAtEnd after.left)
 
 -- ---- a body that is passed over
 
@@ -78,16 +78,16 @@ PassesOver text count (Err B.ReadFault) rest = (length text < count) × (rest �
 PassesOver text count (Err B.NoMemory) rest = ⊥
 
 pub record Passes
-    (before after : Option (List ℕ)) (old : List ℕ) (count : ℕ) (result : Result (Unit {0}) BodyError) (new : List ℕ) : Type 0 where
+    (before after : Told) (old : List ℕ) (count : ℕ) (result : Result (Unit {0}) BodyError) (new : List ℕ) : Type 0 where
   pub given : List ℕ
-  pub gives : Gives before after given
+  pub gives : Reads before after given
   pub reads : PassesOver (old ++ given) count result new
-  pub ended : IfCut result (IsAtEnd after)
+  pub ended : IfCut result (IsAtEnd after.left)
 
 -- what stands behind so many bytes, once the source gave some
-pub record Past (before after : Option (List ℕ)) (old new : List ℕ) (count : ℕ) : Type 0 where
+pub record Past (before after : Told) (old new : List ℕ) (count : ℕ) : Type 0 where
   pub given : List ℕ
-  pub gives : Gives before after given
+  pub gives : Reads before after given
   pub skips : Skips (old ++ given) count new
 
 -- ---- a body that is read into its place
@@ -99,16 +99,16 @@ ReadsInto text body (Err B.ReadFault) rest = (length text < length body) × (res
 ReadsInto text body (Err B.NoMemory) rest = ⊥
 
 pub record IntoFrom
-    (before after : Option (List ℕ)) (old body : List ℕ) (result : Result (Unit {0}) BodyError) (new : List ℕ) : Type 0 where
+    (before after : Told) (old body : List ℕ) (result : Result (Unit {0}) BodyError) (new : List ℕ) : Type 0 where
   pub given : List ℕ
-  pub gives : Gives before after given
+  pub gives : Reads before after given
   pub reads : ReadsInto (old ++ given) body result new
-  pub ended : IfCut result (IsAtEnd after)
+  pub ended : IfCut result (IsAtEnd after.left)
 
 -- the first bytes of the body are there, and the window is empty unless all of them are
-pub record IsFilledTo (before after : Option (List ℕ)) (old body new : List ℕ) (at : ℕ) : Type 0 where
+pub record IsFilledTo (before after : Told) (old body new : List ℕ) (at : ℕ) : Type 0 where
   pub given : List ℕ
-  pub gives : Gives before after given
+  pub gives : Reads before after given
   pub whole : old ++ given ≡ take at body ++ new
   pub within : at ≤ length body
   pub emptied : at < length body → new ≡ []
@@ -123,8 +123,8 @@ ReadsPiece text (Err B.NoMemory) rest = ⊥
 
 -- the source gave bytes, and with them the window's text begins with the piece, whatever else the source has left
 pub record PieceFrom
-    (before after : Option (List ℕ)) (old : List ℕ) (result : Result (Bor (List ℕ)) BodyError) (new : List ℕ) : Type 0 where
+    (before after : Told) (old : List ℕ) (result : Result (Bor (List ℕ)) BodyError) (new : List ℕ) : Type 0 where
   pub given : List ℕ
-  pub gives : Gives before after given
+  pub gives : Reads before after given
   pub reads : ReadsPiece (old ++ given) result new
-  pub ended : IfCut result (IsAtEnd after)
+  pub ended : IfCut result (IsAtEnd after.left)

@@ -1,7 +1,7 @@
 -- Reading from a window and a source: what is ahead of a reader is what stands unread in its window, and then what the source has left.
 use Rattle.std.specs.Prelude.{◌≡◌, ℕ, ◌≤◌, List, [], ◌++◌, length, take, Option, None, Some, Result, Ok, Err, ⊤}
 use Rattle.std.specs.Io.KnownBytes.{prepend_known, IsAtEnd}
-use Rattle.soc_edge.specs.Told.{Gives}
+use Rattle.soc_edge.specs.Told.{Told, Reads}
 use Rattle.soc_http.specs.declared.head.Head.{Head}
 use Rattle.soc_http.specs.declared.head.HeadError.{HeadError}
 use Rattle.soc_http.specs.declared.head.HeadError.TheVariants as H
@@ -9,13 +9,13 @@ use Rattle.soc_http.specs.Message.{ReadsHead, EndsInHead, HasNoBlockInLimit}
 use Rattle.soc_http.specs.Block.{IsBlock, HasNoBlock, block_limit}
 
 -- what is ahead, where the source tells it
-abbrev pub ahead : List ℕ → Option (List ℕ) → Option (List ℕ)
-ahead window left = prepend_known window left
+abbrev pub ahead : List ℕ → Told → Option (List ℕ)
+ahead window told = prepend_known window told.left
 
 -- the source gave bytes, which stand behind those of the window
-pub record Fills (before after : Option (List ℕ)) (old new : List ℕ) : Type 0 where
+pub record Fills (before after : Told) (old new : List ℕ) : Type 0 where
   pub given : List ℕ
-  pub gives : Gives before after given
+  pub gives : Reads before after given
   pub grown : new ≡ old ++ given
 
 -- the answers that a text gives only where it ends
@@ -47,11 +47,11 @@ IsWithinHead window = (length window ≤ block_limit) × HasNoBlock window
 
 -- the source gave bytes, and with them the window's text gives this answer, whatever else the source has left
 pub record ReadsHeadFrom
-    (before after : Option (List ℕ)) (old : List ℕ) (result : Result (Option Head) HeadError) (new : List ℕ) : Type 0 where
+    (before after : Told) (old : List ℕ) (result : Result (Option Head) HeadError) (new : List ℕ) : Type 0 where
   pub given : List ℕ
-  pub gives : Gives before after given
+  pub gives : Reads before after given
   pub reads : ReadsHead (old ++ given) result new
-  pub ended : IfEnded result (IsAtEnd after)
+  pub ended : IfEnded result (IsAtEnd after.left)
   pub unfinished : IfFault result (IsWithinHead new)
 
 -- the same over all that is ahead, where it is told: what isn't told is not told afterwards
@@ -61,10 +61,10 @@ ReadsHeadAhead (Some text) result None = ⊥
 ReadsHeadAhead (Some text) result (Some rest) = ReadsHead text result rest
 
 -- what a search for a block finds in the window, with which the source has this left
-abbrev pub IsSearched : List ℕ → Option (List ℕ) → Result (Option ℕ) HeadError → Type 0
-IsSearched window after (Ok None) = (window ≡ []) × IsAtEnd after
+abbrev pub IsSearched : List ℕ → Told → Result (Option ℕ) HeadError → Type 0
+IsSearched window after (Ok None) = (window ≡ []) × IsAtEnd after.left
 IsSearched window after (Ok (Some end)) = (end ≤ length window) × (end ≤ block_limit) × IsBlock (take end window)
-IsSearched window after (Err H.CutShort) = EndsInHead window × IsAtEnd after
+IsSearched window after (Err H.CutShort) = EndsInHead window × IsAtEnd after.left
 IsSearched window after (Err H.HeadTooLarge) = HasNoBlockInLimit window
 IsSearched window after (Err H.ReadFault) = IsWithinHead window
 IsSearched window after (Err H.BadHead) = ⊥

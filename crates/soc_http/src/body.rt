@@ -1,6 +1,6 @@
 // Reading bodies from a source.
-ghost use Rattle.std.specs.Prelude.{◌≡◌, ◌≤◌, ◌<◌, ◌+◌, length, take, vec_len, IfOk, IfErr, OnErr};
-ghost use Rattle.soc_edge.specs.Faults.{Rose};
+ghost use Rattle.std.specs.Prelude.{◌≡◌, ◌≤◌, ◌<◌, ◌+◌, length, take, vec_len, IfOk, IsErrOf, OnErr};
+ghost use Rattle.soc_edge.specs.Told.{OnlyReads, ReadFailed};
 ghost use Rattle.soc_http.specs.Reading.{ahead};
 ghost use Rattle.std.specs.Borrow.{sem};
 ghost use Rattle.std.specs.Io.BufRead.{Rests};
@@ -46,12 +46,8 @@ pub(crate) fn piece_len<S: Source>(
     left: u64,
 ) -> Result<usize, BodyError>
     requires { 0 < left }
-    ensures ready { IsPieceReady (S.left source.old) (S.left source.new) buffer.old left result buffer.new }
-    ensures cause { IfErr result
-        (λ error. error ≡ BodyError.ReadFault → Rose (S.read_faults source.old) (S.read_faults source.new)) }
-    ensures never_falls { S.read_faults source.old ≤ S.read_faults source.new }
-    ensures held_stays { S.held source.new ≡ S.held source.old }
-    ensures write_faults_stay { S.write_faults source.new ≡ S.write_faults source.old }
+    ensures ready { IsPieceReady (S.told source.old) (S.told source.new) buffer.old left result buffer.new }
+    ensures cause { IsErrOf result BodyError.ReadFault → ReadFailed (S.told source.old) (S.told source.new) }
 {
     if buffer.unread().is_empty() && buffer.fill(source)? == 0 {
         return Err(BodyError::CutShort);
@@ -66,12 +62,8 @@ pub(crate) fn piece_len<S: Source>(
 
 /// Passes over `length` bytes of a body.
 fn pass<S: Source>(source: &mut S, buffer: &mut Buffer, length: u64) -> Result<(), BodyError>
-    ensures passes { Passes (S.left source.old) (S.left source.new) buffer.old length result buffer.new }
-    ensures cause { IfErr result
-        (λ error. error ≡ BodyError.ReadFault → Rose (S.read_faults source.old) (S.read_faults source.new)) }
-    ensures never_falls { S.read_faults source.old ≤ S.read_faults source.new }
-    ensures held_stays { S.held source.new ≡ S.held source.old }
-    ensures write_faults_stay { S.write_faults source.new ≡ S.write_faults source.old }
+    ensures passes { Passes (S.told source.old) (S.told source.new) buffer.old length result buffer.new }
+    ensures cause { IsErrOf result BodyError.ReadFault → ReadFailed (S.told source.old) (S.told source.new) }
 {
     let mut left = length;
     while left > 0 {
@@ -96,12 +88,8 @@ fn read_into<S: Source>(
     buffer: &mut Buffer,
     body: &mut [u8],
 ) -> Result<(), BodyError>
-    ensures into { IntoFrom (S.left source.old) (S.left source.new) buffer.old body.new result buffer.new }
-    ensures cause { IfErr result
-        (λ error. error ≡ BodyError.ReadFault → Rose (S.read_faults source.old) (S.read_faults source.new)) }
-    ensures never_falls { S.read_faults source.old ≤ S.read_faults source.new }
-    ensures held_stays { S.held source.new ≡ S.held source.old }
-    ensures write_faults_stay { S.write_faults source.new ≡ S.write_faults source.old }
+    ensures into { IntoFrom (S.told source.old) (S.told source.new) buffer.old body.new result buffer.new }
+    ensures cause { IsErrOf result BodyError.ReadFault → ReadFailed (S.told source.old) (S.told source.new) }
 {
     let mut at = buffer.unread().len().min(body.len());
     copy_to_front(body, before(buffer.unread(), at));
@@ -129,12 +117,8 @@ fn next_body<S: Source>(
     buffer: &mut Buffer,
     length: u64,
 ) -> Result<Bytes, BodyError>
-    ensures from { BodyFrom (S.left source.old) (S.left source.new) buffer.old length result buffer.new }
-    ensures cause { IfErr result
-        (λ error. error ≡ BodyError.ReadFault → Rose (S.read_faults source.old) (S.read_faults source.new)) }
-    ensures never_falls { S.read_faults source.old ≤ S.read_faults source.new }
-    ensures held_stays { S.held source.new ≡ S.held source.old }
-    ensures write_faults_stay { S.write_faults source.new ≡ S.write_faults source.old }
+    ensures from { BodyFrom (S.told source.old) (S.told source.new) buffer.old length result buffer.new }
+    ensures cause { IsErrOf result BodyError.ReadFault → ReadFailed (S.told source.old) (S.told source.new) }
 {
     let Ok(mut body) = zeros(alloc, length as usize) else {
         pass(source, buffer, length)?;
@@ -153,14 +137,10 @@ pub fn read_body<S: Source>(
     buffer: &mut Buffer,
     head: &Head,
 ) -> Result<Bytes, BodyError>
-    ensures reads { ReadsBodyAhead (ahead buffer.old (S.left source.old)) head.now.length result
-        (ahead buffer.new (S.left source.new)) }
-    ensures from { BodyFrom (S.left source.old) (S.left source.new) buffer.old head.now.length result buffer.new }
-    ensures cause { IfErr result
-        (λ error. error ≡ BodyError.ReadFault → Rose (S.read_faults source.old) (S.read_faults source.new)) }
-    ensures never_falls { S.read_faults source.old ≤ S.read_faults source.new }
-    ensures held_stays { S.held source.new ≡ S.held source.old }
-    ensures write_faults_stay { S.write_faults source.new ≡ S.write_faults source.old }
+    ensures reads { ReadsBodyAhead (ahead buffer.old (S.told source.old)) head.now.length result
+        (ahead buffer.new (S.told source.new)) }
+    ensures from { BodyFrom (S.told source.old) (S.told source.new) buffer.old head.now.length result buffer.new }
+    ensures cause { IsErrOf result BodyError.ReadFault → ReadFailed (S.told source.old) (S.told source.new) }
 {
     next_body(alloc, source, buffer, head.length)
 }
@@ -175,15 +155,12 @@ pub fn body_piece<'b, S: Source>(
 ) -> Result<&'b [u8], BodyError>
     requires { 0 < left.old }
     ensures* after_borrow { sem 𝓛 (Rests the_row buffer.entry
-        (λ new. PieceFrom (S.left source.old) (S.left source.new) buffer.old result new)) }
+        (λ new. PieceFrom (S.told source.old) (S.told source.new) buffer.old result new)) }
+    ensures only { OnlyReads (S.told source.old) (S.told source.new) }
     ensures some { IfOk result (λ piece. 0 < length piece.now) }
     ensures counted { IfOk result (λ piece. left.new + length piece.now ≡ left.old) }
     ensures left_stays { OnErr result (left.new ≡ left.old) }
-    ensures cause { IfErr result
-        (λ error. error ≡ BodyError.ReadFault → Rose (S.read_faults source.old) (S.read_faults source.new)) }
-    ensures never_falls { S.read_faults source.old ≤ S.read_faults source.new }
-    ensures held_stays { S.held source.new ≡ S.held source.old }
-    ensures write_faults_stay { S.write_faults source.new ≡ S.write_faults source.old }
+    ensures cause { IsErrOf result BodyError.ReadFault → ReadFailed (S.told source.old) (S.told source.new) }
 {
     buffer.take_piece(source, left)
 }

@@ -1,8 +1,7 @@
 // The window that messages are read through.
-ghost use Rattle.std.specs.Prelude.{◌≡◌, ◌≤◌, ◌<◌, ◌+◌, ◌-◌, [], length, take, drop, IfOk, IfErr, OnErr};
+ghost use Rattle.std.specs.Prelude.{◌≡◌, ◌≤◌, ◌<◌, ◌+◌, ◌-◌, [], length, take, drop, IfOk, IsErrOf, OnErr};
 ghost use Rattle.std.specs.Io.KnownBytes.{IsAtEnd};
-ghost use Rattle.soc_edge.specs.Faults.{Rose};
-ghost use Rattle.soc_edge.specs.Told.{Gives};
+ghost use Rattle.soc_edge.specs.Told.{OnlyReads, Reads, ReadFailed};
 ghost use Rattle.std.specs.Borrow.{sem};
 ghost use Rattle.std.specs.Io.BufRead.{Rests};
 ghost use Rattle.soc_http.specs.Reading.{Fills};
@@ -50,13 +49,10 @@ pub(crate) fn read_behind<S: Source>(
     requires { end ≤ length window.old }
     ensures front { take end window.new ≡ take end window.old }
     ensures count { IfOk result (λ n. end + n ≤ length window.new) }
-    ensures gives { IfOk result (λ n. Gives (S.left source.old) (S.left source.new) (take n (drop end window.new))) }
-    ensures ended { IfOk result (λ n. n ≡ 0 → end < length window.new → IsAtEnd (S.left source.new)) }
-    ensures unmoved { OnErr result (S.left source.new ≡ S.left source.old) }
-    ensures never_falls { S.read_faults source.old ≤ S.read_faults source.new }
-    ensures cause { OnErr result (Rose (S.read_faults source.old) (S.read_faults source.new)) }
-    ensures held_stays { S.held source.new ≡ S.held source.old }
-    ensures write_faults_stay { S.write_faults source.new ≡ S.write_faults source.old }
+    ensures reads { IfOk result (λ n. Reads (S.told source.old) (S.told source.new) (take n (drop end window.new))) }
+    ensures ended { IfOk result (λ n. n ≡ 0 → end < length window.new → IsAtEnd (S.told source.new).left) }
+    ensures unmoved { OnErr result (Reads (S.told source.old) (S.told source.new) []) }
+    ensures cause { OnErr result (ReadFailed (S.told source.old) (S.told source.new)) }
 {
     source.read(&mut window[end..])
 }
@@ -125,15 +121,12 @@ impl Buffer {
     ) -> Result<&[u8], BodyError>
         requires { 0 < left.old }
         ensures* after_borrow { sem 𝓛 (Rests the_row self.entry
-            (λ new. PieceFrom (S.left source.old) (S.left source.new) self.old result new)) }
+            (λ new. PieceFrom (S.told source.old) (S.told source.new) self.old result new)) }
+        ensures only { OnlyReads (S.told source.old) (S.told source.new) }
         ensures some { IfOk result (λ piece. 0 < length piece.now) }
         ensures counted { IfOk result (λ piece. left.new + length piece.now ≡ left.old) }
         ensures left_stays { OnErr result (left.new ≡ left.old) }
-        ensures cause { IfErr result
-            (λ error. error ≡ BodyError.ReadFault → Rose (S.read_faults source.old) (S.read_faults source.new)) }
-        ensures never_falls { S.read_faults source.old ≤ S.read_faults source.new }
-        ensures held_stays { S.held source.new ≡ S.held source.old }
-        ensures write_faults_stay { S.write_faults source.new ≡ S.write_faults source.old }
+        ensures cause { IsErrOf result BodyError.ReadFault → ReadFailed (S.told source.old) (S.told source.new) }
     {
         let count = piece_len(source, self, *left)?;
         *left -= count as u64;
@@ -153,15 +146,12 @@ impl Buffer {
     /// Reads more bytes behind the unread ones, and answers how many; 0 at the end of input.
     pub(crate) fn fill<S: Source>(&mut self, source: &mut S) -> Result<usize, Failed>
         requires { length self.old ≤ 16384 }
-        ensures fills { IfOk result (λ _. Fills (S.left source.old) (S.left source.new) self.old self.new) }
+        ensures fills { IfOk result (λ _. Fills (S.told source.old) (S.told source.new) self.old self.new) }
         ensures count { IfOk result (λ n. length self.new ≡ length self.old + n) }
-        ensures ended { IfOk result (λ n. n ≡ 0 → IsAtEnd (S.left source.new)) }
+        ensures ended { IfOk result (λ n. n ≡ 0 → IsAtEnd (S.told source.new).left) }
         ensures kept { OnErr result (self.new ≡ self.old) }
-        ensures unmoved { OnErr result (S.left source.new ≡ S.left source.old) }
-        ensures never_falls { S.read_faults source.old ≤ S.read_faults source.new }
-        ensures cause { OnErr result (Rose (S.read_faults source.old) (S.read_faults source.new)) }
-        ensures held_stays { S.held source.new ≡ S.held source.old }
-        ensures write_faults_stay { S.write_faults source.new ≡ S.write_faults source.old }
+        ensures unmoved { OnErr result (Reads (S.told source.old) (S.told source.new) []) }
+        ensures cause { OnErr result (ReadFailed (S.told source.old) (S.told source.new)) }
     {
         let unread = make_room(self.bytes.as_mut_slice(), self.start, self.end);
         self.start = unread.start;

@@ -1,6 +1,6 @@
 // Reading heads from a source.
-ghost use Rattle.std.specs.Prelude.{◌≡◌, ◌≤◌, IfOk, IfErr, IfSome};
-ghost use Rattle.soc_edge.specs.Faults.{Rose};
+ghost use Rattle.std.specs.Prelude.{◌≡◌, ◌≤◌, IfOk, IsErrOf, IfSome};
+ghost use Rattle.soc_edge.specs.Told.{ReadFailed};
 ghost use Rattle.soc_http.specs.Request.{IsWithinLimits};
 ghost use Rattle.soc_http.specs.Reading.{Fills, IsSearched, ReadsHeadFrom, ReadsHeadAhead, ahead};
 
@@ -17,13 +17,9 @@ const BLOCK_LIMIT: usize = 16_384;
 
 /// Reads until a block stands in the window, and answers where it ends.
 fn find_block<S: Source>(source: &mut S, buffer: &mut Buffer) -> Result<Option<usize>, HeadError>
-    ensures fills { Fills (S.left source.old) (S.left source.new) buffer.old buffer.new }
-    ensures found { IsSearched buffer.new (S.left source.new) result }
-    ensures cause { IfErr result
-        (λ error. error ≡ HeadError.ReadFault → Rose (S.read_faults source.old) (S.read_faults source.new)) }
-    ensures never_falls { S.read_faults source.old ≤ S.read_faults source.new }
-    ensures held_stays { S.held source.new ≡ S.held source.old }
-    ensures write_faults_stay { S.write_faults source.new ≡ S.write_faults source.old }
+    ensures fills { Fills (S.told source.old) (S.told source.new) buffer.old buffer.new }
+    ensures found { IsSearched buffer.new (S.told source.new) result }
+    ensures cause { IsErrOf result HeadError.ReadFault → ReadFailed (S.told source.old) (S.told source.new) }
 {
     let mut searched = 0;
     loop {
@@ -57,12 +53,8 @@ fn next_head<S: Source>(
     source: &mut S,
     buffer: &mut Buffer,
 ) -> Result<Option<Head>, HeadError>
-    ensures from { ReadsHeadFrom (S.left source.old) (S.left source.new) buffer.old result buffer.new }
-    ensures cause { IfErr result
-        (λ error. error ≡ HeadError.ReadFault → Rose (S.read_faults source.old) (S.read_faults source.new)) }
-    ensures never_falls { S.read_faults source.old ≤ S.read_faults source.new }
-    ensures held_stays { S.held source.new ≡ S.held source.old }
-    ensures write_faults_stay { S.write_faults source.new ≡ S.write_faults source.old }
+    ensures from { ReadsHeadFrom (S.told source.old) (S.told source.new) buffer.old result buffer.new }
+    ensures cause { IsErrOf result HeadError.ReadFault → ReadFailed (S.told source.old) (S.told source.new) }
 {
     let Some(end) = find_block(source, buffer)? else {
         return Ok(None);
@@ -82,14 +74,10 @@ pub fn read_head<S: Source>(
     source: &mut S,
     buffer: &mut Buffer,
 ) -> Result<Option<Head>, HeadError>
-    ensures reads { ReadsHeadAhead (ahead buffer.old (S.left source.old)) result (ahead buffer.new (S.left source.new)) }
-    ensures from { ReadsHeadFrom (S.left source.old) (S.left source.new) buffer.old result buffer.new }
+    ensures reads { ReadsHeadAhead (ahead buffer.old (S.told source.old)) result (ahead buffer.new (S.told source.new)) }
+    ensures from { ReadsHeadFrom (S.told source.old) (S.told source.new) buffer.old result buffer.new }
     ensures within { IfOk result (λ found. IfSome found IsWithinLimits) }
-    ensures cause { IfErr result
-        (λ error. error ≡ HeadError.ReadFault → Rose (S.read_faults source.old) (S.read_faults source.new)) }
-    ensures never_falls { S.read_faults source.old ≤ S.read_faults source.new }
-    ensures held_stays { S.held source.new ≡ S.held source.old }
-    ensures write_faults_stay { S.write_faults source.new ≡ S.write_faults source.old }
+    ensures cause { IsErrOf result HeadError.ReadFault → ReadFailed (S.told source.old) (S.told source.new) }
 {
     next_head(alloc, source, buffer)
 }

@@ -1,8 +1,7 @@
 // Texts in several pieces, written in as few writes as a small buffer allows.
 ghost use Rattle.std.specs.Prelude.{◌≡◌, ◌<◌, ◌≤◌, ◌+◌, ◌++◌, [], List, ℕ, Option, length, OnOk, OnErr};
 ghost use Rattle.std.specs.Bool.{OnTrue, OnFalse};
-ghost use Rattle.soc_edge.specs.Faults.{Rose};
-ghost use Rattle.soc_edge.specs.Told.{Takes, TakesFront};
+ghost use Rattle.soc_edge.specs.Told.{Told, Writes, WritesFront, WriteFailed};
 ghost use Rattle.soc_http.specs.Pieces.{pieces_text, IsSent};
 
 use crate::reply::WriteFault;
@@ -67,13 +66,10 @@ impl Pending {
 }
 
 fn flush<K: Sink>(sink: &mut K, pending: &mut Pending) -> Result<(), WriteFault>
-    ensures written { OnOk result (Takes (K.held sink.old) (K.held sink.new) pending.old) }
+    ensures written { OnOk result (Writes (K.told sink.old) (K.told sink.new) pending.old) }
     ensures cleared { OnOk result (pending.new ≡ []) }
-    ensures front { OnErr result (TakesFront (K.held sink.old) (K.held sink.new) pending.old) }
-    ensures cause { OnErr result (Rose (K.write_faults sink.old) (K.write_faults sink.new)) }
-    ensures never_falls { K.write_faults sink.old ≤ K.write_faults sink.new }
-    ensures left_stays { K.left sink.new ≡ K.left sink.old }
-    ensures read_faults_stay { K.read_faults sink.new ≡ K.read_faults sink.old }
+    ensures front { OnErr result (WritesFront (K.told sink.old) (K.told sink.new) pending.old) }
+    ensures cause { OnErr result (WriteFailed (K.told sink.old) (K.told sink.new)) }
 {
     write_all(sink, pending.as_slice())?;
     pending.clear();
@@ -81,16 +77,13 @@ fn flush<K: Sink>(sink: &mut K, pending: &mut Pending) -> Result<(), WriteFault>
 }
 
 fn put<K: Sink>(sink: &mut K, pending: &mut Pending, piece: &[u8]) -> Result<(), WriteFault>
-    ensures sent { OnOk result ((start : Option (List ℕ)) (done : List ℕ)
-        → IsSent start (K.held sink.old) pending.old done
-        → IsSent start (K.held sink.new) pending.new (done ++ piece.now)) }
-    ensures front { OnErr result ((start : Option (List ℕ)) (done : List ℕ)
-        → IsSent start (K.held sink.old) pending.old done
-        → TakesFront start (K.held sink.new) (done ++ piece.now)) }
-    ensures cause { OnErr result (Rose (K.write_faults sink.old) (K.write_faults sink.new)) }
-    ensures never_falls { K.write_faults sink.old ≤ K.write_faults sink.new }
-    ensures left_stays { K.left sink.new ≡ K.left sink.old }
-    ensures read_faults_stay { K.read_faults sink.new ≡ K.read_faults sink.old }
+    ensures sent { OnOk result ((start : Told) (done : List ℕ)
+        → IsSent start (K.told sink.old) pending.old done
+        → IsSent start (K.told sink.new) pending.new (done ++ piece.now)) }
+    ensures front { OnErr result ((start : Told) (done : List ℕ)
+        → IsSent start (K.told sink.old) pending.old done
+        → WritesFront start (K.told sink.new) (done ++ piece.now)) }
+    ensures cause { OnErr result (WriteFailed (K.told sink.old) (K.told sink.new)) }
 {
     if pending.add(piece) {
         return Ok(());
@@ -105,12 +98,9 @@ fn put<K: Sink>(sink: &mut K, pending: &mut Pending, piece: &[u8]) -> Result<(),
 
 /// Writes the pieces, one behind the other.
 pub(crate) fn write_pieces<K: Sink>(sink: &mut K, pieces: &[&[u8]]) -> Result<(), WriteFault>
-    ensures written { OnOk result (Takes (K.held sink.old) (K.held sink.new) (pieces_text pieces.now)) }
-    ensures front { OnErr result (TakesFront (K.held sink.old) (K.held sink.new) (pieces_text pieces.now)) }
-    ensures cause { OnErr result (Rose (K.write_faults sink.old) (K.write_faults sink.new)) }
-    ensures never_falls { K.write_faults sink.old ≤ K.write_faults sink.new }
-    ensures left_stays { K.left sink.new ≡ K.left sink.old }
-    ensures read_faults_stay { K.read_faults sink.new ≡ K.read_faults sink.old }
+    ensures written { OnOk result (Writes (K.told sink.old) (K.told sink.new) (pieces_text pieces.now)) }
+    ensures front { OnErr result (WritesFront (K.told sink.old) (K.told sink.new) (pieces_text pieces.now)) }
+    ensures cause { OnErr result (WriteFailed (K.told sink.old) (K.told sink.new)) }
 {
     let mut pending = Pending::new();
     for piece in pieces {

@@ -1,7 +1,6 @@
 // Replies.
 ghost use Rattle.std.specs.Prelude.{◌≡◌, ◌≤◌, OnOk, OnErr, length, decimal};
-ghost use Rattle.soc_edge.specs.Faults.{Rose};
-ghost use Rattle.soc_edge.specs.Told.{Takes, TakesFront};
+ghost use Rattle.soc_edge.specs.Told.{Told, Writes, WritesFront, WriteFailed};
 ghost use Rattle.soc_http.specs.Reply.{reply_text, phrase_of, media_type, allow_line, close_line};
 ghost use Rattle.soc_http.specs.Pieces.{pieces_text};
 
@@ -92,12 +91,9 @@ fn close_line(last: bool) -> &'static [u8]
 ///
 /// After `WriteFault`, which comes only where the sink failed, the sink has taken a front of the reply.
 pub fn write_reply<K: Sink>(sink: &mut K, answered: &Answered) -> Result<(), WriteFault>
-    ensures written { OnOk result (Takes (K.held sink.old) (K.held sink.new) (reply_text answered.now)) }
-    ensures front { OnErr result (TakesFront (K.held sink.old) (K.held sink.new) (reply_text answered.now)) }
-    ensures cause { OnErr result (Rose (K.write_faults sink.old) (K.write_faults sink.new)) }
-    ensures never_falls { K.write_faults sink.old ≤ K.write_faults sink.new }
-    ensures left_stays { K.left sink.new ≡ K.left sink.old }
-    ensures read_faults_stay { K.read_faults sink.new ≡ K.read_faults sink.old }
+    ensures written { OnOk result (Writes (K.told sink.old) (K.told sink.new) (reply_text answered.now)) }
+    ensures front { OnErr result (WritesFront (K.told sink.old) (K.told sink.new) (reply_text answered.now)) }
+    ensures cause { OnErr result (WriteFailed (K.told sink.old) (K.told sink.new)) }
 {
     let mut status_digits = itoa::Buffer::new();
     let mut length_digits = itoa::Buffer::new();

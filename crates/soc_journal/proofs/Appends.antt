@@ -6,11 +6,10 @@ use Rattle.std.proofs.lemmas.Bool.{cases_eq}
 use Rattle.std.proofs.lemmas.Bool.Decides.{nat_tests}
 use Rattle.std.proofs.lemmas.List.{take_all, length-drop}
 use Rattle.soc_edge.proofs.Disks.{LeavesOnly-append, LeavesOnly-weaker}
-use Rattle.soc_edge.specs.Disk.{written, Tears, WhereTold, Follows, Only, LeavesOnly}
+use Rattle.soc_edge.specs.Disk.{written, Tears, WhereTold, Follows, Only, DiskTold, LeavesOnly, IsTorn, MayTear}
 use Rattle.soc_journal.specs.Entries.{Entry, IsEntryOf, has_kind, open_gate, closed_gate, first_version, second_version, entry_text, gate_place, sealed}
 use Rattle.soc_journal.specs.declared.error.AppendError.{AppendError}
 use Rattle.soc_journal.specs.declared.error.AppendError.TheVariants.{StoreFault, JournalFull}
-use Rattle.soc_journal.specs.Images.{IsTorn}
 use Rattle.soc_journal.specs.States.{JournalState, AtRest, InDoubt}
 use Rattle.soc_journal.specs.Text.{version_of, StandsFor, StandsForEither}
 use Rattle.soc_journal.proofs.Texts.{behind_gate, sealed_behind, front_of, length-front_of, front_of-push, version_of-front, begins_front, front_begins, AllByRecursion-push, gate_place-push}
@@ -197,36 +196,36 @@ acknowledged journal after place at entry legal piece is_piece moved no_doubt (S
     let so = staged journal place at entries bytes images rests entry piece middle staged_images legal is_piece is_written only in
     appended journal place at entries entry middle staged_images so after now now_images moved no_doubt is_open settles
 
-module _ {D : Type 0} (moment : D → ℕ) (left_since : D → ℕ → List ℕ → Type 0) (journal : JournalState) (place : ℕ) (at : journal.gate ≡ place) (entry : Entry) where
+module _ (journal : JournalState) (place : ℕ) (at : journal.gate ≡ place) (entry : Entry) where
   -- a stop during the first write and its sync
-  pub any_first : (before middle : D) (images : List ℕ → Type 0) (count : ℕ) (told : Option (List ℕ)) → LeavesOnly moment left_since before middle (IsTorn images (place + 1) count)
-      → IfSome told (λ bytes. (entries : List Entry) → AtRest journal entries bytes images → LeavesOnly moment left_since before middle (StandsForEither entries entry))
-  any_first before middle images count None leaves = tt
-  any_first before middle images count (Some bytes) leaves = λ entries rests.
-      let P : List ℕ → Type 0 = IsTorn images (place + 1) count in
+  pub any_first : (before middle : DiskTold) (count : ℕ) (told : Option (List ℕ)) → MayTear (place + 1) count before middle
+      → IfSome told (λ bytes. (entries : List Entry) → AtRest journal entries bytes before.images → LeavesOnly before middle (StandsForEither entries entry))
+  any_first before middle count None tears = tt
+  any_first before middle count (Some bytes) tears = λ entries rests.
+      let P : List ℕ → Type 0 = IsTorn before.images (place + 1) count in
       let stands : (image : List ℕ) → P image → StandsForEither entries entry image = λ image torn.
       let T : List ℕ → Type 0 = λ x. Tears (place + 1) count x image in
-      inl (stands_first journal place at entries bytes images rests count image (subst T (rests.only torn.earlier torn.was) torn.tears)) in
-      LeavesOnly-weaker moment left_since before middle P (StandsForEither entries entry) stands leaves
+      inl (stands_first journal place at entries bytes before.images rests count image (subst T (rests.only torn.earlier torn.was) torn.tears)) in
+      LeavesOnly-weaker before middle P (StandsForEither entries entry) stands tears.any_moment
 
   -- and during the gate's write and its sync
-  pub any_second : (piece : List ℕ) → piece ≡ behind_gate entry → (before middle after : D) (images staged_images : List ℕ → Type 0) (count : ℕ) (told staged_told : Option (List ℕ)) → IsEntryOf second_version entry
-      → LeavesOnly moment left_since before middle (IsTorn images (place + 1) count)
-      → staged_told ≡ option_map (λ old. written old (place + 1) piece) told → IfSome staged_told (λ now. Only now staged_images)
-      → LeavesOnly moment left_since middle after (IsTorn staged_images place 1)
-      → IfSome told (λ bytes. (entries : List Entry) → AtRest journal entries bytes images → LeavesOnly moment left_since before after (StandsForEither entries entry))
-  any_second piece is_piece before middle after images staged_images count None staged_told legal leaves is only then = tt
-  any_second piece is_piece before middle after images staged_images count (Some bytes) None legal leaves is only then = cc
-  any_second piece is_piece before middle after images staged_images count (Some bytes) (Some content) legal leaves is only then = λ entries rests.
+  pub any_second : (piece : List ℕ) → piece ≡ behind_gate entry → (before middle after : DiskTold) (count : ℕ) (told staged_told : Option (List ℕ)) → IsEntryOf second_version entry
+      → MayTear (place + 1) count before middle
+      → staged_told ≡ option_map (λ old. written old (place + 1) piece) told → IfSome staged_told (λ now. Only now middle.images)
+      → MayTear place 1 middle after
+      → IfSome told (λ bytes. (entries : List Entry) → AtRest journal entries bytes before.images → LeavesOnly before after (StandsForEither entries entry))
+  any_second piece is_piece before middle after count None staged_told legal tears is only then = tt
+  any_second piece is_piece before middle after count (Some bytes) None legal tears is only then = cc
+  any_second piece is_piece before middle after count (Some bytes) (Some content) legal tears is only then = λ entries rests.
       let is_written : content ≡ written bytes (place + 1) piece = cc in
-      let so = staged journal place at entries bytes images rests entry piece content staged_images legal is_piece is_written only in
-      let P : List ℕ → Type 0 = IsTorn staged_images place 1 in
+      let so = staged journal place at entries bytes before.images rests entry piece content middle.images legal is_piece is_written only in
+      let P : List ℕ → Type 0 = IsTorn middle.images place 1 in
       let stands : (image : List ℕ) → P image → StandsForEither entries entry image = λ image torn.
       let T : List ℕ → Type 0 = λ x. Tears place 1 x image in
-      stands_second journal place at entries entry content staged_images so image (subst T (only torn.earlier torn.was) torn.tears) in
-      LeavesOnly-append moment left_since before middle after (StandsForEither entries entry)
-      (any_first before middle images count (Some bytes) leaves entries rests)
-      (LeavesOnly-weaker moment left_since middle after P (StandsForEither entries entry) stands then)
+      stands_second journal place at entries entry content middle.images so image (subst T (only torn.earlier torn.was) torn.tears) in
+      LeavesOnly-append before middle after (StandsForEither entries entry) tears.goes_on then.goes_on
+      (any_first before middle count (Some bytes) tears entries rests)
+      (LeavesOnly-weaker middle after P (StandsForEither entries entry) stands then.any_moment)
 
 -- what stands over the limit
 pub over_limit : (limit gate count body : ℕ) → count ≡ 7 + body → (gate + count ≤ limit → IsTrue false) → limit < gate + 7 + body

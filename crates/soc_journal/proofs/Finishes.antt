@@ -5,9 +5,8 @@ use Rattle.std.specs.Option.{option_map}
 use Rattle.std.specs.List.{AllByRecursion}
 use Rattle.std.proofs.lemmas.Bool.Decides.{nat_tests}
 use Rattle.soc_edge.proofs.Disks.{LeavesOnly-weaker}
-use Rattle.soc_edge.specs.Disk.{written, Tears, WhereTold, Only, LeavesOnly}
+use Rattle.soc_edge.specs.Disk.{written, Tears, WhereTold, Only, DiskTold, LeavesOnly, IsTorn, MayTear}
 use Rattle.soc_journal.specs.Entries.{Entry, IsEntryOf, has_kind, first_version, second_version, header, entries_text}
-use Rattle.soc_journal.specs.Images.{IsTorn}
 use Rattle.soc_journal.specs.Openings.{OpeningState, HasReadAll}
 use Rattle.soc_journal.specs.States.{JournalState, AtRest}
 use Rattle.soc_journal.specs.Text.{version_of, StandsFor}
@@ -72,12 +71,11 @@ module _ (opening : OpeningState) (entries : List Entry) (bytes : List ℕ) (ima
 
 -- ---- where the disk tells its content
 
-module _ {D : Type 0} (moment : D → ℕ) (left_since : D → ℕ → List ℕ → Type 0) (may_leave : D → List ℕ → Type 0) (opening : OpeningState) (told : Option (List ℕ)) where
-  pub any_migrated : (before after : D) → opening.version ≡ first_version → LeavesOnly moment left_since before after (IsTorn (may_leave before) 7 1)
-      → IfSome told (λ bytes. (entries : List Entry) → HasReadAll opening entries bytes (may_leave before) → LeavesOnly moment left_since before after (StandsFor entries))
-  any_migrated before after first leaves = IfSome-always told _ (λ bytes entries has.
-      let P : List ℕ → Type 0 = IsTorn (may_leave before) 7 1 in
-      LeavesOnly-weaker moment left_since before after P (StandsFor entries) (torn_each opening entries bytes (may_leave before) has first) leaves)
+module _ (opening : OpeningState) (told : Option (List ℕ)) (before after : DiskTold) where
+  pub any_migrated : opening.version ≡ first_version → MayTear 7 1 before after
+      → IfSome told (λ bytes. (entries : List Entry) → HasReadAll opening entries bytes before.images → LeavesOnly before after (StandsFor entries))
+  any_migrated first tears = IfSome-always told _ (λ bytes entries has.
+      LeavesOnly-weaker before after (IsTorn before.images 7 1) (StandsFor entries) (torn_each opening entries bytes before.images has first) tears.any_moment)
 
 module _ (opening : OpeningState) (images now_images : List ℕ → Type 0) where
   pub stands_torn : (told now_told : Option (List ℕ)) → opening.version ≡ first_version → WhereTold (Tears 7 1) told now_told

@@ -2,7 +2,6 @@ pub mod Bodies
 pub mod Entries
 mod Examples
 pub mod Found
-pub mod Images
 pub mod Openings
 pub mod States
 pub mod Text

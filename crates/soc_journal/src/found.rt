@@ -1,8 +1,7 @@
 // What stands on a disk where a gate is wanted.
 ghost use Rattle.std.specs.Prelude.{◌≤◌, ◌+◌, drop, IfSome, IfOk, OnErr, IsTrue, ◌↔◌};
-ghost use Rattle.soc_edge.specs.Faults.{Rose};
+ghost use Rattle.soc_edge.specs.Disk.{Looks, DiskFailed};
 ghost use Rattle.soc_journal.specs.Found.{Counts, IsFront, IsFound, FoundCounts};
-ghost use Rattle.soc_journal.specs.Images.{Stays};
 
 use crate::format::{ENTRY_HEAD, MAX_BODY, OPEN_GATE, has_kind};
 use soc_edge::{Disk, Failed};
@@ -50,11 +49,10 @@ fn front_of(bytes: &[u8]) -> Front
 
 /// Reads what stands at a place, but no body.
 fn front_at<D: Disk>(disk: &mut D, place: u64) -> Result<Front, Failed>
-    ensures front { IfOk result (λ front. IfSome (D.content disk.old) (λ bytes. IsFront (drop place bytes) front)) }
-    ensures disk_stays { Stays D.content D.may_leave D.moment D.left_since disk.old disk.new }
-    ensures calls { D.disk_calls disk.new ≤ D.disk_calls disk.old + 1 }
-    ensures never_falls { D.disk_faults disk.old ≤ D.disk_faults disk.new }
-    ensures cause { OnErr result (Rose (D.disk_faults disk.old) (D.disk_faults disk.new)) }
+    ensures front { IfOk result (λ front. IfSome (D.state disk.old).content (λ bytes. IsFront (drop place bytes) front)) }
+    ensures disk_stays { Looks (D.state disk.old) (D.state disk.new) }
+    ensures calls { (D.state disk.new).calls ≤ (D.state disk.old).calls + 1 }
+    ensures cause { OnErr result (DiskFailed (D.state disk.old) (D.state disk.new)) }
 {
     let mut head = [0; ENTRY_HEAD];
     let count = disk.read_at(place, &mut head)?;
@@ -73,12 +71,11 @@ fn counts(version: u8, kind: u8, length: u32, place: u64, end: u64) -> bool
 
 /// What stands at a place, where an entry counts only if it ends at or before the end.
 pub fn found_at<D: Disk>(disk: &mut D, version: u8, place: u64, end: u64) -> Result<Found, Failed>
-    ensures found { IfOk result (λ found. IfSome (D.content disk.old) (λ bytes. IsFound version place end (drop place bytes) found)) }
+    ensures found { IfOk result (λ found. IfSome (D.state disk.old).content (λ bytes. IsFound version place end (drop place bytes) found)) }
     ensures counts { IfOk result (λ found. FoundCounts version place end found) }
-    ensures disk_stays { Stays D.content D.may_leave D.moment D.left_since disk.old disk.new }
-    ensures calls { D.disk_calls disk.new ≤ D.disk_calls disk.old + 1 }
-    ensures never_falls { D.disk_faults disk.old ≤ D.disk_faults disk.new }
-    ensures cause { OnErr result (Rose (D.disk_faults disk.old) (D.disk_faults disk.new)) }
+    ensures disk_stays { Looks (D.state disk.old) (D.state disk.new) }
+    ensures calls { (D.state disk.new).calls ≤ (D.state disk.old).calls + 1 }
+    ensures cause { OnErr result (DiskFailed (D.state disk.old) (D.state disk.new)) }
 {
     Ok(match front_at(disk, place)? {
         Front::Shut => Found::Closed,

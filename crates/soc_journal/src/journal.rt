@@ -1,11 +1,9 @@
 // A journal that entries are appended to.
 ghost use Rattle.std.specs.Prelude.{◌≡◌, ◌+◌, ◌<◌, ◌≤◌, ◌↔◌, List, Some, None, [], ◌∷◌, ◌++◌, length, IfSome, IsSome, IsSomeAnd, IfOk, OnOk, OnErr, Ok, IsErrOf, IsTrue};
 ghost use Rattle.std.specs.Option.{option_map};
-ghost use Rattle.soc_edge.specs.Disk.{Only, LeavesOnly};
-ghost use Rattle.soc_edge.specs.Faults.{Rose};
+ghost use Rattle.soc_edge.specs.Disk.{Only, LeavesOnly, GoesOn, Looks, DiskFailed};
 ghost use Rattle.soc_journal.specs.Entries.{Entry, entry_text};
 ghost use Rattle.soc_journal.specs.Text.{empty_journal, StandsForEither};
-ghost use Rattle.soc_journal.specs.Images.{Stays};
 ghost use Rattle.soc_journal.specs.States.{AtRest, InDoubt, IsKeptAt, ReadsOpen, SettledBy, entries_after, journal_after};
 
 use crate::entry_text::EntryText;
@@ -44,13 +42,13 @@ impl Journal {
     /// Makes an empty journal of at most `limit` bytes on a disk of length 0, by one write and one sync. It takes no
     /// memory. Of a stop inside this call nothing is said.
     pub fn create<D: Disk>(disk: &mut D, limit: u64) -> Result<Journal, Failed>
-        requires { IfSome (D.content disk.old) (λ bytes. bytes ≡ []) }
+        requires { IfSome (D.state disk.old).content (λ bytes. bytes ≡ []) }
         ensures journal { IfOk result (λ journal. journal ≡ record { gate = 8; limit = limit; doubt = None }) }
-        ensures content { OnOk result (D.content disk.new ≡ option_map (λ _. empty_journal) (D.content disk.old)) }
-        ensures at_rest { IfOk result (λ journal. IfSome (D.content disk.new) (λ bytes. AtRest journal [] bytes (D.may_leave disk.new))) }
-        ensures calls { D.disk_calls disk.new ≤ D.disk_calls disk.old + 2 }
-        ensures never_falls { D.disk_faults disk.old ≤ D.disk_faults disk.new }
-        ensures cause { OnErr result (Rose (D.disk_faults disk.old) (D.disk_faults disk.new)) }
+        ensures content { OnOk result ((D.state disk.new).content ≡ option_map (λ _. empty_journal) (D.state disk.old).content) }
+        ensures at_rest { IfOk result (λ journal. IfSome (D.state disk.new).content (λ bytes. AtRest journal [] bytes (D.state disk.new).images)) }
+        ensures calls { (D.state disk.new).calls ≤ (D.state disk.old).calls + 2 }
+        ensures goes_on { GoesOn (D.state disk.old) (D.state disk.new) }
+        ensures cause { OnErr result (DiskFailed (D.state disk.old) (D.state disk.new)) }
     {
         write_and_sync(disk, 0, &EMPTY_JOURNAL)?;
         Ok(Journal::behind(FIRST_GATE, limit))
@@ -79,23 +77,23 @@ impl Journal {
         ensures doubt { IsErrOf result AppendError.StoreFault → self.new ≡ record self.old { doubt = Some (length (entry_text entry.now)) } }
 
         // At `Ok` the content and each image have the entry.
-        ensures acknowledged { OnOk result (IfSome (D.content disk.old) (λ bytes.
-            (entries : List Entry) → AtRest self.old entries bytes (D.may_leave disk.old)
-            → IsSomeAnd (D.content disk.new) (λ now. AtRest self.new (entries ++ entry.now ∷ []) now (D.may_leave disk.new)))) }
+        ensures acknowledged { OnOk result (IfSome (D.state disk.old).content (λ bytes.
+            (entries : List Entry) → AtRest self.old entries bytes (D.state disk.old).images
+            → IsSomeAnd (D.state disk.new).content (λ now. AtRest self.new (entries ++ entry.now ∷ []) now (D.state disk.new).images))) }
 
         // After `StoreFault` the content and each image have it or don't.
-        ensures in_doubt { IsErrOf result AppendError.StoreFault → IfSome (D.content disk.old) (λ bytes.
-            (entries : List Entry) → AtRest self.old entries bytes (D.may_leave disk.old)
-            → IsSomeAnd (D.content disk.new) (λ now. InDoubt self.new entries entry.now now (D.may_leave disk.new))) }
+        ensures in_doubt { IsErrOf result AppendError.StoreFault → IfSome (D.state disk.old).content (λ bytes.
+            (entries : List Entry) → AtRest self.old entries bytes (D.state disk.old).images
+            → IsSomeAnd (D.state disk.new).content (λ now. InDoubt self.new entries entry.now now (D.state disk.new).images)) }
 
         // A stop at any moment of the call leaves the entries from before it, or those and this one.
-        ensures any_moment { IfSome (D.content disk.old) (λ bytes.
-            (entries : List Entry) → AtRest self.old entries bytes (D.may_leave disk.old)
-            → LeavesOnly D.moment D.left_since disk.old disk.new (StandsForEither entries entry.now)) }
+        ensures any_moment { IfSome (D.state disk.old).content (λ bytes.
+            (entries : List Entry) → AtRest self.old entries bytes (D.state disk.old).images
+            → LeavesOnly (D.state disk.old) (D.state disk.new) (StandsForEither entries entry.now)) }
 
-        ensures calls { D.disk_calls disk.new ≤ D.disk_calls disk.old + 4 }
-        ensures never_falls { D.disk_faults disk.old ≤ D.disk_faults disk.new }
-        ensures cause { IsErrOf result AppendError.StoreFault → Rose (D.disk_faults disk.old) (D.disk_faults disk.new) }
+        ensures calls { (D.state disk.new).calls ≤ (D.state disk.old).calls + 4 }
+        ensures goes_on { GoesOn (D.state disk.old) (D.state disk.new) }
+        ensures cause { IsErrOf result AppendError.StoreFault → DiskFailed (D.state disk.old) (D.state disk.new) }
     {
         let text = entry.as_slice();
         if !self.has_room(text.len()) {
@@ -122,20 +120,19 @@ impl Journal {
 
         // It is kept exactly where the gate reads open.
         ensures settled { IsSome self.old.doubt → IfOk result (λ settled.
-            IfSome (D.content disk.old) (λ bytes. SettledBy bytes self.old.gate settled)) }
+            IfSome (D.state disk.old).content (λ bytes. SettledBy bytes self.old.gate settled)) }
 
         // Then the content and each image agree with the answer.
-        ensures agrees { IfOk result (λ settled. IfSome (D.content disk.old) (λ bytes.
-            (entries : List Entry) (entry : Entry) → InDoubt self.old entries entry bytes (D.may_leave disk.old)
-            → AtRest self.new (entries_after entries entry settled) bytes (D.may_leave disk.new))) }
-        ensures still_in_doubt { OnErr result (IfSome (D.content disk.old) (λ bytes.
-            (entries : List Entry) (entry : Entry) → InDoubt self.old entries entry bytes (D.may_leave disk.old)
-            → InDoubt self.new entries entry bytes (D.may_leave disk.new))) }
+        ensures agrees { IfOk result (λ settled. IfSome (D.state disk.old).content (λ bytes.
+            (entries : List Entry) (entry : Entry) → InDoubt self.old entries entry bytes (D.state disk.old).images
+            → AtRest self.new (entries_after entries entry settled) bytes (D.state disk.new).images)) }
+        ensures still_in_doubt { OnErr result (IfSome (D.state disk.old).content (λ bytes.
+            (entries : List Entry) (entry : Entry) → InDoubt self.old entries entry bytes (D.state disk.old).images
+            → InDoubt self.new entries entry bytes (D.state disk.new).images)) }
 
-        ensures disk_stays { Stays D.content D.may_leave D.moment D.left_since disk.old disk.new }
-        ensures calls { D.disk_calls disk.new ≤ D.disk_calls disk.old + 2 }
-        ensures never_falls { D.disk_faults disk.old ≤ D.disk_faults disk.new }
-        ensures cause { OnErr result (Rose (D.disk_faults disk.old) (D.disk_faults disk.new)) }
+        ensures disk_stays { Looks (D.state disk.old) (D.state disk.new) }
+        ensures calls { (D.state disk.new).calls ≤ (D.state disk.old).calls + 2 }
+        ensures cause { OnErr result (DiskFailed (D.state disk.old) (D.state disk.new)) }
     {
         let Some(count) = self.doubt else {
             return Ok(Settled::Clean);
@@ -179,12 +176,11 @@ impl Journal {
 
 /// Syncs, and tells whether the gate at a place then reads open.
 fn settled_gate<D: Disk>(disk: &mut D, place: u64) -> Result<bool, Failed>
-    ensures open_gate { IfOk result (λ is_open. IfSome (D.content disk.old) (λ bytes. IsTrue is_open ↔ ReadsOpen bytes place)) }
-    ensures only { OnOk result (IfSome (D.content disk.old) (λ bytes. Only bytes (D.may_leave disk.new))) }
-    ensures disk_stays { Stays D.content D.may_leave D.moment D.left_since disk.old disk.new }
-    ensures calls { D.disk_calls disk.new ≤ D.disk_calls disk.old + 2 }
-    ensures never_falls { D.disk_faults disk.old ≤ D.disk_faults disk.new }
-    ensures cause { OnErr result (Rose (D.disk_faults disk.old) (D.disk_faults disk.new)) }
+    ensures open_gate { IfOk result (λ is_open. IfSome (D.state disk.old).content (λ bytes. IsTrue is_open ↔ ReadsOpen bytes place)) }
+    ensures only { OnOk result (IfSome (D.state disk.old).content (λ bytes. Only bytes (D.state disk.new).images)) }
+    ensures disk_stays { Looks (D.state disk.old) (D.state disk.new) }
+    ensures calls { (D.state disk.new).calls ≤ (D.state disk.old).calls + 2 }
+    ensures cause { OnErr result (DiskFailed (D.state disk.old) (D.state disk.new)) }
 {
     disk.sync()?;
     let mut gate = [CLOSED_GATE];

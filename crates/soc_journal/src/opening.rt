@@ -1,10 +1,8 @@
 // Opening a journal: its entries in order, and then the journal itself.
 ghost use Rattle.std.specs.Prelude.{◌≡◌, ◌≢◌, ◌+◌, ◌≤◌, ◌⊎◌, List, Some, None, [], length, IfSome, IsSomeAnd, IfOk, OnOk, OnErr, IfErr, IsErrOf, IsTrue, is_none, MatchOption};
-ghost use Rattle.soc_edge.specs.Disk.{Only, LeavesOnly};
-ghost use Rattle.soc_edge.specs.Faults.{Rose};
+ghost use Rattle.soc_edge.specs.Disk.{Only, LeavesOnly, GoesOn, Looks, DiskFailed};
 ghost use Rattle.soc_journal.specs.Entries.{Entry, first_version, header};
 ghost use Rattle.soc_journal.specs.Text.{HasHeader, version_of, empty_journal, StandsFor, StandsAt};
-ghost use Rattle.soc_journal.specs.Images.{Stays};
 ghost use Rattle.soc_journal.specs.States.{AtRest};
 ghost use Rattle.soc_journal.specs.Openings.{HasRead, HasReadAll, Finds};
 ghost use Rattle.soc_journal.specs.Bodies.{GivesBody};
@@ -50,22 +48,22 @@ impl Journal {
     /// `NotOurs` comes exactly where the disk doesn't begin with `SOCJ000` and one more byte, and `StoreFault` only where
     /// the disk failed.
     pub fn open<D: Disk>(disk: &mut D, limit: u64) -> Result<Opening, OpenError>
-        ensures opened { IfOk result (λ opening. IfSome (D.content disk.new) (λ bytes.
-            HasRead opening [] bytes (D.may_leave disk.new))) }
+        ensures opened { IfOk result (λ opening. IfSome (D.state disk.new).content (λ bytes.
+            HasRead opening [] bytes (D.state disk.new).images)) }
         ensures limit { IfOk result (λ opening. opening.limit ≡ limit) }
 
-        ensures ours { OnOk result (IfSome (D.content disk.old) (λ bytes. (bytes ≡ []) ⊎ HasHeader bytes)) }
-        ensures not_ours { IsErrOf result OpenError.NotOurs → IfSome (D.content disk.old) (λ bytes.
+        ensures ours { OnOk result (IfSome (D.state disk.old).content (λ bytes. (bytes ≡ []) ⊎ HasHeader bytes)) }
+        ensures not_ours { IsErrOf result OpenError.NotOurs → IfSome (D.state disk.old).content (λ bytes.
             (bytes ≢ []) × ¬ (HasHeader bytes)) }
         ensures no_other { IfErr result (λ error. (error ≡ OpenError.NotOurs) ⊎ (error ≡ OpenError.StoreFault)) }
 
-        ensures created { OnOk result (D.content disk.old ≡ Some [] → D.content disk.new ≡ Some empty_journal) }
-        ensures disk_stays { IfSome (D.content disk.old) (λ bytes.
-            bytes ≢ [] → Stays D.content D.may_leave D.moment D.left_since disk.old disk.new) }
+        ensures created { OnOk result ((D.state disk.old).content ≡ Some [] → (D.state disk.new).content ≡ Some empty_journal) }
+        ensures disk_stays { IfSome (D.state disk.old).content (λ bytes.
+            bytes ≢ [] → Looks (D.state disk.old) (D.state disk.new)) }
 
-        ensures calls { D.disk_calls disk.new ≤ D.disk_calls disk.old + 4 }
-        ensures never_falls { D.disk_faults disk.old ≤ D.disk_faults disk.new }
-        ensures cause { IsErrOf result OpenError.StoreFault → Rose (D.disk_faults disk.old) (D.disk_faults disk.new) }
+        ensures calls { (D.state disk.new).calls ≤ (D.state disk.old).calls + 4 }
+        ensures goes_on { GoesOn (D.state disk.old) (D.state disk.new) }
+        ensures cause { IsErrOf result OpenError.StoreFault → DiskFailed (D.state disk.old) (D.state disk.new) }
     {
         let length = synced_len(disk)?;
         if length == 0 {
@@ -97,9 +95,9 @@ impl Opening {
     /// `BadEntry` names the first place where neither an entry nor a closed gate stands. After an error the opening is as
     /// it was.
     pub fn next<D: Disk>(&mut self, disk: &mut D) -> Result<Option<Mark>, OpenError>
-        ensures finds { IfSome (D.content disk.old) (λ bytes.
-            (entries : List Entry) → HasRead self.old entries bytes (D.may_leave disk.old)
-            → Finds entries bytes (D.may_leave disk.new) result self.new) }
+        ensures finds { IfSome (D.state disk.old).content (λ bytes.
+            (entries : List Entry) → HasRead self.old entries bytes (D.state disk.old).images
+            → Finds entries bytes (D.state disk.new).images result self.new) }
         ensures handed_out { IfOk result (λ next. IfSome next (λ mark.
             Counts self.new.version mark.kind mark.length mark.place self.new.length)) }
 
@@ -108,10 +106,9 @@ impl Opening {
         ensures refused { OnErr result (self.new ≡ self.old) }
         ensures no_other { IfErr result (λ error. (error ≢ OpenError.NotOurs) × (error ≢ OpenError.NoMemory)) }
 
-        ensures disk_stays { Stays D.content D.may_leave D.moment D.left_since disk.old disk.new }
-        ensures calls { D.disk_calls disk.new ≤ D.disk_calls disk.old + 1 }
-        ensures never_falls { D.disk_faults disk.old ≤ D.disk_faults disk.new }
-        ensures cause { IsErrOf result OpenError.StoreFault → Rose (D.disk_faults disk.old) (D.disk_faults disk.new) }
+        ensures disk_stays { Looks (D.state disk.old) (D.state disk.new) }
+        ensures calls { (D.state disk.new).calls ≤ (D.state disk.old).calls + 1 }
+        ensures cause { IsErrOf result OpenError.StoreFault → DiskFailed (D.state disk.old) (D.state disk.new) }
     {
         let place = self.place;
         match found_at(disk, self.version, place, self.length)? {
@@ -141,14 +138,13 @@ impl Opening {
         mark: &Mark,
     ) -> Result<Bytes, ReadError>
         requires handed_out { mark.now.place + 6 + mark.now.length ≤ self.now.length }
-        ensures body { IfSome (D.content disk.old) (λ bytes.
+        ensures body { IfSome (D.state disk.old).content (λ bytes.
             (entry : Entry) → StandsAt bytes mark.now.place entry → mark.now.length ≡ length entry.body
             → IfOk result (λ body. body ≡ entry.body)) }
-        ensures gives { IfSome (D.content disk.old) (λ bytes. GivesBody bytes (mark.now.place + 6) mark.now.length result) }
-        ensures disk_stays { Stays D.content D.may_leave D.moment D.left_since disk.old disk.new }
-        ensures calls { D.disk_calls disk.new ≤ D.disk_calls disk.old + 1 }
-        ensures never_falls { D.disk_faults disk.old ≤ D.disk_faults disk.new }
-        ensures cause { IsErrOf result ReadError.StoreFault → Rose (D.disk_faults disk.old) (D.disk_faults disk.new) }
+        ensures gives { IfSome (D.state disk.old).content (λ bytes. GivesBody bytes (mark.now.place + 6) mark.now.length result) }
+        ensures disk_stays { Looks (D.state disk.old) (D.state disk.new) }
+        ensures calls { (D.state disk.new).calls ≤ (D.state disk.old).calls + 1 }
+        ensures cause { IsErrOf result ReadError.StoreFault → DiskFailed (D.state disk.old) (D.state disk.new) }
     {
         prove!(mark.place <= self.length);
         body_at(alloc, disk, mark.place + ENTRY_HEAD as u64, mark.length)
@@ -159,23 +155,23 @@ impl Opening {
     pub fn finish<D: Disk>(self, disk: &mut D) -> Result<Journal, Failed>
         requires { IsTrue self.ended }
         ensures journal { IfOk result (λ journal. journal ≡ record { gate = self.place; limit = self.limit; doubt = None }) }
-        ensures at_rest { IfSome (D.content disk.old) (λ bytes.
-            (entries : List Entry) → HasReadAll self entries bytes (D.may_leave disk.old)
-            → IfOk result (λ journal. IsSomeAnd (D.content disk.new) (λ now. AtRest journal entries now (D.may_leave disk.new)))) }
+        ensures at_rest { IfSome (D.state disk.old).content (λ bytes.
+            (entries : List Entry) → HasReadAll self entries bytes (D.state disk.old).images
+            → IfOk result (λ journal. IsSomeAnd (D.state disk.new).content (λ now. AtRest journal entries now (D.state disk.new).images))) }
 
         // The entries are the same in each image during and after the call, also where it fails, and so are those that the
         // disk reads as.
-        ensures any_moment { IfSome (D.content disk.old) (λ bytes.
-            (entries : List Entry) → HasReadAll self entries bytes (D.may_leave disk.old)
-            → LeavesOnly D.moment D.left_since disk.old disk.new (StandsFor entries)) }
-        ensures stands { IfSome (D.content disk.old) (λ bytes.
-            (entries : List Entry) → HasReadAll self entries bytes (D.may_leave disk.old)
-            → IsSomeAnd (D.content disk.new) (StandsFor entries)) }
+        ensures any_moment { IfSome (D.state disk.old).content (λ bytes.
+            (entries : List Entry) → HasReadAll self entries bytes (D.state disk.old).images
+            → LeavesOnly (D.state disk.old) (D.state disk.new) (StandsFor entries)) }
+        ensures stands { IfSome (D.state disk.old).content (λ bytes.
+            (entries : List Entry) → HasReadAll self entries bytes (D.state disk.old).images
+            → IsSomeAnd (D.state disk.new).content (StandsFor entries)) }
 
         ensures untouched { self.version ≢ first_version → disk.new ≡ disk.old }
-        ensures calls { D.disk_calls disk.new ≤ D.disk_calls disk.old + 2 }
-        ensures never_falls { D.disk_faults disk.old ≤ D.disk_faults disk.new }
-        ensures cause { OnErr result (Rose (D.disk_faults disk.old) (D.disk_faults disk.new)) }
+        ensures calls { (D.state disk.new).calls ≤ (D.state disk.old).calls + 2 }
+        ensures goes_on { GoesOn (D.state disk.old) (D.state disk.new) }
+        ensures cause { OnErr result (DiskFailed (D.state disk.old) (D.state disk.new)) }
     {
         let journal = Journal::behind(self.place, self.limit);
         if self.version != FIRST_VERSION {
@@ -188,12 +184,11 @@ impl Opening {
 
 /// Syncs the disk, and answers its length.
 fn synced_len<D: Disk>(disk: &mut D) -> Result<u64, Failed>
-    ensures count { IfOk result (λ n. IfSome (D.content disk.old) (λ bytes. n ≡ length bytes)) }
-    ensures only { OnOk result (IfSome (D.content disk.old) (λ bytes. Only bytes (D.may_leave disk.new))) }
-    ensures disk_stays { Stays D.content D.may_leave D.moment D.left_since disk.old disk.new }
-    ensures calls { D.disk_calls disk.new ≤ D.disk_calls disk.old + 2 }
-    ensures never_falls { D.disk_faults disk.old ≤ D.disk_faults disk.new }
-    ensures cause { OnErr result (Rose (D.disk_faults disk.old) (D.disk_faults disk.new)) }
+    ensures count { IfOk result (λ n. IfSome (D.state disk.old).content (λ bytes. n ≡ length bytes)) }
+    ensures only { OnOk result (IfSome (D.state disk.old).content (λ bytes. Only bytes (D.state disk.new).images)) }
+    ensures disk_stays { Looks (D.state disk.old) (D.state disk.new) }
+    ensures calls { (D.state disk.new).calls ≤ (D.state disk.old).calls + 2 }
+    ensures cause { OnErr result (DiskFailed (D.state disk.old) (D.state disk.new)) }
 {
     disk.sync()?;
     disk.len()
@@ -201,12 +196,11 @@ fn synced_len<D: Disk>(disk: &mut D) -> Result<u64, Failed>
 
 /// The version byte, where the disk begins as a journal does.
 fn version_at<D: Disk>(disk: &mut D) -> Result<Option<u8>, Failed>
-    ensures version { IfOk result (λ version. IfSome (D.content disk.old) (λ bytes.
+    ensures version { IfOk result (λ version. IfSome (D.state disk.old).content (λ bytes.
         MatchOption version (¬ (HasHeader bytes)) (λ v. HasHeader bytes × (v ≡ version_of bytes)))) }
-    ensures disk_stays { Stays D.content D.may_leave D.moment D.left_since disk.old disk.new }
-    ensures calls { D.disk_calls disk.new ≤ D.disk_calls disk.old + 1 }
-    ensures never_falls { D.disk_faults disk.old ≤ D.disk_faults disk.new }
-    ensures cause { OnErr result (Rose (D.disk_faults disk.old) (D.disk_faults disk.new)) }
+    ensures disk_stays { Looks (D.state disk.old) (D.state disk.new) }
+    ensures calls { (D.state disk.new).calls ≤ (D.state disk.old).calls + 1 }
+    ensures cause { OnErr result (DiskFailed (D.state disk.old) (D.state disk.new)) }
 {
     let mut front = [0; 8];
     let count = disk.read_at(0, &mut front)?;

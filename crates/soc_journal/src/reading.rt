@@ -1,8 +1,7 @@
 // Reading what a journal holds.
 ghost use Rattle.std.specs.Prelude.{◌≡◌, ◌≢◌, ◌+◌, ◌<◌, ◌≤◌, ◌^◌, ◌↔◌, length, IfSome, IfOk, OnOk, OnErr, IsErrOf, IsTrue, MatchResult, vec_len};
-ghost use Rattle.soc_edge.specs.Faults.{Rose};
+ghost use Rattle.soc_edge.specs.Disk.{Looks, DiskFailed};
 ghost use Rattle.soc_journal.specs.Entries.{Entry};
-ghost use Rattle.soc_journal.specs.Images.{Stays};
 ghost use Rattle.soc_journal.specs.Bodies.{StandsBefore, ReadsFrom, GivesBody};
 
 use crate::error::ReadError;
@@ -20,15 +19,14 @@ impl Journal {
     /// The body of the entry at a place. `Altered` comes exactly where no entry that ends at or before the closed gate
     /// begins there, and `StoreFault` only where the disk failed.
     pub fn read<D: Disk>(&self, alloc: Global, disk: &mut D, place: u64) -> Result<Bytes, ReadError>
-        ensures body { IfSome (D.content disk.old) (λ bytes.
+        ensures body { IfSome (D.state disk.old).content (λ bytes.
             (entry : Entry) → StandsBefore bytes place self.now.gate entry
             → MatchResult result (λ body. body ≡ entry.body) (λ error. error ≢ ReadError.Altered)) }
-        ensures found { OnOk result (IfSome (D.content disk.old) (λ bytes.
+        ensures found { OnOk result (IfSome (D.state disk.old).content (λ bytes.
             (entry : Entry) × StandsBefore bytes place self.now.gate entry)) }
-        ensures disk_stays { Stays D.content D.may_leave D.moment D.left_since disk.old disk.new }
-        ensures calls { D.disk_calls disk.new ≤ D.disk_calls disk.old + 2 }
-        ensures never_falls { D.disk_faults disk.old ≤ D.disk_faults disk.new }
-        ensures cause { IsErrOf result ReadError.StoreFault → Rose (D.disk_faults disk.old) (D.disk_faults disk.new) }
+        ensures disk_stays { Looks (D.state disk.old) (D.state disk.new) }
+        ensures calls { (D.state disk.new).calls ≤ (D.state disk.old).calls + 2 }
+        ensures cause { IsErrOf result ReadError.StoreFault → DiskFailed (D.state disk.old) (D.state disk.new) }
     {
         match found_at(disk, SECOND_VERSION, place, self.gate())? {
             Found::Entry { length, .. } => body_at(alloc, disk, place + ENTRY_HEAD as u64, length),
@@ -39,10 +37,9 @@ impl Journal {
 
     /// Whether the disk reads as the text from a place on. It takes no memory.
     pub fn holds<D: Disk>(&self, disk: &mut D, place: u64, text: &[u8]) -> Result<bool, Failed>
-        ensures holds { IfOk result (λ holds. IfSome (D.content disk.old) (λ bytes. IsTrue holds ↔ ReadsFrom bytes place text.now)) }
-        ensures disk_stays { Stays D.content D.may_leave D.moment D.left_since disk.old disk.new }
-        ensures never_falls { D.disk_faults disk.old ≤ D.disk_faults disk.new }
-        ensures cause { OnErr result (Rose (D.disk_faults disk.old) (D.disk_faults disk.new)) }
+        ensures holds { IfOk result (λ holds. IfSome (D.state disk.old).content (λ bytes. IsTrue holds ↔ ReadsFrom bytes place text.now)) }
+        ensures disk_stays { Looks (D.state disk.old) (D.state disk.new) }
+        ensures cause { OnErr result (DiskFailed (D.state disk.old) (D.state disk.new)) }
     {
         let length = disk.len()?;
         if length.saturating_sub(place) < text.len() as u64 {
@@ -59,11 +56,10 @@ pub(crate) fn body_at<D: Disk>(
     place: u64,
     length: u32,
 ) -> Result<Bytes, ReadError>
-    ensures gives { IfSome (D.content disk.old) (λ bytes. GivesBody bytes place length result) }
-    ensures disk_stays { Stays D.content D.may_leave D.moment D.left_since disk.old disk.new }
-    ensures calls { D.disk_calls disk.new ≤ D.disk_calls disk.old + 1 }
-    ensures never_falls { D.disk_faults disk.old ≤ D.disk_faults disk.new }
-    ensures cause { IsErrOf result ReadError.StoreFault → Rose (D.disk_faults disk.old) (D.disk_faults disk.new) }
+    ensures gives { IfSome (D.state disk.old).content (λ bytes. GivesBody bytes place length result) }
+    ensures disk_stays { Looks (D.state disk.old) (D.state disk.new) }
+    ensures calls { (D.state disk.new).calls ≤ (D.state disk.old).calls + 1 }
+    ensures cause { IsErrOf result ReadError.StoreFault → DiskFailed (D.state disk.old) (D.state disk.new) }
 {
     let mut body = zeros(alloc, length as usize)?;
     let count = disk.read_at(place, body.as_mut_slice())?;
@@ -82,10 +78,9 @@ fn zeros(alloc: Global, length: usize) -> Result<Vec<u8>, AllocError>
 /// Whether the disk reads as the text from a place on, compared piece by piece.
 fn reads_from<D: Disk>(disk: &mut D, place: u64, text: &[u8]) -> Result<bool, Failed>
     requires { place + length text.now < 2 ^ 64 }
-    ensures holds { IfOk result (λ holds. IfSome (D.content disk.old) (λ bytes. IsTrue holds ↔ ReadsFrom bytes place text.now)) }
-    ensures disk_stays { Stays D.content D.may_leave D.moment D.left_since disk.old disk.new }
-    ensures never_falls { D.disk_faults disk.old ≤ D.disk_faults disk.new }
-    ensures cause { OnErr result (Rose (D.disk_faults disk.old) (D.disk_faults disk.new)) }
+    ensures holds { IfOk result (λ holds. IfSome (D.state disk.old).content (λ bytes. IsTrue holds ↔ ReadsFrom bytes place text.now)) }
+    ensures disk_stays { Looks (D.state disk.old) (D.state disk.new) }
+    ensures cause { OnErr result (DiskFailed (D.state disk.old) (D.state disk.new)) }
 {
     let mut buffer = [0; PIECE];
     let mut place = place;
@@ -109,11 +104,10 @@ fn reads_piece<D: Disk>(
     into: &mut [u8],
 ) -> Result<bool, Failed>
     requires { length into.old ≡ length piece.now }
-    ensures holds { IfOk result (λ holds. IfSome (D.content disk.old) (λ bytes. IsTrue holds ↔ ReadsFrom bytes place piece.now)) }
-    ensures disk_stays { Stays D.content D.may_leave D.moment D.left_since disk.old disk.new }
-    ensures calls { D.disk_calls disk.new ≤ D.disk_calls disk.old + 1 }
-    ensures never_falls { D.disk_faults disk.old ≤ D.disk_faults disk.new }
-    ensures cause { OnErr result (Rose (D.disk_faults disk.old) (D.disk_faults disk.new)) }
+    ensures holds { IfOk result (λ holds. IfSome (D.state disk.old).content (λ bytes. IsTrue holds ↔ ReadsFrom bytes place piece.now)) }
+    ensures disk_stays { Looks (D.state disk.old) (D.state disk.new) }
+    ensures calls { (D.state disk.new).calls ≤ (D.state disk.old).calls + 1 }
+    ensures cause { OnErr result (DiskFailed (D.state disk.old) (D.state disk.new)) }
 {
     let count = disk.read_at(place, into)?;
     Ok(&into[..count] == piece)

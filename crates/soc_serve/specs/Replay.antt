@@ -1,6 +1,6 @@
 -- `replay`: one session over input and output, by the files of the tree, over a desk that keeps its log in memory.
 use Rattle.std.specs.Prelude.{◌≡◌, ℕ, List, [], Option, None, IfSome, Ok, Err, Result, codes}
-use Rattle.soc_edge.specs.Told.{Takes, TakesFront, Outlook, Hands}
+use Rattle.soc_edge.specs.Told.{Told, Takes, TakesFront, Outlook, Hands}
 use Rattle.soc_book.specs.declared.small.Small.{Small}
 use Rattle.soc_book.specs.Memory.{AnswersInMemory, MemoryDesk}
 use Rattle.soc_book.specs.Small.{small_row}
@@ -19,6 +19,9 @@ pub record Outside : Type 0 where
   pub left : Option (List ℕ)
   pub held : Option (List ℕ)
   pub outlook : Outlook
+
+abbrev pub outside : Told → Outlook → Outside
+outside told outlook = record { left = told.left; held = told.held; outlook = outlook }
 
 -- The session's turns answer the input's messages by the setup and by one run of the desk, whose log begins empty, whose
 -- rows are the small reporter's, and which keeps no more than the setup's limits allow.

@@ -1,13 +1,13 @@
 //! `replay`: one session over input and output.
 ghost use Rattle.std.specs.Prelude.{◌≡◌, ◌≤◌};
 ghost use Rattle.soc_edge.specs.Faults.{Rose};
-ghost use Rattle.soc_edge.specs.Told.{outlook};
-ghost use Rattle.soc_serve.specs.Replay.{Refuses, Replays, ServesBook, session_status, status_of};
+ghost use Rattle.soc_edge.specs.Told.{outlook, NeverFall, OnlyWrites, ReadFailed, WriteFailed};
+ghost use Rattle.soc_serve.specs.Replay.{Refuses, Replays, ServesBook, session_status, status_of, outside};
 
 use crate::setup::{Refusal, Setup, SetupError, refusal_line, set_up};
 use crate::texts::read_texts;
 use soc_book::{Book, Small};
-use soc_edge::{Both, Clock, Draws, Failed, Sink, Source, Tree, TreeError, write_all};
+use soc_edge::{Clock, Draws, Failed, Sink, Source, Tree, TreeError, write_all};
 use soc_http::{Buffer, Routes};
 use soc_session::{SessionEnd, session};
 use std::alloc::Global;
@@ -56,23 +56,22 @@ fn session_status(end: SessionEnd) -> u8
 }
 
 /// Answers the messages of the input on the output, by the files of the tree.
-pub(crate) fn replay<T: Tree, S: Source, K: Sink, C: Clock, W: Draws>(
+pub(crate) fn replay<T: Tree, X: Source + Sink, C: Clock, W: Draws>(
     alloc: Global,
     tree: &mut T,
-    streams: &mut Both<S, K>,
+    streams: &mut X,
     clock: &mut C,
     draws: &mut W,
 ) -> RunEnd
     ensures replays { Replays (T.files tree.old)
-        (record { left = S.left streams.old.source; held = K.held streams.old.sink; outlook = outlook (C.moments clock.old) (W.throttles draws.old) (W.ids draws.old) })
-        (record { left = S.left streams.new.source; held = K.held streams.new.sink; outlook = outlook (C.moments clock.new) (W.throttles draws.new) (W.ids draws.new) })
+        (outside (X.told streams.old) (outlook (C.moments clock.old) (W.throttles draws.old) (W.ids draws.old)))
+        (outside (X.told streams.new) (outlook (C.moments clock.new) (W.throttles draws.new) (W.ids draws.new)))
         result }
-    ensures read_cause { result ≡ RunEnd.Served SessionEnd.ReadFault → Rose (S.read_faults streams.old.source) (S.read_faults streams.new.source) }
-    ensures write_cause { result ≡ RunEnd.Served SessionEnd.WriteFault → Rose (K.write_faults streams.old.sink) (K.write_faults streams.new.sink) }
-    ensures line_cause { result ≡ RunEnd.LineFault → Rose (K.write_faults streams.old.sink) (K.write_faults streams.new.sink) }
+    ensures read_cause { result ≡ RunEnd.Served SessionEnd.ReadFault → ReadFailed (X.told streams.old) (X.told streams.new) }
+    ensures write_cause { result ≡ RunEnd.Served SessionEnd.WriteFault → WriteFailed (X.told streams.old) (X.told streams.new) }
+    ensures line_cause { result ≡ RunEnd.LineFault → WriteFailed (X.told streams.old) (X.told streams.new) }
     ensures tree_cause { result ≡ RunEnd.TreeFault → Rose (T.tree_faults tree.old) (T.tree_faults tree.new) }
-    ensures reads_never_fall { S.read_faults streams.old.source ≤ S.read_faults streams.new.source }
-    ensures writes_never_fall { K.write_faults streams.old.sink ≤ K.write_faults streams.new.sink }
+    ensures never_fall { NeverFall (X.told streams.old) (X.told streams.new) }
     ensures tree_never_falls { T.tree_faults tree.old ≤ T.tree_faults tree.new }
 {
     let texts = match read_texts(alloc, tree) {
@@ -82,16 +81,16 @@ pub(crate) fn replay<T: Tree, S: Source, K: Sink, C: Clock, W: Draws>(
     };
     match set_up(alloc, &texts) {
         Ok(setup) => RunEnd::Served(serve(alloc, &setup, streams, clock, draws)),
-        Err(SetupError::Refused(refusal)) => refuse(alloc, &mut streams.sink, &refusal),
+        Err(SetupError::Refused(refusal)) => refuse(alloc, streams, &refusal),
         Err(SetupError::NoMemory) => RunEnd::NoMemory,
     }
 }
 
 /// Writes the line that tells which file is refused.
 fn refuse<K: Sink>(alloc: Global, output: &mut K, refusal: &Refusal) -> RunEnd
-    ensures refuses { Refuses (K.held output.old) (K.held output.new) refusal.now result }
-    ensures cause { result ≡ RunEnd.LineFault → Rose (K.write_faults output.old) (K.write_faults output.new) }
-    ensures never_falls { K.write_faults output.old ≤ K.write_faults output.new }
+    ensures refuses { Refuses (K.told output.old).held (K.told output.new).held refusal.now result }
+    ensures cause { result ≡ RunEnd.LineFault → WriteFailed (K.told output.old) (K.told output.new) }
+    ensures only { OnlyWrites (K.told output.old) (K.told output.new) }
 {
     let Ok(line) = refusal_line(alloc, refusal) else {
         return RunEnd::NoMemory;
@@ -103,21 +102,20 @@ fn refuse<K: Sink>(alloc: Global, output: &mut K, refusal: &Refusal) -> RunEnd
 }
 
 /// One session over a desk in memory whose log begins empty.
-fn serve<S: Source, K: Sink, C: Clock, W: Draws>(
+fn serve<X: Source + Sink, C: Clock, W: Draws>(
     alloc: Global,
     setup: &Setup,
-    streams: &mut Both<S, K>,
+    streams: &mut X,
     clock: &mut C,
     draws: &mut W,
 ) -> SessionEnd
     ensures serves { ServesBook setup.now
-        (record { left = S.left streams.old.source; held = K.held streams.old.sink; outlook = outlook (C.moments clock.old) (W.throttles draws.old) (W.ids draws.old) })
-        (record { left = S.left streams.new.source; held = K.held streams.new.sink; outlook = outlook (C.moments clock.new) (W.throttles draws.new) (W.ids draws.new) })
+        (outside (X.told streams.old) (outlook (C.moments clock.old) (W.throttles draws.old) (W.ids draws.old)))
+        (outside (X.told streams.new) (outlook (C.moments clock.new) (W.throttles draws.new) (W.ids draws.new)))
         result }
-    ensures read_cause { result ≡ SessionEnd.ReadFault → Rose (S.read_faults streams.old.source) (S.read_faults streams.new.source) }
-    ensures write_cause { result ≡ SessionEnd.WriteFault → Rose (K.write_faults streams.old.sink) (K.write_faults streams.new.sink) }
-    ensures reads_never_fall { S.read_faults streams.old.source ≤ S.read_faults streams.new.source }
-    ensures writes_never_fall { K.write_faults streams.old.sink ≤ K.write_faults streams.new.sink }
+    ensures read_cause { result ≡ SessionEnd.ReadFault → ReadFailed (X.told streams.old) (X.told streams.new) }
+    ensures write_cause { result ≡ SessionEnd.WriteFault → WriteFailed (X.told streams.old) (X.told streams.new) }
+    ensures never_fall { NeverFall (X.told streams.old) (X.told streams.new) }
 {
     let reporter = Small;
     let mut book = Book::new(alloc, &reporter, setup.limits);

@@ -1,13 +1,13 @@
 //! The words of the command line.
 ghost use Rattle.std.specs.Prelude.{◌≡◌, ◌↔◌, ◌≤◌, [], IsTrue, codes, map, string_bytes};
 ghost use Rattle.soc_edge.specs.Faults.{Rose};
-ghost use Rattle.soc_edge.specs.Told.{outlook};
-ghost use Rattle.soc_serve.specs.Replay.{Keeps, Replays, status_of};
+ghost use Rattle.soc_edge.specs.Told.{outlook, NeverFall, ReadFailed, WriteFailed};
+ghost use Rattle.soc_serve.specs.Replay.{Keeps, Replays, status_of, outside};
 ghost use Rattle.soc_serve.specs.Words.{AreReplay, RefusesWords};
 ghost use Rattle.soc_serve.specs.declared.replay.RunEnd.{RunEnd};
 
 use crate::replay::replay;
-use soc_edge::{Both, Clock, Draws, Sink, Source, Tree, write_all};
+use soc_edge::{Clock, Draws, Sink, Source, Tree, write_all};
 use std::alloc::Global;
 
 /// What the program writes to other words.
@@ -27,34 +27,33 @@ const WRITE_FAULT: u8 = 7;
 /// asked for the end, 1 where a message was refused or cut short, 2 for other words, 3 where a file was refused and its
 /// line was written, 6 where the input failed, 7 where the output failed, 8 where the tree failed, 9 where the messages
 /// answered hold `session_bytes` bytes or more, 10 where memory lacked.
-pub fn run_words<T: Tree, S: Source, K: Sink, C: Clock, W: Draws>(
+pub fn run_words<T: Tree, X: Source + Sink, C: Clock, W: Draws>(
     alloc: Global,
     words: &[String],
     tree: &mut T,
-    streams: &mut Both<S, K>,
+    streams: &mut X,
     clock: &mut C,
     draws: &mut W,
 ) -> u8
     ensures replays { AreReplay (map string_bytes words.now) → (end : RunEnd) × (result ≡ status_of end)
         × Replays (T.files tree.old)
-        (record { left = S.left streams.old.source; held = K.held streams.old.sink; outlook = outlook (C.moments clock.old) (W.throttles draws.old) (W.ids draws.old) })
-        (record { left = S.left streams.new.source; held = K.held streams.new.sink; outlook = outlook (C.moments clock.new) (W.throttles draws.new) (W.ids draws.new) })
+        (outside (X.told streams.old) (outlook (C.moments clock.old) (W.throttles draws.old) (W.ids draws.old)))
+        (outside (X.told streams.new) (outlook (C.moments clock.new) (W.throttles draws.new) (W.ids draws.new)))
         end }
-    ensures other_words { ¬ (AreReplay (map string_bytes words.now)) → RefusesWords result (K.held streams.old.sink) (K.held streams.new.sink) }
+    ensures other_words { ¬ (AreReplay (map string_bytes words.now)) → RefusesWords result (X.told streams.old).held (X.told streams.new).held }
     ensures untouched { ¬ (AreReplay (map string_bytes words.now)) → Keeps
-        (record { left = S.left streams.old.source; held = K.held streams.old.sink; outlook = outlook (C.moments clock.old) (W.throttles draws.old) (W.ids draws.old) })
-        (record { left = S.left streams.new.source; held = K.held streams.new.sink; outlook = outlook (C.moments clock.new) (W.throttles draws.new) (W.ids draws.new) }) }
+        (outside (X.told streams.old) (outlook (C.moments clock.old) (W.throttles draws.old) (W.ids draws.old)))
+        (outside (X.told streams.new) (outlook (C.moments clock.new) (W.throttles draws.new) (W.ids draws.new))) }
     ensures words_cause { result ≡ 2 → ¬ (AreReplay (map string_bytes words.now)) }
-    ensures read_cause { result ≡ 6 → Rose (S.read_faults streams.old.source) (S.read_faults streams.new.source) }
-    ensures write_cause { result ≡ 7 → Rose (K.write_faults streams.old.sink) (K.write_faults streams.new.sink) }
+    ensures read_cause { result ≡ 6 → ReadFailed (X.told streams.old) (X.told streams.new) }
+    ensures write_cause { result ≡ 7 → WriteFailed (X.told streams.old) (X.told streams.new) }
     ensures tree_cause { result ≡ 8 → Rose (T.tree_faults tree.old) (T.tree_faults tree.new) }
-    ensures reads_never_fall { S.read_faults streams.old.source ≤ S.read_faults streams.new.source }
-    ensures writes_never_fall { K.write_faults streams.old.sink ≤ K.write_faults streams.new.sink }
+    ensures never_fall { NeverFall (X.told streams.old) (X.told streams.new) }
 {
     if are_replay(words) {
         return replay(alloc, tree, streams, clock, draws).status();
     }
-    match write_all(&mut streams.sink, USAGE) {
+    match write_all(streams, USAGE) {
         Ok(()) => FAULTY_WORDS,
         Err(_) => WRITE_FAULT,
     }

@@ -3,7 +3,7 @@ use Rattle.std.proofs.Common.{◌≡◌, ℕ, ◌+◌, ◌-◌, ◌<◌, List, [
 use Rattle.std.proofs.lemmas.List.{map-append}
 use Rattle.std.specs.Prelude.{if◌then◌else◌, ◌||◌}
 use Rattle.std.specs.List.{flat_map}
-use Rattle.soc_edge.specs.Told.{Gives, Takes, TakesFront, Outlook, HandsAll}
+use Rattle.soc_edge.specs.Told.{Told, OnlyWrites, Gives, Takes, TakesFront, Outlook, HandsAll}
 use Rattle.soc_edge.proofs.Told.{Gives-append, Gives-none, Takes-append, Takes-none}
 use Rattle.soc_edge.proofs.Ahead.{Hands-none, Hands-append}
 use Rattle.soc_http.specs.declared.head.Head.{Head}
@@ -27,7 +27,7 @@ use Rattle.soc_session.specs.Desk.{Exchange, IsExchange, StepsDesk, says_stopped
 use Rattle.soc_session.specs.Messages.{RefusedAt}
 use Rattle.soc_session.specs.Plan.{Drawn}
 use Rattle.soc_session.specs.Replies.{closing}
-use Rattle.soc_session.specs.Session.{Around, CutsReply, EndsAtEdge, EndsBehind, HandsTurns, IsEnd, Leaves, Serves, Turn, Writes, met, refused, turn_bytes, turn_text, closing_of, is_last, replies_text, drawn_for}
+use Rattle.soc_session.specs.Session.{Around, around, CutsReply, EndsAtEdge, EndsBehind, HandsTurns, IsEnd, Leaves, Serves, Turn, Writes, met, refused, turn_bytes, turn_text, closing_of, is_last, replies_text, drawn_for}
 use Rattle.soc_session.specs.Steps.{Exchanges, Halts, IsNext, Refuses, Responds, ServesFrom, StepsOn, WritesNext, next_of}
 use Rattle.soc_session.specs.Tasks.{Answers, HandsDrawn, reply_of}
 
@@ -51,25 +51,25 @@ Serves-edge {K} asks rules window budget desk x left left' held held' end given 
   ends = ends;
 }
 
-pub Serves-ended : {K : Type 0} (asks : K → Command → Receipt → K → Type 0) (rules : Rules) (window behind : List ℕ) (desk : K) (x : Outlook) (left left' held held' : Option (List ℕ))
-    → Arrives left left' window (Ok None) behind → held' ≡ held → (budget : ℕ) → 0 < budget
+serves-ended : {K : Type 0} (asks : K → Command → Receipt → K → Type 0) (rules : Rules) (window behind : List ℕ) (desk : K) (x : Outlook) (left left' held held' : Option (List ℕ)) (given : List ℕ)
+    → Gives left left' given → ReadsMessage (window ++ given) (Ok None) behind left' → held' ≡ held → (budget : ℕ) → 0 < budget
     → ServesFrom asks rules window budget (record { left = left; held = held; desk = desk; outlook = x }) (record { left = left'; held = held'; desk = desk; outlook = x }) Ended
-Serves-ended asks rules window behind desk x left left' held held' p stays budget some =
-    Serves-edge asks rules window budget desk x left left' held held' Ended p.given p.gives (p.reads.0, p.reads.2) (Takes-none held held' stays)
+serves-ended asks rules window behind desk x left left' held held' given gives reads stays budget some =
+    Serves-edge asks rules window budget desk x left left' held held' Ended given gives (reads.0, reads.2) (Takes-none held held' stays)
     (record { over = budget; goes_on = refl; ends = some })
 
-pub Serves-failed : {K : Type 0} (asks : K → Command → Receipt → K → Type 0) (rules : Rules) (window behind : List ℕ) (desk : K) (x : Outlook) (left left' held held' : Option (List ℕ))
-    → Arrives left left' window (Err H.ReadFault) behind → held' ≡ held → (budget : ℕ) → 0 < budget
+pub Serves-failed : {K : Type 0} (asks : K → Command → Receipt → K → Type 0) (rules : Rules) (window behind : List ℕ) (desk : K) (x : Outlook) (left left' held held' : Option (List ℕ)) (given : List ℕ)
+    → Gives left left' given → ReadsMessage (window ++ given) (Err H.ReadFault) behind left' → held' ≡ held → (budget : ℕ) → 0 < budget
     → ServesFrom asks rules window budget (record { left = left; held = held; desk = desk; outlook = x }) (record { left = left'; held = held'; desk = desk; outlook = x }) ReadFault
-Serves-failed asks rules window behind desk x left left' held held' p stays budget some =
-    Serves-edge asks rules window budget desk x left left' held held' ReadFault p.given p.gives p.reads (Takes-none held held' stays)
+Serves-failed asks rules window behind desk x left left' held held' given gives reads stays budget some =
+    Serves-edge asks rules window budget desk x left left' held held' ReadFault given gives reads (Takes-none held held' stays)
     (record { over = budget; goes_on = refl; ends = some })
 
-pub Serves-wanting : {K : Type 0} (asks : K → Command → Receipt → K → Type 0) (rules : Rules) (window behind : List ℕ) (desk : K) (x : Outlook) (left left' held held' : Option (List ℕ)) (error : HeadError)
-    → Arrives left left' window (Err error) behind → held' ≡ held → (budget : ℕ) → 0 < budget
+pub Serves-wanting : {K : Type 0} (asks : K → Command → Receipt → K → Type 0) (rules : Rules) (window behind : List ℕ) (desk : K) (x : Outlook) (left left' held held' : Option (List ℕ)) (given : List ℕ) (error : HeadError)
+    → Gives left left' given → ReadsMessage (window ++ given) (Err error) behind left' → held' ≡ held → (budget : ℕ) → 0 < budget
     → ServesFrom asks rules window budget (record { left = left; held = held; desk = desk; outlook = x }) (record { left = left'; held = held'; desk = desk; outlook = x }) NoMemory
-Serves-wanting asks rules window behind desk x left left' held held' error p stays budget some =
-    Serves-edge asks rules window budget desk x left left' held held' NoMemory p.given p.gives tt (Takes-none held held' stays)
+Serves-wanting asks rules window behind desk x left left' held held' given error gives reads stays budget some =
+    Serves-edge asks rules window budget desk x left left' held held' NoMemory given gives tt (Takes-none held held' stays)
     (record { over = budget; goes_on = refl; ends = tt })
 
 -- ---- a refusal
@@ -116,22 +116,22 @@ refused-at text rest left H.CutShort n m p = p
 refused-at text rest left H.ReadFault n m p = absurd (n refl)
 refused-at text rest left H.NoMemory n m p = absurd (m refl)
 
-pub Serves-refused : {K : Type 0} (asks : K → Command → Receipt → K → Type 0) (rules : Rules) (window behind : List ℕ) (desk : K) (x : Outlook) (left left' held held' : Option (List ℕ)) (error : HeadError) (end : SessionEnd)
-    → (error ≡ H.ReadFault → ⊥) → (error ≡ H.NoMemory → ⊥) → Arrives left left' window (Err error) behind → Refuses held held' error end → (budget : ℕ) → 0 < budget
+pub Serves-refused : {K : Type 0} (asks : K → Command → Receipt → K → Type 0) (rules : Rules) (window behind : List ℕ) (desk : K) (x : Outlook) (left left' held held' : Option (List ℕ)) (given : List ℕ) (error : HeadError) (end : SessionEnd)
+    → (error ≡ H.ReadFault → ⊥) → (error ≡ H.NoMemory → ⊥) → Gives left left' given → ReadsMessage (window ++ given) (Err error) behind left' → Refuses held held' error end → (budget : ℕ) → 0 < budget
     → ServesFrom asks rules window budget (record { left = left; held = held; desk = desk; outlook = x }) (record { left = left'; held = held'; desk = desk; outlook = x }) end
-Serves-refused asks rules window behind desk x left left' held held' error Refused n m p how budget some =
-    refused-turn asks rules window budget desk x left left' held held' Refused error p.given p.gives (refused-at _ _ left' error n m p.reads) tt
+Serves-refused asks rules window behind desk x left left' held held' given error Refused n m gives reads how budget some =
+    refused-turn asks rules window budget desk x left left' held held' Refused error given gives (refused-at _ _ left' error n m reads) tt
     (whole held held' (refused error) how) (behind-one budget (refused error) _ some refl)
-Serves-refused asks rules window behind desk x left left' held held' error WriteFault n m p how budget some =
-    refused-turn asks rules window budget desk x left left' held held' WriteFault error p.given p.gives (refused-at _ _ left' error n m p.reads) tt
+Serves-refused asks rules window behind desk x left left' held held' given error WriteFault n m gives reads how budget some =
+    refused-turn asks rules window budget desk x left left' held held' WriteFault error given gives (refused-at _ _ left' error n m reads) tt
     (cuts held held' (refused error) how) (behind-one budget (refused error) _ some tt)
-Serves-refused asks rules window behind desk x left left' held held' error NoMemory n m p how budget some =
-    Serves-wanting asks rules window behind desk x left left' held held' error p how budget some
-Serves-refused asks rules window behind desk x left left' held held' error Ended n m p how budget some = absurd how
-Serves-refused asks rules window behind desk x left left' held held' error Closed n m p how budget some = absurd how
-Serves-refused asks rules window behind desk x left left' held held' error Stopped n m p how budget some = absurd how
-Serves-refused asks rules window behind desk x left left' held held' error ReadFault n m p how budget some = absurd how
-Serves-refused asks rules window behind desk x left left' held held' error TooLong n m p how budget some = absurd how
+Serves-refused asks rules window behind desk x left left' held held' given error NoMemory n m gives reads how budget some =
+    Serves-wanting asks rules window behind desk x left left' held held' given error gives reads how budget some
+Serves-refused asks rules window behind desk x left left' held held' given error Ended n m gives reads how budget some = absurd how
+Serves-refused asks rules window behind desk x left left' held held' given error Closed n m gives reads how budget some = absurd how
+Serves-refused asks rules window behind desk x left left' held held' given error Stopped n m gives reads how budget some = absurd how
+Serves-refused asks rules window behind desk x left left' held held' given error ReadFault n m gives reads how budget some = absurd how
+Serves-refused asks rules window behind desk x left left' held held' given error TooLong n m gives reads how budget some = absurd how
 
 -- ---- a message
 
@@ -196,33 +196,54 @@ written-on asks rules window behind desk desk' x y left left' held held' exchang
     (cuts held held' (met exchange) front) (behind-one budget (met exchange) _ some tt))
 
 -- a message that came whole was answered
-pub Steps-on : {K : Type 0} (asks : K → Command → Receipt → K → Type 0) (rules : Rules) (window behind : List ℕ) (desk desk' : K) (x y : Outlook) (left middle left' held middle_held held' : Option (List ℕ)) (incoming : Incoming) (next : Next)
-    → Arrives left middle window (Ok (Some incoming)) behind → left' ≡ middle → middle_held ≡ held → Responds asks rules incoming desk desk' x y middle_held held' next
-    → StepsOn asks rules window (record { left = left; held = held; desk = desk; outlook = x }) behind (record { left = left'; held = held'; desk = desk'; outlook = y }) next
-Steps-on {K} asks rules window behind desk desk' x y left middle left' held middle_held held' incoming next p same same_held responds =
+pub Steps-on : {K : Type 0} (asks : K → Command → Receipt → K → Type 0) (rules : Rules) (window behind : List ℕ) (desk desk' : K) (x y : Outlook) (before middle after : Told) (incoming : Incoming) (next : Next)
+    → Arrives before middle window (Ok (Some incoming)) behind → OnlyWrites middle after → Responds asks rules incoming desk desk' x y middle.held after.held next
+    → StepsOn asks rules window (around before desk x) behind (around after desk' y) next
+Steps-on {K} asks rules window behind desk desk' x y before middle after incoming next p wrote_only responds =
     let message = p.reads.0 in
     let reply = responds.reply message p.reads.1 in
     let exchange = reply.0 in
-    let gives : Gives left left' p.given = subst (λ (l : Option (List ℕ)). Gives left l p.given) (sym same) p.gives in
+    let gives : Gives before.left after.left p.given = subst (λ (l : Option (List ℕ)). Gives before.left l p.given) (sym wrote_only.left_stays) p.gives.gives in
     let takes : TakesMessage (window ++ p.given) exchange.message behind = subst (λ (m : Message). TakesMessage (window ++ p.given) m behind) (sym reply.1) p.reads.2 in
-    let wrote : WritesNext held held' exchange next = subst (λ (h : Option (List ℕ)). WritesNext h held' exchange next) same_held reply.5 in
-    written-on asks rules window behind desk desk' x y left left' held held' exchange p.given next reply.2 reply.3 gives takes reply.4 wrote
+    let wrote : WritesNext before.held after.held exchange next = subst (λ (h : Option (List ℕ)). WritesNext h after.held exchange next) p.gives.only.held_stays reply.5 in
+    written-on asks rules window behind desk desk' x y before.left after.left before.held after.held exchange p.given next reply.2 reply.3 gives takes reply.4 wrote
 
-pub Serves-halted : {K : Type 0} (asks : K → Command → Receipt → K → Type 0) (rules : Rules) (window behind : List ℕ) (desk : K) (x : Outlook) (left middle left' held middle_held held' : Option (List ℕ)) (error : HeadError) (end : SessionEnd)
-    → Arrives left middle window (Err error) behind → left' ≡ middle → middle_held ≡ held → Halts middle_held held' error end → (budget : ℕ) → 0 < budget
-    → ServesFrom asks rules window budget (record { left = left; held = held; desk = desk; outlook = x }) (record { left = left'; held = held'; desk = desk; outlook = x }) end
-Serves-halted asks rules window behind desk x left middle left' held middle_held held' error end p same same_held how budget some =
-    halted error end (subst (λ (l : Option (List ℕ)). Arrives left l window (Err error) behind) (sym same) p) (subst (λ (h : Option (List ℕ)). Halts h held' error end) same_held how)
+pub Serves-ended : {K : Type 0} (asks : K → Command → Receipt → K → Type 0) (rules : Rules) (window behind : List ℕ) (desk : K) (x : Outlook) (before after : Told)
+    → Arrives before after window (Ok None) behind → (budget : ℕ) → 0 < budget → ServesFrom asks rules window budget (around before desk x) (around after desk x) Ended
+Serves-ended asks rules window behind desk x before after p budget some =
+    serves-ended asks rules window behind desk x before.left after.left before.held after.held p.given p.gives.gives p.reads p.gives.only.held_stays budget some
+
+pub Serves-halted : {K : Type 0} (asks : K → Command → Receipt → K → Type 0) (rules : Rules) (window behind : List ℕ) (desk : K) (x : Outlook) (before middle after : Told) (error : HeadError) (end : SessionEnd)
+    → Arrives before middle window (Err error) behind → OnlyWrites middle after → Halts middle.held after.held error end → (budget : ℕ) → 0 < budget
+    → ServesFrom asks rules window budget (around before desk x) (around after desk x) end
+Serves-halted asks rules window behind desk x before middle after error end p only how budget some =
+    halted error end (subst (λ (l : Option (List ℕ)). Gives left l p.given) (sym only.left_stays) p.gives.gives) (subst (ReadsMessage (window ++ p.given) (Err error) behind) (sym only.left_stays) p.reads)
+    (subst (λ (h : Option (List ℕ)). Halts h held' error end) p.gives.only.held_stays how)
   where
-    halted : (error : HeadError) (end : SessionEnd) → Arrives left left' window (Err error) behind → Halts held held' error end
-        → ServesFrom asks rules window budget (record { left = left; held = held; desk = desk; outlook = x }) (record { left = left'; held = held'; desk = desk; outlook = x }) end
-    halted error end p (inl (is, ends, stays)) =
-        subst (λ (e : SessionEnd). ServesFrom asks rules window budget (record { left = left; held = held; desk = desk; outlook = x }) (record { left = left'; held = held'; desk = desk; outlook = x }) e) (sym ends)
-        (Serves-failed asks rules window behind desk x left left' held held' (subst (λ (e : HeadError). Arrives left left' window (Err e) behind) is p) stays budget some)
-    halted error end p (inr (inl (is, ends, stays))) =
-        subst (λ (e : SessionEnd). ServesFrom asks rules window budget (record { left = left; held = held; desk = desk; outlook = x }) (record { left = left'; held = held'; desk = desk; outlook = x }) e) (sym ends)
-        (Serves-wanting asks rules window behind desk x left left' held held' error p stays budget some)
-    halted error end p (inr (inr (n, m, refuses))) = Serves-refused asks rules window behind desk x left left' held held' error end n m p refuses budget some
+    left : Option (List ℕ)
+    left = before.left
+
+    left' : Option (List ℕ)
+    left' = after.left
+
+    held : Option (List ℕ)
+    held = before.held
+
+    held' : Option (List ℕ)
+    held' = after.held
+
+    given : List ℕ
+    given = p.given
+
+    halted : (error : HeadError) (end : SessionEnd) → Gives left left' given → ReadsMessage (window ++ given) (Err error) behind left' → Halts held held' error end
+        → ServesFrom asks rules window budget (around before desk x) (around after desk x) end
+    halted error end gives reads (inl (is, ends, stays)) =
+        subst (λ (e : SessionEnd). ServesFrom asks rules window budget (around before desk x) (around after desk x) e) (sym ends)
+        (Serves-failed asks rules window behind desk x left left' held held' given gives (subst (λ (e : HeadError). ReadsMessage (window ++ given) (Err e) behind left') is reads) stays budget some)
+    halted error end gives reads (inr (inl (is, ends, stays))) =
+        subst (λ (e : SessionEnd). ServesFrom asks rules window budget (around before desk x) (around after desk x) e) (sym ends)
+        (Serves-wanting asks rules window behind desk x left left' held held' given error gives reads stays budget some)
+    halted error end gives reads (inr (inr (n, m, refuses))) = Serves-refused asks rules window behind desk x left left' held held' given error end n m gives reads refuses budget some
 
 -- ---- one message, and then the rest
 

@@ -1,7 +1,7 @@
 -- The next message, as the bytes that the link gave have it.
 use Rattle.std.specs.Prelude.{◌≡◌, ℕ, ◌≤◌, List, [], ◌++◌, length, Option, None, Some, IfSome, Result, Ok, Err, ⊤}
 use Rattle.std.specs.Io.KnownBytes.{IsAtEnd}
-use Rattle.soc_edge.specs.Told.{Gives}
+use Rattle.soc_edge.specs.Told.{Told, Reads}
 use Rattle.soc_http.specs.declared.head.HeadError.{HeadError}
 use Rattle.soc_http.specs.declared.head.HeadError.TheVariants as H
 use Rattle.soc_http.specs.Message.{Message, TakesMessage}
@@ -26,10 +26,10 @@ ReadsMessage text (Err H.BodyTooLarge) rest left = RefusedAt text left H.BodyToo
 ReadsMessage text (Err H.CutShort) rest left = RefusedAt text left H.CutShort
 
 -- the link gave bytes, and with them the window's text gives this answer, whatever else the link has left
-pub record Arrives (before after : Option (List ℕ)) (old : List ℕ) (result : Result (Option Incoming) HeadError) (new : List ℕ) : Type 0 where
+pub record Arrives (before after : Told) (old : List ℕ) (result : Result (Option Incoming) HeadError) (new : List ℕ) : Type 0 where
   pub given : List ℕ
-  pub gives : Gives before after given
-  pub reads : ReadsMessage (old ++ given) result new after
+  pub gives : Reads before after given
+  pub reads : ReadsMessage (old ++ given) result new after.left
 
 -- head and body have no more bytes than they may
 pub record IsSized (incoming : Incoming) : Type 0 where

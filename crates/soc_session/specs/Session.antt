@@ -2,7 +2,7 @@
 use Rattle.std.specs.Prelude.{◌≡◌, ℕ, ◌+◌, ◌-◌, ◌<◌, Bool, true, ◌||◌, List, [], ◌∷◌, ◌++◌, length, take, map, if◌then◌else◌, Option, None, Some, ⊤}
 use Rattle.std.specs.List.{AllByRecursion, flat_map}
 use Rattle.std.specs.Io.KnownBytes.{IsAtEnd}
-use Rattle.soc_edge.specs.Told.{Gives, Takes, Outlook, Hands}
+use Rattle.soc_edge.specs.Told.{Told, Gives, Takes, Outlook, Hands}
 use Rattle.soc_http.specs.declared.head.HeadError.{HeadError}
 use Rattle.soc_http.specs.Message.{TakesMessage}
 use Rattle.soc_http.specs.Reply.{reply_text}
@@ -158,6 +158,9 @@ pub record Around (K : Type 0) : Type 0 where
   pub held : Option (List ℕ)
   pub desk : K
   pub outlook : Outlook
+
+abbrev pub around : {K : Type 0} → Told → K → Outlook → Around K
+around told desk outlook = record { left = told.left; held = told.held; desk = desk; outlook = outlook }
 
 -- The session's turns answer the messages that the link gave, each once and in order, by the rules and by one run of the
 -- desk; their replies were written, they took their draws, and the end is theirs.

@@ -1,6 +1,6 @@
 //! Messages as they come from a link.
 ghost use Rattle.std.specs.Prelude.{◌≡◌, ◌≤◌, IfOk, IfErr, IfSome, length};
-ghost use Rattle.soc_edge.specs.Faults.{Rose};
+ghost use Rattle.soc_edge.specs.Told.{ReadFailed};
 ghost use Rattle.soc_session.specs.Arrivals.{Arrives, IsSized};
 
 use soc_edge::Source;
@@ -22,12 +22,9 @@ pub(crate) fn next_message<X: Source>(
     link: &mut X,
     buffer: &mut Buffer,
 ) -> Result<Option<Incoming>, HeadError>
-    ensures arrives { Arrives (X.left link.old) (X.left link.new) buffer.old result buffer.new }
+    ensures arrives { Arrives (X.told link.old) (X.told link.new) buffer.old result buffer.new }
     ensures sized { IfOk result (λ found. IfSome found IsSized) }
-    ensures cause { IfErr result (λ error. error ≡ HeadError.ReadFault → Rose (X.read_faults link.old) (X.read_faults link.new)) }
-    ensures never_falls { X.read_faults link.old ≤ X.read_faults link.new }
-    ensures held_stays { X.held link.new ≡ X.held link.old }
-    ensures write_faults_stay { X.write_faults link.new ≡ X.write_faults link.old }
+    ensures cause { IfErr result (λ error. error ≡ HeadError.ReadFault → ReadFailed (X.told link.old) (X.told link.new)) }
 {
     let Some(head) = read_head(alloc, link, buffer)? else {
         return Ok(None);

@@ -1,11 +1,10 @@
 //! One connection: messages in, replies out.
 ghost use Rattle.std.specs.Prelude.{◌≡◌, ◌≢◌, ◌≤◌, ◌||◌, [], OnOk, OnErr, Some, None, false};
-ghost use Rattle.soc_edge.specs.Faults.{Rose};
-ghost use Rattle.soc_edge.specs.Told.{Takes, TakesFront, outlook};
+ghost use Rattle.soc_edge.specs.Told.{NeverFall, OnlyWrites, ReadFailed, WriteFailed, Writes, WritesFront, outlook};
 ghost use Rattle.soc_http.specs.Reply.{reply_text};
 ghost use Rattle.soc_session.specs.Arrivals.{Arrives, IsSized};
 ghost use Rattle.soc_session.specs.Replies.{closing, no_memory};
-ghost use Rattle.soc_session.specs.Session.{Serves};
+ghost use Rattle.soc_session.specs.Session.{Serves, around};
 ghost use Rattle.soc_session.specs.Steps.{Halts, IsNext, Refuses, Responds, StepsOn};
 ghost use Rattle.soc_session.specs.Tasks.{reply_of};
 
@@ -42,13 +41,12 @@ pub fn session<K: Desk, X: Source + Sink, C: Clock, W: Draws>(
 ) -> SessionEnd
     requires { buffer.old ≡ [] }
     ensures serves { Serves K.Asks rules.now
-        (record { left = X.left link.old; held = X.held link.old; desk = desk.old; outlook = outlook (C.moments clock.old) (W.throttles draws.old) (W.ids draws.old) })
-        (record { left = X.left link.new; held = X.held link.new; desk = desk.new; outlook = outlook (C.moments clock.new) (W.throttles draws.new) (W.ids draws.new) })
+        (around (X.told link.old) desk.old (outlook (C.moments clock.old) (W.throttles draws.old) (W.ids draws.old)))
+        (around (X.told link.new) desk.new (outlook (C.moments clock.new) (W.throttles draws.new) (W.ids draws.new)))
         result }
-    ensures read_cause { result ≡ SessionEnd.ReadFault → Rose (X.read_faults link.old) (X.read_faults link.new) }
-    ensures write_cause { result ≡ SessionEnd.WriteFault → Rose (X.write_faults link.old) (X.write_faults link.new) }
-    ensures reads_never_fall { X.read_faults link.old ≤ X.read_faults link.new }
-    ensures writes_never_fall { X.write_faults link.old ≤ X.write_faults link.new }
+    ensures read_cause { result ≡ SessionEnd.ReadFault → ReadFailed (X.told link.old) (X.told link.new) }
+    ensures write_cause { result ≡ SessionEnd.WriteFault → WriteFailed (X.told link.old) (X.told link.new) }
+    ensures never_fall { NeverFall (X.told link.old) (X.told link.new) }
 {
     let Ok(room) = Room::new(alloc) else {
         return SessionEnd::NoMemory;
@@ -80,15 +78,14 @@ fn answer_next<K: Desk, X: Source + Sink, C: Clock, W: Draws>(
 ) -> Next
     requires { closing false spare.old ≡ no_memory }
     ensures steps { StepsOn K.Asks rules.now buffer.old
-        (record { left = X.left link.old; held = X.held link.old; desk = desk.old; outlook = outlook (C.moments clock.old) (W.throttles draws.old) (W.ids draws.old) })
+        (around (X.told link.old) desk.old (outlook (C.moments clock.old) (W.throttles draws.old) (W.ids draws.old)))
         buffer.new
-        (record { left = X.left link.new; held = X.held link.new; desk = desk.new; outlook = outlook (C.moments clock.new) (W.throttles draws.new) (W.ids draws.new) })
+        (around (X.told link.new) desk.new (outlook (C.moments clock.new) (W.throttles draws.new) (W.ids draws.new)))
         result }
     ensures spare { closing false spare.new ≡ no_memory }
-    ensures read_cause { result ≡ Next.Ends SessionEnd.ReadFault → Rose (X.read_faults link.old) (X.read_faults link.new) }
-    ensures write_cause { result ≡ Next.Ends SessionEnd.WriteFault → Rose (X.write_faults link.old) (X.write_faults link.new) }
-    ensures reads_never_fall { X.read_faults link.old ≤ X.read_faults link.new }
-    ensures writes_never_fall { X.write_faults link.old ≤ X.write_faults link.new }
+    ensures read_cause { result ≡ Next.Ends SessionEnd.ReadFault → ReadFailed (X.told link.old) (X.told link.new) }
+    ensures write_cause { result ≡ Next.Ends SessionEnd.WriteFault → WriteFailed (X.told link.old) (X.told link.new) }
+    ensures never_fall { NeverFall (X.told link.old) (X.told link.new) }
 {
     match next_message(alloc, link, buffer) {
         Ok(None) => Next::Ends(SessionEnd::Ended),
@@ -103,12 +100,10 @@ fn answer_next<K: Desk, X: Source + Sink, C: Clock, W: Draws>(
 
 /// Ends where no message came whole.
 fn halt<X: Sink>(alloc: Global, link: &mut X, error: HeadError) -> SessionEnd
-    ensures halts { Halts (X.held link.old) (X.held link.new) error result }
+    ensures halts { Halts (X.told link.old).held (X.told link.new).held error result }
     ensures read_fault { result ≡ SessionEnd.ReadFault → error ≡ HeadError.ReadFault }
-    ensures write_cause { result ≡ SessionEnd.WriteFault → Rose (X.write_faults link.old) (X.write_faults link.new) }
-    ensures never_falls { X.write_faults link.old ≤ X.write_faults link.new }
-    ensures left_stays { X.left link.new ≡ X.left link.old }
-    ensures read_faults_stay { X.read_faults link.new ≡ X.read_faults link.old }
+    ensures write_cause { result ≡ SessionEnd.WriteFault → WriteFailed (X.told link.old) (X.told link.new) }
+    ensures only { OnlyWrites (X.told link.old) (X.told link.new) }
 {
     match error {
         HeadError::ReadFault => SessionEnd::ReadFault,
@@ -119,12 +114,10 @@ fn halt<X: Sink>(alloc: Global, link: &mut X, error: HeadError) -> SessionEnd
 
 /// Answers a head that is refused, or a message that is cut short.
 fn refuse<X: Sink>(alloc: Global, link: &mut X, error: HeadError) -> SessionEnd
-    ensures refuses { Refuses (X.held link.old) (X.held link.new) error result }
+    ensures refuses { Refuses (X.told link.old).held (X.told link.new).held error result }
     ensures no_read_fault { result ≢ SessionEnd.ReadFault }
-    ensures write_cause { result ≡ SessionEnd.WriteFault → Rose (X.write_faults link.old) (X.write_faults link.new) }
-    ensures never_falls { X.write_faults link.old ≤ X.write_faults link.new }
-    ensures left_stays { X.left link.new ≡ X.left link.old }
-    ensures read_faults_stay { X.read_faults link.new ≡ X.read_faults link.old }
+    ensures write_cause { result ≡ SessionEnd.WriteFault → WriteFailed (X.told link.old) (X.told link.new) }
+    ensures only { OnlyWrites (X.told link.old) (X.told link.new) }
 {
     let Ok(room) = Room::new(alloc) else {
         return SessionEnd::NoMemory;
@@ -154,13 +147,11 @@ fn answer_message<K: Desk, X: Sink, C: Clock, W: Draws>(
     ensures responds { Responds K.Asks rules.now incoming desk.old desk.new
         (outlook (C.moments clock.old) (W.throttles draws.old) (W.ids draws.old))
         (outlook (C.moments clock.new) (W.throttles draws.new) (W.ids draws.new))
-        (X.held link.old) (X.held link.new) result }
+        (X.told link.old).held (X.told link.new).held result }
     ensures spare { closing false spare.new ≡ no_memory }
     ensures no_read_fault { result ≢ Next.Ends SessionEnd.ReadFault }
-    ensures write_cause { result ≡ Next.Ends SessionEnd.WriteFault → Rose (X.write_faults link.old) (X.write_faults link.new) }
-    ensures never_falls { X.write_faults link.old ≤ X.write_faults link.new }
-    ensures left_stays { X.left link.new ≡ X.left link.old }
-    ensures read_faults_stay { X.read_faults link.new ≡ X.read_faults link.old }
+    ensures write_cause { result ≡ Next.Ends SessionEnd.WriteFault → WriteFailed (X.told link.old) (X.told link.new) }
+    ensures only { OnlyWrites (X.told link.old) (X.told link.new) }
 {
     let outcome = answer(alloc, desk, rules, routes, &incoming, clock, draws);
     let stopped = outcome.stopped;
@@ -205,13 +196,10 @@ fn write_last<X: Sink>(
     last: bool,
 ) -> Result<(), WriteFault>
     requires { closing false spare.old ≡ no_memory }
-    ensures written { OnOk result (Takes (X.held link.old) (X.held link.new) (reply_text (closing last (reply_of reply)))) }
-    ensures front { OnErr result (TakesFront (X.held link.old) (X.held link.new) (reply_text (closing last (reply_of reply)))) }
+    ensures written { OnOk result (Writes (X.told link.old) (X.told link.new) (reply_text (closing last (reply_of reply)))) }
+    ensures front { OnErr result (WritesFront (X.told link.old) (X.told link.new) (reply_text (closing last (reply_of reply)))) }
     ensures spare { closing false spare.new ≡ no_memory }
-    ensures cause { OnErr result (Rose (X.write_faults link.old) (X.write_faults link.new)) }
-    ensures never_falls { X.write_faults link.old ≤ X.write_faults link.new }
-    ensures left_stays { X.left link.new ≡ X.left link.old }
-    ensures read_faults_stay { X.read_faults link.new ≡ X.read_faults link.old }
+    ensures cause { OnErr result (WriteFailed (X.told link.old) (X.told link.new)) }
 {
     match reply {
         Some(answered) => {

@@ -16,7 +16,9 @@ impl<R> InputStream<R> {
 }
 
 impl<R> Tells for InputStream<R> {
-    ghost read_faults = { λ stream. stream.faults };
+    ghost use Rattle.soc_edge.specs.Told.{untold};
+
+    ghost told = { λ stream. record untold { read_faults = stream.faults } };
 }
 
 impl<R: Read> Source for InputStream<R> {
@@ -45,7 +47,9 @@ impl<W> OutputStream<W> {
 }
 
 impl<W> Tells for OutputStream<W> {
-    ghost write_faults = { λ stream. stream.faults };
+    ghost use Rattle.soc_edge.specs.Told.{untold};
+
+    ghost told = { λ stream. record untold { write_faults = stream.faults } };
 }
 
 impl<W: Write> Sink for OutputStream<W> {

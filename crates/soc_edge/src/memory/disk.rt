@@ -1,9 +1,9 @@
 // A disk in memory.
 ghost use Rattle.std.specs.Prelude.{◌≡◌, ◌≤◌, ◌<◌, ◌+◌, ◌↔◌, ℕ, List, Some, false, nat_lt, min, length, take, [], ◌∷◌, ◌++◌, vec_len, vec_capacity, IfSome, IfOk, OnOk, OnErr, IsErr, IsTrue};
 ghost use Rattle.soc_edge.specs.Calls.{no_calls, is_due, passed, failed, after_call};
-ghost use Rattle.soc_edge.specs.Disk.{written, Tears, ReadsAt, WhereTold, Follows, NoMore, Only, Elapses};
-ghost use Rattle.soc_edge.specs.DiskLaws.{IsImage-told, WasImageSince-now, WasImageSince-only};
-ghost use Rattle.soc_edge.specs.DiskLog.{Made, Wrote, Synced, content_of, reads_as, IsImage, WasImageSince, stopped, may_leave_of, moment_of, left_since_of, bytes_written, refuses_sync, refuses_write};
+ghost use Rattle.soc_edge.specs.Disk.{ReadsAt, Looks, MayTear};
+ghost use Rattle.soc_edge.specs.DiskLaws.{IsDisk-told};
+ghost use Rattle.soc_edge.specs.DiskLog.{Made, Wrote, Synced, content_of, IsImage, stopped, disk_told, bytes_written, refuses_sync, refuses_write};
 ghost use Rattle.soc_edge.specs.Faults.{Rose};
 
 use super::calls::CallCount;
@@ -164,14 +164,15 @@ impl MemDisk {
     fn fail(&mut self) -> Failed
         ensures counted { self.new ≡ record self.old { calls = failed self.old.calls } }
         ensures rose { Rose self.old.calls.failed self.new.calls.failed }
-        ensures never_falls { self.old.calls.failed ≤ self.new.calls.failed }
+        ensures looks { Looks (disk_told self.old) (disk_told self.new) }
     {
         self.calls.fail()
     }
 
     // A call was made, and succeeded.
     fn pass(&mut self)
-        ensures { self.new ≡ record self.old { calls = passed self.old.calls } }
+        ensures counted { self.new ≡ record self.old { calls = passed self.old.calls } }
+        ensures looks { Looks (disk_told self.old) (disk_told self.new) }
     {
         self.calls.pass();
     }
@@ -199,29 +200,15 @@ impl MemDisk {
 }
 
 impl Disk for MemDisk {
-    ghost content = { λ d. Some (content_of d) };
+    ghost state = { disk_told };
 
-    ghost may_leave = { may_leave_of };
-
-    ghost moment = { moment_of };
-
-    ghost left_since = { left_since_of };
-
-    ghost disk_calls = { λ d. d.calls.made };
-
-    ghost disk_faults = { λ d. d.calls.failed };
-
-    ghost reads_as_image = { λ d bytes told. IsImage-told d.first d.log bytes told };
-
-    ghost counts_now = { λ d t image low now. WasImageSince-now d.first d.log t image low now };
-
-    ghost only_now = { λ d image left. WasImageSince-only d.first d.log image left };
+    ghost sound = { IsDisk-told };
 
     fn len(&mut self) -> Result<u64, Failed>
         ensures fails { IsErr result ↔ IsTrue (is_due self.old.calls) }
         ensures value { IfOk result (λ n. n ≡ length (content_of self.old)) }
         ensures after { self.new ≡ record self.old { calls = after_call self.old.calls result } }
-        ensures never_falls { self.old.calls.failed ≤ self.new.calls.failed }
+        ensures looks { Looks (disk_told self.old) (disk_told self.new) }
     {
         if self.is_due() {
             return Err(self.fail());
@@ -234,7 +221,7 @@ impl Disk for MemDisk {
         ensures fails { IsErr result ↔ IsTrue (is_due self.old.calls) }
         ensures value { IfOk result (λ n. ReadsAt (content_of self.old) place n into.new) }
         ensures after { self.new ≡ record self.old { calls = after_call self.old.calls result } }
-        ensures never_falls { self.old.calls.failed ≤ self.new.calls.failed }
+        ensures looks { Looks (disk_told self.old) (disk_told self.new) }
     {
         if self.is_due() {
             return Err(self.fail());
@@ -247,7 +234,7 @@ impl Disk for MemDisk {
         ensures fails { IsErr result ↔ IsTrue (refuses_write self.old place (length bytes.now)) }
         ensures made { OnOk result (self.new ≡ record self.old { log = Wrote place bytes.now ∷ self.old.log; calls = passed self.old.calls }) }
         ensures refused { OnErr result (self.new ≡ record self.old { calls = failed self.old.calls }) }
-        ensures never_falls { self.old.calls.failed ≤ self.new.calls.failed }
+        ensures tears { MayTear place (length bytes.now) (disk_told self.old) (disk_told self.new) }
     {
         if self.refuses_write(place, bytes.len()) {
             return Err(self.fail());
@@ -261,8 +248,7 @@ impl Disk for MemDisk {
         ensures fails { IsErr result ↔ IsTrue (refuses_sync self.old) }
         ensures made { OnOk result (self.new ≡ record self.old { log = Synced ∷ self.old.log; calls = passed self.old.calls }) }
         ensures refused { OnErr result (self.new ≡ record self.old { calls = failed self.old.calls }) }
-        ensures images { NoMore (may_leave_of self.old) (may_leave_of self.new) }
-        ensures never_falls { self.old.calls.failed ≤ self.new.calls.failed }
+        ensures looks { Looks (disk_told self.old) (disk_told self.new) }
     {
         if self.refuses_sync() {
             return Err(self.fail());

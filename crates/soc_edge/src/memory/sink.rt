@@ -1,8 +1,8 @@
 // A sink in memory.
-ghost use Rattle.std.specs.Prelude.{◌≡◌, ◌≤◌, ◌<◌, ◌-◌, ◌↔◌, ◌⊎◌, Some, min, length, take, [], IfOk, OnErr, IsErr, IsTrue};
+ghost use Rattle.std.specs.Prelude.{◌≡◌, ◌≤◌, ◌<◌, ◌-◌, ◌↔◌, ◌⊎◌, min, length, take, [], IfOk, OnErr, IsErr, IsTrue};
 ghost use Rattle.soc_edge.specs.Calls.{no_calls, is_due, after_call};
-ghost use Rattle.soc_edge.specs.Faults.{Rose};
-ghost use Rattle.soc_edge.specs.Told.{Takes};
+ghost use Rattle.soc_edge.specs.Memory.{sink_told};
+ghost use Rattle.soc_edge.specs.Told.{Writes, WriteFailed};
 
 use super::calls::CallCount;
 use super::lists::Numbers;
@@ -52,20 +52,17 @@ impl MemSink {
 }
 
 impl Tells for MemSink {
-    ghost held = { λ s. Some s.held };
-
-    ghost write_faults = { λ s. s.calls.failed };
+    ghost told = { sink_told };
 }
 
 impl Sink for MemSink {
-    /// Takes as much as the room has left.
+    /// Writes as much as the room has left.
     fn write(&mut self, bytes: &[u8]) -> Result<usize, Failed>
         ensures count { IfOk result (λ n. n ≤ length bytes.now) }
         ensures some { IfOk result (λ n. 0 < length bytes.now → 0 < n) }
-        ensures takes { IfOk result (λ n. Takes (Some self.old.held) (Some self.new.held) (take n bytes.now)) }
-        ensures untouched { OnErr result (Some self.new.held ≡ Some self.old.held) }
-        ensures never_falls { self.old.calls.failed ≤ self.new.calls.failed }
-        ensures cause { OnErr result (Rose self.old.calls.failed self.new.calls.failed) }
+        ensures writes { IfOk result (λ n. Writes (sink_told self.old) (sink_told self.new) (take n bytes.now)) }
+        ensures untouched { OnErr result (Writes (sink_told self.old) (sink_told self.new) []) }
+        ensures cause { OnErr result (WriteFailed (sink_told self.old) (sink_told self.new)) }
         ensures fails { IsErr result ↔ (IsTrue (is_due self.old.calls) ⊎ ((0 < length bytes.now) × (self.old.room ≤ length self.old.held))) }
         ensures whole { IfOk result (λ n. n ≡ min (length bytes.now) (self.old.room - length self.old.held)) }
         ensures room { self.new.room ≡ self.old.room }

@@ -1,9 +1,9 @@
 // A source in memory.
-ghost use Rattle.std.specs.Prelude.{◌≡◌, ◌≤◌, ◌<◌, ◌↔◌, Some, min, length, take, IfOk, OnErr, IsErr, IsTrue};
+ghost use Rattle.std.specs.Prelude.{◌≡◌, ◌≤◌, ◌<◌, ◌↔◌, Some, min, [], length, take, IfOk, OnErr, IsErr, IsTrue};
 ghost use Rattle.std.specs.Io.KnownBytes.{IsAtEnd};
 ghost use Rattle.soc_edge.specs.Calls.{no_calls, is_due, after_call};
-ghost use Rattle.soc_edge.specs.Faults.{Rose};
-ghost use Rattle.soc_edge.specs.Told.{Gives};
+ghost use Rattle.soc_edge.specs.Memory.{source_told};
+ghost use Rattle.soc_edge.specs.Told.{Reads, ReadFailed};
 
 use super::calls::CallCount;
 use super::lists::Numbers;
@@ -44,20 +44,17 @@ impl MemSource {
 }
 
 impl Tells for MemSource {
-    ghost left = { λ s. Some s.left };
-
-    ghost read_faults = { λ s. s.calls.failed };
+    ghost told = { source_told };
 }
 
 impl Source for MemSource {
-    /// Gives as much as there is room for.
+    /// Reads as much as there is room for.
     fn read(&mut self, into: &mut [u8]) -> Result<usize, Failed>
         ensures count { IfOk result (λ n. n ≤ length into.new) }
-        ensures gives { IfOk result (λ n. Gives (Some self.old.left) (Some self.new.left) (take n into.new)) }
+        ensures reads { IfOk result (λ n. Reads (source_told self.old) (source_told self.new) (take n into.new)) }
         ensures end { IfOk result (λ n. n ≡ 0 → 0 < length into.new → IsAtEnd (Some self.new.left)) }
-        ensures unmoved { OnErr result (Some self.new.left ≡ Some self.old.left) }
-        ensures never_falls { self.old.calls.failed ≤ self.new.calls.failed }
-        ensures cause { OnErr result (Rose self.old.calls.failed self.new.calls.failed) }
+        ensures unmoved { OnErr result (Reads (source_told self.old) (source_told self.new) []) }
+        ensures cause { OnErr result (ReadFailed (source_told self.old) (source_told self.new)) }
         ensures fails { IsErr result ↔ IsTrue (is_due self.old.calls) }
         ensures whole { IfOk result (λ n. n ≡ min (length self.old.left) (length into.new)) }
         ensures calls { self.new.calls ≡ after_call self.old.calls result }

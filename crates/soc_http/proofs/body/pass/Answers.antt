@@ -1,4 +1,4 @@
-use Rattle.std.proofs.Common.{◌∙◌, ◌≤◌, arith}
+use Rattle.std.proofs.Common.{◌≤◌, arith}
 use Rattle.std.proofs.lemmas.Result.{err_from_is_err_and}
 use Rattle.soc_http.proofs.BodyLemmas.{Past-more, Passes-failed}
 use Rattle.soc_http.proofs.body.pass.Goals as goal
@@ -13,7 +13,4 @@ loop-left-preserved g c =
     let within : c.in_ok-count.count ≤ c.loop-left.left = c.in_ok-count.ensures.ready.reads.2 in (
       Past-more _ _ _ _ _ _ _ _ _ _ _ c.loop-left.invariant.0 c.in_ok-count.ensures.ready c.consume.ensures (omega arith),
       omega arith,
-      omega (arith, c.in_ok-count.ensures.never_falls),
-      c.in_ok-count.ensures.held_stays ∙ c.loop-left.invariant.3,
-      c.in_ok-count.ensures.write_faults_stay ∙ c.loop-left.invariant.4,
     )

@@ -1,10 +1,10 @@
-use Rattle.std.proofs.Common.{refl, sym, subst, ◌∙◌, arith}
+use Rattle.std.proofs.Common.{sym, subst, arith}
 use Rattle.soc_http.proofs.HeadLemmas.{Fills-none, Fills-more, HasNoBlock-empty, HasNoBlock-grown, HasNoBlockInLimit-late, HasNoBlockInLimit-none, EndsInHead-at}
 use Rattle.soc_http.specs.Reading.{IsWithinHead}
 use Rattle.soc_http.proofs.heads.find_block.Goals as goal
 
 pub loop-end-init : goal.loop-end-init
-loop-end-init g c = (Fills-none _ _, omega arith, HasNoBlock-empty c.args.buffer.now, omega arith, refl, refl)
+loop-end-init g c = (Fills-none _ _, omega arith, HasNoBlock-empty c.args.buffer.now)
 
 pub block_end-requires-clause-none_before : goal.block_end-requires-clause-none_before
 block_end-requires-clause-none_before g c = rw c.unread-unread.ensures.value c.loop-end.invariant.2
@@ -44,7 +44,4 @@ loop-end-preserved g c =
       Fills-more _ _ _ _ _ _ c.loop-end.invariant.0 c.in-Ok.ensures.fills,
       omega (arith, c.in-Ok.ensures.count),
       HasNoBlock-grown _ _ _ c.in-Ok.ensures.fills.grown none,
-      omega (arith, c.in-Ok.ensures.never_falls),
-      c.in-Ok.ensures.held_stays ∙ c.loop-end.invariant.4,
-      c.in-Ok.ensures.write_faults_stay ∙ c.loop-end.invariant.5,
     )

@@ -1,10 +1,7 @@
-use Rattle.std.proofs.Common.{◌≡◌, take, ◌≤◌}
+use Rattle.std.proofs.Common.{take}
 use Rattle.soc_http.specs.Pieces.{pieces_text, IsSent}
 use Rattle.soc_http.proofs.pieces.write_pieces.Given as goal
 
 abbrev pub invariant-loop-piece : goal.invariant-loop-piece
 invariant-loop-piece g l =
-    IsSent (g.K.Tells.held l.initial.sink) (g.K.Tells.held l.sink) l.pending (pieces_text (take l.piece-index l.pieces))
-    × (g.K.Tells.write_faults l.initial.sink ≤ g.K.Tells.write_faults l.sink)
-    × (g.K.Tells.left l.sink ≡ g.K.Tells.left l.initial.sink)
-    × (g.K.Tells.read_faults l.sink ≡ g.K.Tells.read_faults l.initial.sink)
+    IsSent (g.K.Tells.told l.initial.sink) (g.K.Tells.told l.sink) l.pending (pieces_text (take l.piece-index l.pieces))

@@ -1,5 +1,5 @@
 use Rattle.std.proofs.Common.{arith, refl}
-use Rattle.soc_edge.proofs.Told.{Takes-none}
+use Rattle.soc_edge.proofs.Told.{Takes-none, NeverFall-append}
 use Rattle.soc_session.specs.declared.ending.SessionEnd.TheVariants.{NoMemory, TooLong}
 use Rattle.soc_session.proofs.ConnectionLemmas.{Serves-cons, Serves-nothing, Serves-of}
 use Rattle.soc_session.proofs.connection.session.Goals as goal
@@ -16,8 +16,7 @@ loop-left-preserved g c = (
       (Serves-cons g.K.Desk.Asks c.args.rules.now c.loop-left.buffer c.answer_next.new.buffer c.loop-left.left c.in-GoesOn.bytes
       c.saturating_sub-left.result _ _ after end c.loop-left-test.true c.in-GoesOn.ensures.steps c.saturating_sub-left.ensures rest),
   c.in-GoesOn.ensures.spare,
-  omega (arith, c.in-GoesOn.ensures.reads_never_fall),
-  omega (arith, c.in-GoesOn.ensures.writes_never_fall),
+  NeverFall-append _ _ _ c.loop-left.invariant.2 c.in-GoesOn.ensures.never_fall,
 )
 
 pub returns-in-Ends-clause-serves : goal.returns-in-Ends-clause-serves

@@ -1,8 +1,8 @@
-use Rattle.std.proofs.Common.{◌≡◌, ◌≤◌, [], false}
-use Rattle.soc_edge.specs.Told.{outlook}
+use Rattle.std.proofs.Common.{◌≡◌, [], false}
+use Rattle.soc_edge.specs.Told.{outlook, NeverFall}
 use Rattle.soc_session.specs.declared.ending.SessionEnd.{SessionEnd}
 use Rattle.soc_session.specs.Replies.{closing, no_memory}
-use Rattle.soc_session.specs.Session.{Around}
+use Rattle.soc_session.specs.Session.{Around, around}
 use Rattle.soc_session.specs.Steps.{ServesFrom}
 use Rattle.soc_session.proofs.connection.session.Given as goal
 
@@ -11,12 +11,11 @@ abbrev pub invariant-loop-left : goal.invariant-loop-left
 invariant-loop-left g l =
     ((after : Around g.row.K.Denot) (end : SessionEnd)
     → ServesFrom g.K.Desk.Asks l.rules l.buffer l.left
-    (record { left = g.X.Tells.left l.link; held = g.X.Tells.held l.link; desk = l.desk; outlook = outlook (g.C.Clock.moments l.clock) (g.W.Draws.throttles l.draws) (g.W.Draws.ids l.draws) }) after end
+    (around (g.X.Tells.told l.link) l.desk (outlook (g.C.Clock.moments l.clock) (g.W.Draws.throttles l.draws) (g.W.Draws.ids l.draws))) after end
     → ServesFrom g.K.Desk.Asks l.rules [] l.rules.session_bytes
-    (record { left = g.X.Tells.left l.initial.link; held = g.X.Tells.held l.initial.link; desk = l.initial.desk; outlook = outlook (g.C.Clock.moments l.initial.clock) (g.W.Draws.throttles l.initial.draws) (g.W.Draws.ids l.initial.draws) }) after end)
+    (around (g.X.Tells.told l.initial.link) l.initial.desk (outlook (g.C.Clock.moments l.initial.clock) (g.W.Draws.throttles l.initial.draws) (g.W.Draws.ids l.initial.draws))) after end)
     × (closing false l.spare ≡ no_memory)
-    × (g.X.Tells.read_faults l.initial.link ≤ g.X.Tells.read_faults l.link)
-    × (g.X.Tells.write_faults l.initial.link ≤ g.X.Tells.write_faults l.link)
+    × NeverFall (g.X.Tells.told l.initial.link) (g.X.Tells.told l.link)
 
 abbrev pub decreases-loop-left : goal.decreases-loop-left
 decreases-loop-left g l = l.left

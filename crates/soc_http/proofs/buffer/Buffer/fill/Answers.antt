@@ -18,7 +18,7 @@ returns-clause-fills g c =
     let last = with_items_is (with_items bytes moved) read read_len in
     record {
       given = given;
-      gives = c.in_ok-count.ensures.gives;
+      gives = c.in_ok-count.ensures.reads;
       grown = ap (λ l. drop unread.start (take (unread.end + c.in_ok-count.count) l)) last
           ∙ unread-grown _ _ _ _ _ c.make_room-unread.ensures.ordered within c.read_behind.ensures.front
           ∙ ap (λ l. drop unread.start (take unread.end l) ++ given) same

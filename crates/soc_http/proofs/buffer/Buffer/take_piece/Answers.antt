@@ -32,12 +32,10 @@ returns g c =
       ),
       record {
         after_borrow = tt;
+        only = ready.gives.only;
         some = omega arith;
         counted = omega arith;
         left_stays = tt;
-        cause = tt;
-        never_falls = c.piece_len.ensures.never_falls;
-        held_stays = c.piece_len.ensures.held_stays;
-        write_faults_stay = c.piece_len.ensures.write_faults_stay;
+        cause = λ is. cc;
       },
     )

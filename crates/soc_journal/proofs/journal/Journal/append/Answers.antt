@@ -22,12 +22,12 @@ returns-in_err-write_and_sync-clause-in_doubt g c = λ _.
     let doubt : length c.as_slice-text.result.now - 1 ≡ length (entry_text c.args.entry.now) =
     omega (arith, count, length-sealed c.args.entry.now, length-entry_text c.args.entry.now) in
     doubt_first c.args.self.now _ c.self.inside.gate at c.args.entry.now c.as_slice-text.ensures.legal (sym at) (ap (λ (x : ℕ). Some x) doubt) _ _ _ _ _
-    c.in_err-write_and_sync.ensures.torn c.write_and_sync.ensures.images
+    c.in_err-write_and_sync.ensures.torn c.write_and_sync.ensures.tears.images
 
 pub returns-in_err-write_and_sync-clause-any_moment : goal.returns-in_err-write_and_sync-clause-any_moment
 returns-in_err-write_and_sync-clause-any_moment g c =
     let at = sym (ap (λ (x : JournalState). x.gate) c.self.view_is) in
-    any_first g.D.Disk.moment g.D.Disk.left_since c.args.self.now c.self.inside.gate at c.args.entry.now _ _ _ _ _ c.write_and_sync.ensures.any_moment
+    any_first c.args.self.now c.self.inside.gate at c.args.entry.now _ _ _ _ c.write_and_sync.ensures.tears
 
 pub returns-in_err-write_and_sync-2-clause-full : goal.returns-in_err-write_and_sync-2-clause-full
 returns-in_err-write_and_sync-2-clause-full g c =
@@ -42,14 +42,14 @@ returns-in_err-write_and_sync-2-clause-in_doubt g c = λ _.
     omega (arith, count, length-sealed c.args.entry.now, length-entry_text c.args.entry.now) in
     let is_piece = behind_slice _ _ c.as_slice-text.ensures.text in
     doubt_second c.args.self.now _ c.self.inside.gate at c.args.entry.now c.as_slice-text.ensures.legal (sym at) (ap (λ (x : ℕ). Some x) doubt) _ is_piece _ _ _ _ _ _
-    c.in_ok-write_and_sync.ensures.written c.in_ok-write_and_sync.ensures.durable c.in_err-write_and_sync-2.ensures.torn c.write_and_sync-2.ensures.images
+    c.in_ok-write_and_sync.ensures.written c.in_ok-write_and_sync.ensures.durable c.in_err-write_and_sync-2.ensures.torn c.write_and_sync-2.ensures.tears.images
 
 pub returns-in_err-write_and_sync-2-clause-any_moment : goal.returns-in_err-write_and_sync-2-clause-any_moment
 returns-in_err-write_and_sync-2-clause-any_moment g c =
     let at = sym (ap (λ (x : JournalState). x.gate) c.self.view_is) in
     let is_piece = behind_slice _ _ c.as_slice-text.ensures.text in
-    any_second g.D.Disk.moment g.D.Disk.left_since c.args.self.now c.self.inside.gate at c.args.entry.now _ is_piece _ _ _ _ _ _ _ _ c.as_slice-text.ensures.legal
-    c.write_and_sync.ensures.any_moment c.in_ok-write_and_sync.ensures.written c.in_ok-write_and_sync.ensures.durable c.write_and_sync-2.ensures.any_moment
+    any_second c.args.self.now c.self.inside.gate at c.args.entry.now _ is_piece _ _ _ _ _ _ c.as_slice-text.ensures.legal
+    c.write_and_sync.ensures.tears c.in_ok-write_and_sync.ensures.written c.in_ok-write_and_sync.ensures.durable c.write_and_sync-2.ensures.tears
 
 pub returns-clause-full : goal.returns-clause-full
 returns-clause-full g c =
@@ -70,5 +70,5 @@ pub returns-clause-any_moment : goal.returns-clause-any_moment
 returns-clause-any_moment g c =
     let at = sym (ap (λ (x : JournalState). x.gate) c.self.view_is) in
     let is_piece = behind_slice _ _ c.as_slice-text.ensures.text in
-    any_second g.D.Disk.moment g.D.Disk.left_since c.args.self.now c.self.inside.gate at c.args.entry.now _ is_piece _ _ _ _ _ _ _ _ c.as_slice-text.ensures.legal
-    c.write_and_sync.ensures.any_moment c.in_ok-write_and_sync.ensures.written c.in_ok-write_and_sync.ensures.durable c.write_and_sync-2.ensures.any_moment
+    any_second c.args.self.now c.self.inside.gate at c.args.entry.now _ is_piece _ _ _ _ _ _ c.as_slice-text.ensures.legal
+    c.write_and_sync.ensures.tears c.in_ok-write_and_sync.ensures.written c.in_ok-write_and_sync.ensures.durable c.write_and_sync-2.ensures.tears

@@ -4,15 +4,15 @@ use Rattle.soc_journal.proofs.opening.Opening.next.Goals as goal
 
 pub returns-in-Entry-clause-finds : goal.returns-in-Entry-clause-finds
 returns-in-Entry-clause-finds g c =
-    entry_told (g.D.Disk.content c.args.disk.now) (g.D.Disk.may_leave c.args.disk.now) (g.D.Disk.may_leave c.found_at.new.disk) c.found_at.ensures.disk_stays.images
+    entry_told (g.D.Disk.state c.args.disk.now).content (g.D.Disk.state c.args.disk.now).images (g.D.Disk.state c.found_at.new.disk).images c.found_at.ensures.disk_stays.images
     _ _ _ c.self.view_is refl refl _ c.in_ok-kind.ensures.found _ refl refl c.in-Entry.is
 
 pub returns-in-Closed-clause-finds : goal.returns-in-Closed-clause-finds
 returns-in-Closed-clause-finds g c =
-    gate_told (g.D.Disk.content c.args.disk.now) (g.D.Disk.may_leave c.args.disk.now) (g.D.Disk.may_leave c.found_at.new.disk) c.found_at.ensures.disk_stays.images
+    gate_told (g.D.Disk.state c.args.disk.now).content (g.D.Disk.state c.args.disk.now).images (g.D.Disk.state c.found_at.new.disk).images c.found_at.ensures.disk_stays.images
     _ _ _ c.self.view_is refl refl _ c.in_ok-kind.ensures.found refl c.in-Closed.is
 
 pub returns-in-Bad-clause-finds : goal.returns-in-Bad-clause-finds
 returns-in-Bad-clause-finds g c =
-    bad_told (g.D.Disk.content c.args.disk.now) (g.D.Disk.may_leave c.args.disk.now) (g.D.Disk.may_leave c.found_at.new.disk) c.found_at.ensures.disk_stays.images
+    bad_told (g.D.Disk.state c.args.disk.now).content (g.D.Disk.state c.args.disk.now).images (g.D.Disk.state c.found_at.new.disk).images c.found_at.ensures.disk_stays.images
     _ _ (record { place = c.self.inside.place; length = c.self.inside.length; version = c.self.inside.version; limit = c.self.inside.limit; ended = c.self.inside.ended }) c.self.view_is refl refl _ c.in_ok-kind.ensures.found c.in-Bad.is

@@ -1,10 +1,6 @@
-use Rattle.std.proofs.Common.{◌∷◌, ap, ◌∙◌}
-use Rattle.soc_edge.specs.Calls.{passed}
-use Rattle.soc_edge.specs.DiskLog.{DiskState, Synced}
-use Rattle.soc_edge.proofs.DiskKept.{NoMore-settled}
+use Rattle.soc_edge.proofs.Disks.{Looks-append}
+use Rattle.soc_edge.proofs.DiskKept.{Looks-synced}
 use Rattle.soc_edge.proofs.memory.disk.MemDiskDisk.sync.Goals as goal
 
-pub returns-clause-images : goal.returns-clause-images
-returns-clause-images c =
-    NoMore-settled c.args.self.now c.settle.new.self (passed c.args.self.now.calls)
-    (c.settle.ensures ∙ ap (λ (disk : DiskState). record disk { log = Synced ∷ disk.log }) c.pass.ensures)
+pub returns-clause-looks : goal.returns-clause-looks
+returns-clause-looks c = Looks-append _ _ _ c.pass.ensures.looks (Looks-synced c.pass.new.self c.settle.new.self c.settle.ensures)

@@ -1,0 +1,9 @@
+use Rattle.std.proofs.Common.{ap, arith}
+use Rattle.soc_edge.specs.DiskLog.{DiskState}
+use Rattle.soc_edge.proofs.DiskKept.{Looks-calls}
+use Rattle.soc_edge.proofs.memory.disk.MemDisk.fail.Goals as goal
+
+pub returns-clause-looks : goal.returns-clause-looks
+returns-clause-looks c =
+    let before = ap (λ (s : DiskState). s.calls.failed) c.self.view_is in
+    Looks-calls c.args.self.now _ c.fail.new.self (omega (arith, before, c.fail.ensures.never_falls)) (ap (λ (s : DiskState). record s { calls = c.fail.new.self }) c.self.view_is)
