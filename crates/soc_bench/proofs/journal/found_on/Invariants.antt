@@ -1,5 +1,5 @@
 use Rattle.std.proofs.Common.{◌≡◌, List, length}
-use Rattle.soc_edge.specs.DiskLog.{content_of, may_leave_of}
+use Rattle.soc_edge.specs.DiskLog.{content_of, disk_told}
 use Rattle.soc_journal.specs.Entries.{Entry}
 use Rattle.soc_journal.specs.Text.{JournalText}
 use Rattle.soc_bench.specs.Journals.{HasFound}
@@ -8,5 +8,5 @@ use Rattle.soc_bench.proofs.journal.found_on.Given as goal
 abbrev pub invariant-loop-found : goal.invariant-loop-found
 invariant-loop-found l = record {
   same : (entries : List Entry) → JournalText entries (content_of l.fn.disk) → JournalText entries (content_of l.disk);
-  found : HasFound l.found l.opening (content_of l.disk) (may_leave_of l.disk);
+  found : HasFound l.found l.opening (content_of l.disk) (disk_told l.disk).images;
 }
