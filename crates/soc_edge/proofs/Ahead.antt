@@ -1,7 +1,7 @@
 -- What a clock and draws hand out, one after another.
 use Rattle.std.proofs.Common.{◌≡◌, ℕ, ◌+◌, List, [], ◌∷◌, ◌++◌, Option, refl, ◌∙◌, subst}
 use Rattle.std.specs.Prelude.{IfSome}
-use Rattle.soc_edge.specs.Told.{HandsOut, HandsAll, SameAhead, Outlook, Hands}
+use Rattle.soc_edge.specs.Ahead.{HandsOut, HandsAll, SameAhead, Outlook, Hands}
 
 -- nothing was handed out before
 pub HandsAll-later : {A : Type 0} (before middle after : ℕ → Option A) (xs : List A) → SameAhead before middle → HandsAll middle after xs → HandsAll before after xs

@@ -1,3 +1,4 @@
+pub mod Ahead
 pub mod Calls
 pub mod Disk
 pub mod DiskEntries
@@ -7,3 +8,4 @@ pub mod DiskState
 pub mod Faults
 pub mod Memory
 pub mod Told
+pub mod Tree

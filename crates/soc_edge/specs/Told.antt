@@ -1,6 +1,6 @@
--- What an object outside tells of its content. It is optional: `None` where the object doesn't tell.
--- A clause on content holds where it is told, and is written `IfSome told (λ bytes. ..)`.
-use Rattle.std.specs.Prelude.{◌≡◌, ℕ, ◌+◌, ◌<◌, ◌≤◌, Option, None, IfSome, List, [], ◌∷◌, length, take}
+-- What a source and a sink tell of themselves. Content is optional: `None` where the object doesn't tell. A clause on
+-- content holds where it is told, and is written `IfSome told (λ bytes. ..)`. This project's own.
+use Rattle.std.specs.Prelude.{◌≡◌, ℕ, ◌<◌, ◌≤◌, Option, None, List, length, take}
 use Rattle.std.specs.Io.KnownBytes.{append_known, prepend_known}
 use Rattle.soc_edge.specs.Faults.{Rose}
 
@@ -44,6 +44,11 @@ ReadFailed before after = Rose before.read_faults after.read_faults
 abbrev pub WriteFailed : Told → Told → Type 0
 WriteFailed before after = Rose before.write_faults after.write_faults
 
+-- a link answers a read fault and a write fault only where that count rose in this call
+pub record HasCause (read_fault write_fault : Type 0) (before after : Told) : Type 0 where
+  pub read : read_fault → ReadFailed before after
+  pub write : write_fault → WriteFailed before after
+
 -- what was left began with these bytes, and loses them; what wasn't told is not told afterwards
 abbrev pub Gives : Option (List ℕ) → Option (List ℕ) → List ℕ → Type 0
 Gives before after bytes = before ≡ prepend_known bytes after
@@ -72,33 +77,3 @@ pub record Writes (before after : Told) (bytes : List ℕ) : Type 0 where
 pub record WritesFront (before after : Told) (bytes : List ℕ) : Type 0 where
   pub front : TakesFront before.held after.held bytes
   pub only : OnlyWrites before after
-
--- the first of what was to come was handed out, and the rest has moved up by one.
--- What is to come is told number by number: the k-th call from here gives the k-th of it, where that is told.
-pub record HandsOut {A : Type 0} (before after : ℕ → Option A) (given : A) : Type 0 where
-  pub first : IfSome (before 0) (λ told. given ≡ told)
-  pub rest : (k : ℕ) → after k ≡ before (k + 1)
-
--- nothing was handed out
-abbrev pub SameAhead : {A : Type 0} → (ℕ → Option A) → (ℕ → Option A) → Type 0
-SameAhead before after = (k : ℕ) → after k ≡ before k
-
--- these were handed out in this order, and nothing else
-abbrev pub HandsAll : {A : Type 0} → (ℕ → Option A) → (ℕ → Option A) → List A → Type 0
-HandsAll before after [] = SameAhead before after
-HandsAll before after (given ∷ more) = IfSome (before 0) (λ told. given ≡ told) × HandsAll (λ k. before (k + 1)) after more
-
--- what a clock and draws hand out from here on
-pub record Outlook : Type 0 where
-  pub moments : ℕ → Option ℕ
-  pub throttles : ℕ → Option ℕ
-  pub ids : ℕ → Option (List ℕ)
-
-abbrev pub outlook : (ℕ → Option ℕ) → (ℕ → Option ℕ) → (ℕ → Option (List ℕ)) → Outlook
-outlook moments throttles ids = record { moments = moments; throttles = throttles; ids = ids }
-
--- these moments, throttle draws and id draws were handed out, each list in its order, and nothing else
-pub record Hands (before after : Outlook) (moments throttles : List ℕ) (ids : List (List ℕ)) : Type 0 where
-  pub by_clock : HandsAll before.moments after.moments moments
-  pub by_throttle : HandsAll before.throttles after.throttles throttles
-  pub by_id : HandsAll before.ids after.ids ids

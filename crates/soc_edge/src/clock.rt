@@ -1,41 +1,35 @@
 // The clock and random draws. They don't fail.
-ghost use Rattle.std.specs.Prelude.{ℕ, List, Option};
 ghost use Rattle.soc_raw.specs.Day.{IsMoment};
-ghost use Rattle.soc_edge.specs.Told.{HandsOut, SameAhead};
+ghost use Rattle.soc_edge.specs.Ahead.{ClockTold, DrawsTold, HandsMoment, HandsThrottle, HandsId};
 
 /// What the moment is.
 pub trait Clock {
-    /// The moment that the k-th call from here on gives, where the clock tells it.
-    ghost moments: { Self → ℕ → Option ℕ };
+    /// The moments that it gives from here on, where it tells them.
+    ghost told: { Self → ClockTold };
 
     /// The moment in seconds since 1970, from 946,684,800 to 4,102,444,799 (the years 2000 to 2099).
     fn now(&mut self) -> u64
         ensures range { IsMoment result }
-        ensures gives { HandsOut (moments self.old) (moments self.new) result };
+        ensures gives { HandsMoment (told self.old) (told self.new) result };
 }
 
 /// Random draws.
 pub trait Draws {
-    /// The number that the k-th call of `throttle` from here on gives, where it is told.
-    ghost throttles: { Self → ℕ → Option ℕ };
-
-    /// The bytes that the k-th call of `id` from here on gives, where they are told.
-    ghost ids: { Self → ℕ → Option (List ℕ) };
+    /// What either call gives from here on, where it is told.
+    ghost told: { Self → DrawsTold };
 
     /// A number for the throttle rules.
     fn throttle(&mut self) -> u64
-        ensures gives { HandsOut (throttles self.old) (throttles self.new) result }
-        ensures ids_stay { SameAhead (ids self.old) (ids self.new) };
+        ensures gives { HandsThrottle (told self.old) (told self.new) result };
 
     /// Sixteen bytes for a crash id.
     fn id(&mut self) -> [u8; 16]
-        ensures gives { HandsOut (ids self.old) (ids self.new) result }
-        ensures throttles_stay { SameAhead (throttles self.old) (throttles self.new) };
+        ensures gives { HandsId (told self.old) (told self.new) result };
 }
 
 /// A clock that is lent tells the same moments.
 impl<C: Clock> Clock for &mut C {
-    ghost moments = { λ c. C.moments c.now };
+    ghost told = { λ c. C.told c.now };
 
     fn now(&mut self) -> u64 {
         (**self).now()
@@ -44,9 +38,7 @@ impl<C: Clock> Clock for &mut C {
 
 /// Draws that are lent tell the same.
 impl<W: Draws> Draws for &mut W {
-    ghost throttles = { λ w. W.throttles w.now };
-
-    ghost ids = { λ w. W.ids w.now };
+    ghost told = { λ w. W.told w.now };
 
     fn throttle(&mut self) -> u64 {
         (**self).throttle()

@@ -1,6 +1,6 @@
 // A folder of files that are read whole.
-ghost use Rattle.std.specs.Prelude.{◌≡◌, ◌≤◌, ℕ, List, Option, IfSome, IfOk, IsErrOf};
-ghost use Rattle.soc_edge.specs.Faults.{Rose};
+ghost use Rattle.std.specs.Prelude.{◌≡◌, IfSome, IfOk, IsErrOf};
+ghost use Rattle.soc_edge.specs.Tree.{TreeTold, OnlyLooks, TreeFailed};
 ghost use Rattle.soc_edge.specs.declared.tree.TreeError.TheVariants.{NoMemory};
 
 use soc_raw::Bytes;
@@ -28,25 +28,19 @@ impl From<soc_raw::NoMemory> for TreeError {
 
 /// Files by name.
 pub trait Tree {
-    /// The bytes of the file of each name, where the tree tells them.
-    ghost files: { Self → Option (List ℕ → Option (List ℕ)) };
-
-    /// How often a call has failed.
-    ghost tree_faults: { Self → ℕ };
+    /// The files, where the tree tells them, and how often a call has failed.
+    ghost told: { Self → TreeTold };
 
     /// The bytes of the file of that name, `None` exactly where there is none. The files stay as they are.
     fn file(&mut self, alloc: Global, name: &str) -> Result<Option<Bytes>, TreeError>
-        ensures gives { IfOk result (λ file. IfSome (files self.old) (λ told. file ≡ told name.now)) }
-        ensures same { files self.new ≡ files self.old }
-        ensures never_falls { tree_faults self.old ≤ tree_faults self.new }
-        ensures cause { IsErrOf result TreeError.Failed → Rose (tree_faults self.old) (tree_faults self.new) };
+        ensures gives { IfOk result (λ file. IfSome (told self.old).files (λ files. file ≡ files name.now)) }
+        ensures looks { OnlyLooks (told self.old) (told self.new) }
+        ensures cause { IsErrOf result TreeError.Failed → TreeFailed (told self.old) (told self.new) };
 }
 
 /// A tree that is lent has the same files.
 impl<T: Tree> Tree for &mut T {
-    ghost files = { λ t. T.files t.now };
-
-    ghost tree_faults = { λ t. T.tree_faults t.now };
+    ghost told = { λ t. T.told t.now };
 
     fn file(&mut self, alloc: Global, name: &str) -> Result<Option<Bytes>, TreeError> {
         (**self).file(alloc, name)

@@ -1,6 +1,8 @@
 -- The files of a tree, and a session that memory wanted for before it began.
 use Rattle.std.proofs.Common.{◌≡◌, ℕ, List, [], Option, None, Some, refl, subst}
 use Rattle.std.specs.Prelude.{IfSome, codes}
+use Rattle.soc_edge.specs.Ahead.{Outlook}
+use Rattle.soc_edge.specs.Told.{Told}
 use Rattle.soc_edge.proofs.Told.{Takes-none}
 use Rattle.soc_book.specs.declared.small.Small.{Small}
 use Rattle.soc_book.specs.Memory.{AnswersInMemory, MemoryDesk}
@@ -8,7 +10,7 @@ use Rattle.soc_book.specs.Small.{small_row}
 use Rattle.soc_session.specs.declared.ending.SessionEnd.TheVariants.{NoMemory}
 use Rattle.soc_session.proofs.ConnectionLemmas.{Serves-nothing, Serves-of}
 use Rattle.soc_serve.specs.declared.setup.Setup.{Setup}
-use Rattle.soc_serve.specs.Replay.{Outside, ServesBook}
+use Rattle.soc_serve.specs.Replay.{ServesBook}
 use Rattle.soc_serve.specs.Texts.{AreTexts, text_of}
 
 -- both files were read from the same tree
@@ -23,8 +25,8 @@ texts-are before middle said brought first same second =
     both (Some files) a b = record { settings = a; tokens = b }
 
 -- nothing was served
-pub Serves-none : (setup : Setup) (here : Outside) (desk : MemoryDesk Small) → desk.log ≡ [] → desk.limits ≡ setup.limits → ServesBook setup here here NoMemory
-Serves-none setup here desk empty limits = record {
+pub Serves-none : (setup : Setup) (here : Told) (ahead : Outlook) (desk : MemoryDesk Small) → desk.log ≡ [] → desk.limits ≡ setup.limits → ServesBook setup here here ahead ahead NoMemory
+Serves-none setup here ahead desk empty limits = record {
   first = desk;
   last = desk;
   empty = empty;

@@ -1,8 +1,8 @@
 //! `replay`: one session over input and output.
-ghost use Rattle.std.specs.Prelude.{◌≡◌, ◌≤◌};
-ghost use Rattle.soc_edge.specs.Faults.{Rose};
-ghost use Rattle.soc_edge.specs.Told.{outlook, NeverFall, OnlyWrites, ReadFailed, WriteFailed};
-ghost use Rattle.soc_serve.specs.Replay.{Refuses, Replays, ServesBook, session_status, status_of, outside};
+ghost use Rattle.std.specs.Prelude.{◌≡◌, ◌⊎◌};
+ghost use Rattle.soc_edge.specs.Ahead.{outlook};
+ghost use Rattle.soc_edge.specs.Told.{NeverFall, HasCause, WriteFailed};
+ghost use Rattle.soc_serve.specs.Replay.{Refuses, Replays, RunHasCause, RunsOn, ServesBook, session_status, status_of, outside};
 
 use crate::setup::{Refusal, Setup, SetupError, refusal_line, set_up};
 use crate::texts::read_texts;
@@ -63,16 +63,19 @@ pub(crate) fn replay<T: Tree, X: Source + Sink, C: Clock, W: Draws>(
     clock: &mut C,
     draws: &mut W,
 ) -> RunEnd
-    ensures replays { Replays (T.files tree.old)
-        (outside (X.told streams.old) (outlook (C.moments clock.old) (W.throttles draws.old) (W.ids draws.old)))
-        (outside (X.told streams.new) (outlook (C.moments clock.new) (W.throttles draws.new) (W.ids draws.new)))
+    ensures replays { Replays
+        (outside (T.told tree.old) (X.told streams.old) (C.told clock.old) (W.told draws.old))
+        (outside (T.told tree.new) (X.told streams.new) (C.told clock.new) (W.told draws.new))
         result }
-    ensures read_cause { result ≡ RunEnd.Served SessionEnd.ReadFault → ReadFailed (X.told streams.old) (X.told streams.new) }
-    ensures write_cause { result ≡ RunEnd.Served SessionEnd.WriteFault → WriteFailed (X.told streams.old) (X.told streams.new) }
-    ensures line_cause { result ≡ RunEnd.LineFault → WriteFailed (X.told streams.old) (X.told streams.new) }
-    ensures tree_cause { result ≡ RunEnd.TreeFault → Rose (T.tree_faults tree.old) (T.tree_faults tree.new) }
-    ensures never_fall { NeverFall (X.told streams.old) (X.told streams.new) }
-    ensures tree_never_falls { T.tree_faults tree.old ≤ T.tree_faults tree.new }
+    ensures runs_on { RunsOn
+        (outside (T.told tree.old) (X.told streams.old) (C.told clock.old) (W.told draws.old))
+        (outside (T.told tree.new) (X.told streams.new) (C.told clock.new) (W.told draws.new)) }
+    ensures cause { RunHasCause
+        (outside (T.told tree.old) (X.told streams.old) (C.told clock.old) (W.told draws.old))
+        (outside (T.told tree.new) (X.told streams.new) (C.told clock.new) (W.told draws.new))
+        (result ≡ RunEnd.Served SessionEnd.ReadFault)
+        ((result ≡ RunEnd.Served SessionEnd.WriteFault) ⊎ (result ≡ RunEnd.LineFault))
+        (result ≡ RunEnd.TreeFault) }
 {
     let texts = match read_texts(alloc, tree) {
         Ok(texts) => texts,
@@ -88,9 +91,8 @@ pub(crate) fn replay<T: Tree, X: Source + Sink, C: Clock, W: Draws>(
 
 /// Writes the line that tells which file is refused.
 fn refuse<K: Sink>(alloc: Global, output: &mut K, refusal: &Refusal) -> RunEnd
-    ensures refuses { Refuses (K.told output.old).held (K.told output.new).held refusal.now result }
+    ensures refuses { Refuses (K.told output.old) (K.told output.new) refusal.now result }
     ensures cause { result ≡ RunEnd.LineFault → WriteFailed (K.told output.old) (K.told output.new) }
-    ensures only { OnlyWrites (K.told output.old) (K.told output.new) }
 {
     let Ok(line) = refusal_line(alloc, refusal) else {
         return RunEnd::NoMemory;
@@ -109,13 +111,10 @@ fn serve<X: Source + Sink, C: Clock, W: Draws>(
     clock: &mut C,
     draws: &mut W,
 ) -> SessionEnd
-    ensures serves { ServesBook setup.now
-        (outside (X.told streams.old) (outlook (C.moments clock.old) (W.throttles draws.old) (W.ids draws.old)))
-        (outside (X.told streams.new) (outlook (C.moments clock.new) (W.throttles draws.new) (W.ids draws.new)))
-        result }
-    ensures read_cause { result ≡ SessionEnd.ReadFault → ReadFailed (X.told streams.old) (X.told streams.new) }
-    ensures write_cause { result ≡ SessionEnd.WriteFault → WriteFailed (X.told streams.old) (X.told streams.new) }
+    ensures serves { ServesBook setup.now (X.told streams.old) (X.told streams.new)
+        (outlook (C.told clock.old) (W.told draws.old)) (outlook (C.told clock.new) (W.told draws.new)) result }
     ensures never_fall { NeverFall (X.told streams.old) (X.told streams.new) }
+    ensures cause { HasCause (result ≡ SessionEnd.ReadFault) (result ≡ SessionEnd.WriteFault) (X.told streams.old) (X.told streams.new) }
 {
     let reporter = Small;
     let mut book = Book::new(alloc, &reporter, setup.limits);

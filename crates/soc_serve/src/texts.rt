@@ -1,6 +1,6 @@
 //! The files that a run goes by.
-ghost use Rattle.std.specs.Prelude.{◌≡◌, ◌≤◌, IfOk, IfSome, IsErrOf};
-ghost use Rattle.soc_edge.specs.Faults.{Rose};
+ghost use Rattle.std.specs.Prelude.{◌≡◌, IfOk, IfSome, IsErrOf};
+ghost use Rattle.soc_edge.specs.Tree.{OnlyLooks, TreeFailed};
 ghost use Rattle.soc_serve.specs.Texts.{AreTexts, text_of};
 
 use soc_edge::{Tree, TreeError};
@@ -16,9 +16,9 @@ pub(crate) struct Texts {
 
 /// Reads the files in order.
 pub(crate) fn read_texts<T: Tree>(alloc: Global, tree: &mut T) -> Result<Texts, TreeError>
-    ensures told { IfOk result (λ texts. IfSome (T.files tree.old) (λ files. AreTexts files texts)) }
-    ensures never_falls { T.tree_faults tree.old ≤ T.tree_faults tree.new }
-    ensures cause { IsErrOf result TreeError.Failed → Rose (T.tree_faults tree.old) (T.tree_faults tree.new) }
+    ensures told { IfOk result (λ texts. IfSome (T.told tree.old).files (λ files. AreTexts files texts)) }
+    ensures looks { OnlyLooks (T.told tree.old) (T.told tree.new) }
+    ensures cause { IsErrOf result TreeError.Failed → TreeFailed (T.told tree.old) (T.told tree.new) }
 {
     let settings = read_text(alloc, tree, "settings.toml")?;
     let tokens = read_text(alloc, tree, "tokens.toml")?;
@@ -26,10 +26,9 @@ pub(crate) fn read_texts<T: Tree>(alloc: Global, tree: &mut T) -> Result<Texts, 
 }
 
 fn read_text<T: Tree>(alloc: Global, tree: &mut T, name: &str) -> Result<Bytes, TreeError>
-    ensures told { IfOk result (λ bytes. IfSome (T.files tree.old) (λ files. bytes ≡ text_of files name.now)) }
-    ensures same { T.files tree.new ≡ T.files tree.old }
-    ensures never_falls { T.tree_faults tree.old ≤ T.tree_faults tree.new }
-    ensures cause { IsErrOf result TreeError.Failed → Rose (T.tree_faults tree.old) (T.tree_faults tree.new) }
+    ensures told { IfOk result (λ bytes. IfSome (T.told tree.old).files (λ files. bytes ≡ text_of files name.now)) }
+    ensures looks { OnlyLooks (T.told tree.old) (T.told tree.new) }
+    ensures cause { IsErrOf result TreeError.Failed → TreeFailed (T.told tree.old) (T.told tree.new) }
 {
     match tree.file(alloc, name)? {
         Some(bytes) => Ok(bytes),

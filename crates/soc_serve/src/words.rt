@@ -1,8 +1,6 @@
 //! The words of the command line.
-ghost use Rattle.std.specs.Prelude.{◌≡◌, ◌↔◌, ◌≤◌, [], IsTrue, codes, map, string_bytes};
-ghost use Rattle.soc_edge.specs.Faults.{Rose};
-ghost use Rattle.soc_edge.specs.Told.{outlook, NeverFall, ReadFailed, WriteFailed};
-ghost use Rattle.soc_serve.specs.Replay.{Keeps, Replays, status_of, outside};
+ghost use Rattle.std.specs.Prelude.{◌≡◌, ◌↔◌, IsTrue, codes, map, string_bytes};
+ghost use Rattle.soc_serve.specs.Replay.{Replays, RunHasCause, RunsOn, status_of, outside};
 ghost use Rattle.soc_serve.specs.Words.{AreReplay, RefusesWords};
 ghost use Rattle.soc_serve.specs.declared.replay.RunEnd.{RunEnd};
 
@@ -35,20 +33,21 @@ pub fn run_words<T: Tree, X: Source + Sink, C: Clock, W: Draws>(
     clock: &mut C,
     draws: &mut W,
 ) -> u8
-    ensures replays { AreReplay (map string_bytes words.now) → (end : RunEnd) × (result ≡ status_of end)
-        × Replays (T.files tree.old)
-        (outside (X.told streams.old) (outlook (C.moments clock.old) (W.throttles draws.old) (W.ids draws.old)))
-        (outside (X.told streams.new) (outlook (C.moments clock.new) (W.throttles draws.new) (W.ids draws.new)))
+    ensures replays { AreReplay (map string_bytes words.now) → (end : RunEnd) × (result ≡ status_of end) × Replays
+        (outside (T.told tree.old) (X.told streams.old) (C.told clock.old) (W.told draws.old))
+        (outside (T.told tree.new) (X.told streams.new) (C.told clock.new) (W.told draws.new))
         end }
-    ensures other_words { ¬ (AreReplay (map string_bytes words.now)) → RefusesWords result (X.told streams.old).held (X.told streams.new).held }
-    ensures untouched { ¬ (AreReplay (map string_bytes words.now)) → Keeps
-        (outside (X.told streams.old) (outlook (C.moments clock.old) (W.throttles draws.old) (W.ids draws.old)))
-        (outside (X.told streams.new) (outlook (C.moments clock.new) (W.throttles draws.new) (W.ids draws.new))) }
+    ensures other_words { ¬ (AreReplay (map string_bytes words.now)) → RefusesWords result
+        (outside (T.told tree.old) (X.told streams.old) (C.told clock.old) (W.told draws.old))
+        (outside (T.told tree.new) (X.told streams.new) (C.told clock.new) (W.told draws.new)) }
     ensures words_cause { result ≡ 2 → ¬ (AreReplay (map string_bytes words.now)) }
-    ensures read_cause { result ≡ 6 → ReadFailed (X.told streams.old) (X.told streams.new) }
-    ensures write_cause { result ≡ 7 → WriteFailed (X.told streams.old) (X.told streams.new) }
-    ensures tree_cause { result ≡ 8 → Rose (T.tree_faults tree.old) (T.tree_faults tree.new) }
-    ensures never_fall { NeverFall (X.told streams.old) (X.told streams.new) }
+    ensures runs_on { RunsOn
+        (outside (T.told tree.old) (X.told streams.old) (C.told clock.old) (W.told draws.old))
+        (outside (T.told tree.new) (X.told streams.new) (C.told clock.new) (W.told draws.new)) }
+    ensures cause { RunHasCause
+        (outside (T.told tree.old) (X.told streams.old) (C.told clock.old) (W.told draws.old))
+        (outside (T.told tree.new) (X.told streams.new) (C.told clock.new) (W.told draws.new))
+        (result ≡ 6) (result ≡ 7) (result ≡ 8) }
 {
     if are_replay(words) {
         return replay(alloc, tree, streams, clock, draws).status();

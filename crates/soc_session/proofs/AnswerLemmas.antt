@@ -3,7 +3,7 @@ use Rattle.std.proofs.Common.{◌≡◌, ◌⊎◌, ℕ, ◌∷◌, List, [], Op
 use Rattle.std.specs.Prelude.{IfOk, OnErr}
 use Rattle.std.specs.Result.{result_ok}
 use Rattle.soc_raw.specs.declared.no_memory.NoMemory.{NoMemory}
-use Rattle.soc_edge.specs.Told.{Outlook}
+use Rattle.soc_edge.specs.Ahead.{Outlook}
 use Rattle.soc_http.specs.declared.head.Head.{Head}
 use Rattle.soc_http.specs.declared.reply.Answered.{Answered}
 use Rattle.soc_http.specs.Message.{Message}

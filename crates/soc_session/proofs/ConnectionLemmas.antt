@@ -3,7 +3,8 @@ use Rattle.std.proofs.Common.{◌≡◌, ℕ, ◌+◌, ◌-◌, ◌<◌, List, [
 use Rattle.std.proofs.lemmas.List.{map-append}
 use Rattle.std.specs.Prelude.{if◌then◌else◌, ◌||◌}
 use Rattle.std.specs.List.{flat_map}
-use Rattle.soc_edge.specs.Told.{Told, OnlyWrites, Gives, Takes, TakesFront, Outlook, HandsAll}
+use Rattle.soc_edge.specs.Ahead.{Outlook, HandsAll}
+use Rattle.soc_edge.specs.Told.{Told, OnlyWrites, Gives, Takes, TakesFront}
 use Rattle.soc_edge.proofs.Told.{Gives-append, Gives-none, Takes-append, Takes-none}
 use Rattle.soc_edge.proofs.Ahead.{Hands-none, Hands-append}
 use Rattle.soc_http.specs.declared.head.Head.{Head}
@@ -34,10 +35,10 @@ use Rattle.soc_session.specs.Tasks.{Answers, HandsDrawn, reply_of}
 -- ---- no turn
 
 -- the session ends at a message's edge
-pub Serves-edge : {K : Type 0} (asks : K → Command → Receipt → K → Type 0) (rules : Rules) (window : List ℕ) (budget : ℕ) (desk : K) (x : Outlook) (left left' held held' : Option (List ℕ)) (end : SessionEnd) (given : List ℕ)
-    → Gives left left' given → Leaves end (window ++ given) left' → Writes end held held' [] → IsEnd end budget []
-    → ServesFrom asks rules window budget (record { left = left; held = held; desk = desk; outlook = x }) (record { left = left'; held = held'; desk = desk; outlook = x }) end
-Serves-edge {K} asks rules window budget desk x left left' held held' end given gives leaves writes ends = record {
+pub Serves-edge : {K : Type 0} (asks : K → Command → Receipt → K → Type 0) (rules : Rules) (window : List ℕ) (budget : ℕ) (desk : K) (x : Outlook) (before after : Told) (end : SessionEnd) (given : List ℕ)
+    → Gives before.left after.left given → Leaves end (window ++ given) after.left → Writes end before.held after.held [] → IsEnd end budget []
+    → ServesFrom asks rules window budget (around before desk x) (around after desk x) end
+Serves-edge {K} asks rules window budget desk x before after end given gives leaves writes ends = record {
   turns = [];
   by_rules = tt;
   runs = refl;
@@ -51,25 +52,25 @@ Serves-edge {K} asks rules window budget desk x left left' held held' end given 
   ends = ends;
 }
 
-serves-ended : {K : Type 0} (asks : K → Command → Receipt → K → Type 0) (rules : Rules) (window behind : List ℕ) (desk : K) (x : Outlook) (left left' held held' : Option (List ℕ)) (given : List ℕ)
-    → Gives left left' given → ReadsMessage (window ++ given) (Ok None) behind left' → held' ≡ held → (budget : ℕ) → 0 < budget
-    → ServesFrom asks rules window budget (record { left = left; held = held; desk = desk; outlook = x }) (record { left = left'; held = held'; desk = desk; outlook = x }) Ended
-serves-ended asks rules window behind desk x left left' held held' given gives reads stays budget some =
-    Serves-edge asks rules window budget desk x left left' held held' Ended given gives (reads.0, reads.2) (Takes-none held held' stays)
+serves-ended : {K : Type 0} (asks : K → Command → Receipt → K → Type 0) (rules : Rules) (window behind : List ℕ) (desk : K) (x : Outlook) (before after : Told) (given : List ℕ)
+    → Gives before.left after.left given → ReadsMessage (window ++ given) (Ok None) behind after.left → after.held ≡ before.held → (budget : ℕ) → 0 < budget
+    → ServesFrom asks rules window budget (around before desk x) (around after desk x) Ended
+serves-ended asks rules window behind desk x before after given gives reads stays budget some =
+    Serves-edge asks rules window budget desk x before after Ended given gives (reads.0, reads.2) (Takes-none before.held after.held stays)
     (record { over = budget; goes_on = refl; ends = some })
 
-pub Serves-failed : {K : Type 0} (asks : K → Command → Receipt → K → Type 0) (rules : Rules) (window behind : List ℕ) (desk : K) (x : Outlook) (left left' held held' : Option (List ℕ)) (given : List ℕ)
-    → Gives left left' given → ReadsMessage (window ++ given) (Err H.ReadFault) behind left' → held' ≡ held → (budget : ℕ) → 0 < budget
-    → ServesFrom asks rules window budget (record { left = left; held = held; desk = desk; outlook = x }) (record { left = left'; held = held'; desk = desk; outlook = x }) ReadFault
-Serves-failed asks rules window behind desk x left left' held held' given gives reads stays budget some =
-    Serves-edge asks rules window budget desk x left left' held held' ReadFault given gives reads (Takes-none held held' stays)
+pub Serves-failed : {K : Type 0} (asks : K → Command → Receipt → K → Type 0) (rules : Rules) (window behind : List ℕ) (desk : K) (x : Outlook) (before after : Told) (given : List ℕ)
+    → Gives before.left after.left given → ReadsMessage (window ++ given) (Err H.ReadFault) behind after.left → after.held ≡ before.held → (budget : ℕ) → 0 < budget
+    → ServesFrom asks rules window budget (around before desk x) (around after desk x) ReadFault
+Serves-failed asks rules window behind desk x before after given gives reads stays budget some =
+    Serves-edge asks rules window budget desk x before after ReadFault given gives reads (Takes-none before.held after.held stays)
     (record { over = budget; goes_on = refl; ends = some })
 
-pub Serves-wanting : {K : Type 0} (asks : K → Command → Receipt → K → Type 0) (rules : Rules) (window behind : List ℕ) (desk : K) (x : Outlook) (left left' held held' : Option (List ℕ)) (given : List ℕ) (error : HeadError)
-    → Gives left left' given → ReadsMessage (window ++ given) (Err error) behind left' → held' ≡ held → (budget : ℕ) → 0 < budget
-    → ServesFrom asks rules window budget (record { left = left; held = held; desk = desk; outlook = x }) (record { left = left'; held = held'; desk = desk; outlook = x }) NoMemory
-Serves-wanting asks rules window behind desk x left left' held held' given error gives reads stays budget some =
-    Serves-edge asks rules window budget desk x left left' held held' NoMemory given gives tt (Takes-none held held' stays)
+pub Serves-wanting : {K : Type 0} (asks : K → Command → Receipt → K → Type 0) (rules : Rules) (window behind : List ℕ) (desk : K) (x : Outlook) (before after : Told) (given : List ℕ) (error : HeadError)
+    → Gives before.left after.left given → ReadsMessage (window ++ given) (Err error) behind after.left → after.held ≡ before.held → (budget : ℕ) → 0 < budget
+    → ServesFrom asks rules window budget (around before desk x) (around after desk x) NoMemory
+Serves-wanting asks rules window behind desk x before after given error gives reads stays budget some =
+    Serves-edge asks rules window budget desk x before after NoMemory given gives tt (Takes-none before.held after.held stays)
     (record { over = budget; goes_on = refl; ends = tt })
 
 -- ---- a refusal
@@ -90,10 +91,10 @@ cuts held held' turn front = record {
 behind-one : (budget : ℕ) (turn : Turn) (P : Turn → Type 0) → 0 < budget → P turn → EndsBehind budget (turn ∷ []) P
 behind-one budget turn P some p = record { before = []; last = turn; turns_are = refl; over = budget; goes_on = refl; some = some; ends = p }
 
-refused-turn : {K : Type 0} (asks : K → Command → Receipt → K → Type 0) (rules : Rules) (window : List ℕ) (budget : ℕ) (desk : K) (x : Outlook) (left left' held held' : Option (List ℕ)) (end : SessionEnd) (error : HeadError) (given : List ℕ)
-    → Gives left left' given → RefusedAt (window ++ given) left' error → Leaves end (window ++ given) left' → Writes end held held' (refused error ∷ []) → IsEnd end budget (refused error ∷ [])
-    → ServesFrom asks rules window budget (record { left = left; held = held; desk = desk; outlook = x }) (record { left = left'; held = held'; desk = desk; outlook = x }) end
-refused-turn {K} asks rules window budget desk x left left' held held' end error given gives refusal leaves writes ends = record {
+refused-turn : {K : Type 0} (asks : K → Command → Receipt → K → Type 0) (rules : Rules) (window : List ℕ) (budget : ℕ) (desk : K) (x : Outlook) (before after : Told) (end : SessionEnd) (error : HeadError) (given : List ℕ)
+    → Gives before.left after.left given → RefusedAt (window ++ given) after.left error → Leaves end (window ++ given) after.left → Writes end before.held after.held (refused error ∷ []) → IsEnd end budget (refused error ∷ [])
+    → ServesFrom asks rules window budget (around before desk x) (around after desk x) end
+refused-turn {K} asks rules window budget desk x before after end error given gives refusal leaves writes ends = record {
   turns = refused error ∷ [];
   by_rules = (tt, tt);
   runs = refl;
@@ -116,33 +117,33 @@ refused-at text rest left H.CutShort n m p = p
 refused-at text rest left H.ReadFault n m p = absurd (n refl)
 refused-at text rest left H.NoMemory n m p = absurd (m refl)
 
-pub Serves-refused : {K : Type 0} (asks : K → Command → Receipt → K → Type 0) (rules : Rules) (window behind : List ℕ) (desk : K) (x : Outlook) (left left' held held' : Option (List ℕ)) (given : List ℕ) (error : HeadError) (end : SessionEnd)
-    → (error ≡ H.ReadFault → ⊥) → (error ≡ H.NoMemory → ⊥) → Gives left left' given → ReadsMessage (window ++ given) (Err error) behind left' → Refuses held held' error end → (budget : ℕ) → 0 < budget
-    → ServesFrom asks rules window budget (record { left = left; held = held; desk = desk; outlook = x }) (record { left = left'; held = held'; desk = desk; outlook = x }) end
-Serves-refused asks rules window behind desk x left left' held held' given error Refused n m gives reads how budget some =
-    refused-turn asks rules window budget desk x left left' held held' Refused error given gives (refused-at _ _ left' error n m reads) tt
-    (whole held held' (refused error) how) (behind-one budget (refused error) _ some refl)
-Serves-refused asks rules window behind desk x left left' held held' given error WriteFault n m gives reads how budget some =
-    refused-turn asks rules window budget desk x left left' held held' WriteFault error given gives (refused-at _ _ left' error n m reads) tt
-    (cuts held held' (refused error) how) (behind-one budget (refused error) _ some tt)
-Serves-refused asks rules window behind desk x left left' held held' given error NoMemory n m gives reads how budget some =
-    Serves-wanting asks rules window behind desk x left left' held held' given error gives reads how budget some
-Serves-refused asks rules window behind desk x left left' held held' given error Ended n m gives reads how budget some = absurd how
-Serves-refused asks rules window behind desk x left left' held held' given error Closed n m gives reads how budget some = absurd how
-Serves-refused asks rules window behind desk x left left' held held' given error Stopped n m gives reads how budget some = absurd how
-Serves-refused asks rules window behind desk x left left' held held' given error ReadFault n m gives reads how budget some = absurd how
-Serves-refused asks rules window behind desk x left left' held held' given error TooLong n m gives reads how budget some = absurd how
+pub Serves-refused : {K : Type 0} (asks : K → Command → Receipt → K → Type 0) (rules : Rules) (window behind : List ℕ) (desk : K) (x : Outlook) (before after : Told) (given : List ℕ) (error : HeadError) (end : SessionEnd)
+    → (error ≡ H.ReadFault → ⊥) → (error ≡ H.NoMemory → ⊥) → Gives before.left after.left given → ReadsMessage (window ++ given) (Err error) behind after.left → Refuses before.held after.held error end → (budget : ℕ) → 0 < budget
+    → ServesFrom asks rules window budget (around before desk x) (around after desk x) end
+Serves-refused asks rules window behind desk x before after given error Refused n m gives reads how budget some =
+    refused-turn asks rules window budget desk x before after Refused error given gives (refused-at _ _ after.left error n m reads) tt
+    (whole before.held after.held (refused error) how) (behind-one budget (refused error) _ some refl)
+Serves-refused asks rules window behind desk x before after given error WriteFault n m gives reads how budget some =
+    refused-turn asks rules window budget desk x before after WriteFault error given gives (refused-at _ _ after.left error n m reads) tt
+    (cuts before.held after.held (refused error) how) (behind-one budget (refused error) _ some tt)
+Serves-refused asks rules window behind desk x before after given error NoMemory n m gives reads how budget some =
+    Serves-wanting asks rules window behind desk x before after given error gives reads how budget some
+Serves-refused asks rules window behind desk x before after given error Ended n m gives reads how budget some = absurd how
+Serves-refused asks rules window behind desk x before after given error Closed n m gives reads how budget some = absurd how
+Serves-refused asks rules window behind desk x before after given error Stopped n m gives reads how budget some = absurd how
+Serves-refused asks rules window behind desk x before after given error ReadFault n m gives reads how budget some = absurd how
+Serves-refused asks rules window behind desk x before after given error TooLong n m gives reads how budget some = absurd how
 
 -- ---- a message
 
 hands-one : (x y : Outlook) (exchange : Exchange) → HandsDrawn x y exchange.drawn → HandsTurns x y (met exchange ∷ [])
 hands-one x y exchange hands = subst (HandsDrawn x y) (sym (append-nil exchange.drawn)) hands
 
-met-turn : {K : Type 0} (asks : K → Command → Receipt → K → Type 0) (rules : Rules) (window behind : List ℕ) (budget : ℕ) (desk desk' : K) (x y : Outlook) (left left' held held' : Option (List ℕ)) (end : SessionEnd) (exchange : Exchange) (given : List ℕ)
-    → IsExchange rules exchange → StepsDesk asks desk exchange.asked desk' → Gives left left' given → TakesMessage (window ++ given) exchange.message behind → HandsDrawn x y exchange.drawn
-    → Leaves end behind left' → Writes end held held' (met exchange ∷ []) → IsEnd end budget (met exchange ∷ [])
-    → ServesFrom asks rules window budget (record { left = left; held = held; desk = desk; outlook = x }) (record { left = left'; held = held'; desk = desk'; outlook = y }) end
-met-turn {K} asks rules window behind budget desk desk' x y left left' held held' end exchange given is steps gives takes hands leaves writes ends = record {
+met-turn : {K : Type 0} (asks : K → Command → Receipt → K → Type 0) (rules : Rules) (window behind : List ℕ) (budget : ℕ) (desk desk' : K) (x y : Outlook) (before after : Told) (end : SessionEnd) (exchange : Exchange) (given : List ℕ)
+    → IsExchange rules exchange → StepsDesk asks desk exchange.asked desk' → Gives before.left after.left given → TakesMessage (window ++ given) exchange.message behind → HandsDrawn x y exchange.drawn
+    → Leaves end behind after.left → Writes end before.held after.held (met exchange ∷ []) → IsEnd end budget (met exchange ∷ [])
+    → ServesFrom asks rules window budget (around before desk x) (around after desk' y) end
+met-turn {K} asks rules window behind budget desk desk' x y before after end exchange given is steps gives takes hands leaves writes ends = record {
   turns = met exchange ∷ [];
   by_rules = (is, tt);
   runs = (desk', steps, refl);
@@ -159,18 +160,18 @@ met-turn {K} asks rules window behind budget desk desk' x y left left' held held
 closing_by : (stopped last : Bool) (end : SessionEnd) → Option SessionEnd
 closing_by stopped last end = if stopped then Some Stopped else (if last then Some Closed else None)
 
-next-on : {K : Type 0} (asks : K → Command → Receipt → K → Type 0) (rules : Rules) (window behind : List ℕ) (desk desk' : K) (x y : Outlook) (left left' held held' : Option (List ℕ)) (exchange : Exchange) (given : List ℕ) (stopped last : Bool)
+next-on : {K : Type 0} (asks : K → Command → Receipt → K → Type 0) (rules : Rules) (window behind : List ℕ) (desk desk' : K) (x y : Outlook) (before after : Told) (exchange : Exchange) (given : List ℕ) (stopped last : Bool)
     → says_stopped exchange.asked ≡ stopped → exchange.message.head.last ≡ last
-    → IsExchange rules exchange → StepsDesk asks desk exchange.asked desk' → Gives left left' given → TakesMessage (window ++ given) exchange.message behind → HandsDrawn x y exchange.drawn
-    → Takes held held' (turn_text (met exchange))
-    → StepsOn asks rules window (record { left = left; held = held; desk = desk; outlook = x }) behind (record { left = left'; held = held'; desk = desk'; outlook = y }) (next_of stopped last (turn_bytes (met exchange)))
-next-on asks rules window behind desk desk' x y left left' held held' exchange given true last s l is steps gives takes hands wrote = λ budget some.
-    met-turn asks rules window behind budget desk desk' x y left left' held held' Stopped exchange given is steps gives takes hands tt
-    (whole held held' (met exchange) wrote) (behind-one budget (met exchange) _ some (rw s refl))
-next-on asks rules window behind desk desk' x y left left' held held' exchange given false true s l is steps gives takes hands wrote = λ budget some.
-    met-turn asks rules window behind budget desk desk' x y left left' held held' Closed exchange given is steps gives takes hands tt
-    (whole held held' (met exchange) wrote) (behind-one budget (met exchange) _ some (rw (s, l) refl))
-next-on asks rules window behind desk desk' x y left left' held held' exchange given false false s l is steps gives takes hands wrote = record {
+    → IsExchange rules exchange → StepsDesk asks desk exchange.asked desk' → Gives before.left after.left given → TakesMessage (window ++ given) exchange.message behind → HandsDrawn x y exchange.drawn
+    → Takes before.held after.held (turn_text (met exchange))
+    → StepsOn asks rules window (around before desk x) behind (around after desk' y) (next_of stopped last (turn_bytes (met exchange)))
+next-on asks rules window behind desk desk' x y before after exchange given true last s l is steps gives takes hands wrote = λ budget some.
+    met-turn asks rules window behind budget desk desk' x y before after Stopped exchange given is steps gives takes hands tt
+    (whole before.held after.held (met exchange) wrote) (behind-one budget (met exchange) _ some (rw s refl))
+next-on asks rules window behind desk desk' x y before after exchange given false true s l is steps gives takes hands wrote = λ budget some.
+    met-turn asks rules window behind budget desk desk' x y before after Closed exchange given is steps gives takes hands tt
+    (whole before.held after.held (met exchange) wrote) (behind-one budget (met exchange) _ some (rw (s, l) refl))
+next-on asks rules window behind desk desk' x y before after exchange given false false s l is steps gives takes hands wrote = record {
   exchange = exchange;
   is = is;
   steps = steps;
@@ -183,17 +184,17 @@ next-on asks rules window behind desk desk' x y left left' held held' exchange g
   bytes_are = refl;
 }
 
-written-on : {K : Type 0} (asks : K → Command → Receipt → K → Type 0) (rules : Rules) (window behind : List ℕ) (desk desk' : K) (x y : Outlook) (left left' held held' : Option (List ℕ)) (exchange : Exchange) (given : List ℕ) (next : Next)
-    → IsExchange rules exchange → StepsDesk asks desk exchange.asked desk' → Gives left left' given → TakesMessage (window ++ given) exchange.message behind → HandsDrawn x y exchange.drawn
-    → WritesNext held held' exchange next
-    → StepsOn asks rules window (record { left = left; held = held; desk = desk; outlook = x }) behind (record { left = left'; held = held'; desk = desk'; outlook = y }) next
-written-on asks rules window behind desk desk' x y left left' held held' exchange given next is steps gives takes hands (inl (wrote, by)) =
-    subst (StepsOn asks rules window (record { left = left; held = held; desk = desk; outlook = x }) behind (record { left = left'; held = held'; desk = desk'; outlook = y })) (sym by)
-    (next-on asks rules window behind desk desk' x y left left' held held' exchange given _ _ refl refl is steps gives takes hands wrote)
-written-on asks rules window behind desk desk' x y left left' held held' exchange given next is steps gives takes hands (inr (front, by)) =
-    subst (StepsOn asks rules window (record { left = left; held = held; desk = desk; outlook = x }) behind (record { left = left'; held = held'; desk = desk'; outlook = y })) (sym by)
-    (λ budget some. met-turn asks rules window behind budget desk desk' x y left left' held held' WriteFault exchange given is steps gives takes hands tt
-    (cuts held held' (met exchange) front) (behind-one budget (met exchange) _ some tt))
+written-on : {K : Type 0} (asks : K → Command → Receipt → K → Type 0) (rules : Rules) (window behind : List ℕ) (desk desk' : K) (x y : Outlook) (before after : Told) (exchange : Exchange) (given : List ℕ) (next : Next)
+    → IsExchange rules exchange → StepsDesk asks desk exchange.asked desk' → Gives before.left after.left given → TakesMessage (window ++ given) exchange.message behind → HandsDrawn x y exchange.drawn
+    → WritesNext before.held after.held exchange next
+    → StepsOn asks rules window (around before desk x) behind (around after desk' y) next
+written-on asks rules window behind desk desk' x y before after exchange given next is steps gives takes hands (inl (wrote, by)) =
+    subst (StepsOn asks rules window (around before desk x) behind (around after desk' y)) (sym by)
+    (next-on asks rules window behind desk desk' x y before after exchange given _ _ refl refl is steps gives takes hands wrote)
+written-on asks rules window behind desk desk' x y before after exchange given next is steps gives takes hands (inr (front, by)) =
+    subst (StepsOn asks rules window (around before desk x) behind (around after desk' y)) (sym by)
+    (λ budget some. met-turn asks rules window behind budget desk desk' x y before after WriteFault exchange given is steps gives takes hands tt
+    (cuts before.held after.held (met exchange) front) (behind-one budget (met exchange) _ some tt))
 
 -- a message that came whole was answered
 pub Steps-on : {K : Type 0} (asks : K → Command → Receipt → K → Type 0) (rules : Rules) (window behind : List ℕ) (desk desk' : K) (x y : Outlook) (before middle after : Told) (incoming : Incoming) (next : Next)
@@ -206,44 +207,32 @@ Steps-on {K} asks rules window behind desk desk' x y before middle after incomin
     let gives : Gives before.left after.left p.given = subst (λ (l : Option (List ℕ)). Gives before.left l p.given) (sym wrote_only.left_stays) p.gives.gives in
     let takes : TakesMessage (window ++ p.given) exchange.message behind = subst (λ (m : Message). TakesMessage (window ++ p.given) m behind) (sym reply.1) p.reads.2 in
     let wrote : WritesNext before.held after.held exchange next = subst (λ (h : Option (List ℕ)). WritesNext h after.held exchange next) p.gives.only.held_stays reply.5 in
-    written-on asks rules window behind desk desk' x y before.left after.left before.held after.held exchange p.given next reply.2 reply.3 gives takes reply.4 wrote
+    written-on asks rules window behind desk desk' x y before after exchange p.given next reply.2 reply.3 gives takes reply.4 wrote
 
 pub Serves-ended : {K : Type 0} (asks : K → Command → Receipt → K → Type 0) (rules : Rules) (window behind : List ℕ) (desk : K) (x : Outlook) (before after : Told)
     → Arrives before after window (Ok None) behind → (budget : ℕ) → 0 < budget → ServesFrom asks rules window budget (around before desk x) (around after desk x) Ended
 Serves-ended asks rules window behind desk x before after p budget some =
-    serves-ended asks rules window behind desk x before.left after.left before.held after.held p.given p.gives.gives p.reads p.gives.only.held_stays budget some
+    serves-ended asks rules window behind desk x before after p.given p.gives.gives p.reads p.gives.only.held_stays budget some
 
 pub Serves-halted : {K : Type 0} (asks : K → Command → Receipt → K → Type 0) (rules : Rules) (window behind : List ℕ) (desk : K) (x : Outlook) (before middle after : Told) (error : HeadError) (end : SessionEnd)
     → Arrives before middle window (Err error) behind → OnlyWrites middle after → Halts middle.held after.held error end → (budget : ℕ) → 0 < budget
     → ServesFrom asks rules window budget (around before desk x) (around after desk x) end
 Serves-halted asks rules window behind desk x before middle after error end p only how budget some =
-    halted error end (subst (λ (l : Option (List ℕ)). Gives left l p.given) (sym only.left_stays) p.gives.gives) (subst (ReadsMessage (window ++ p.given) (Err error) behind) (sym only.left_stays) p.reads)
-    (subst (λ (h : Option (List ℕ)). Halts h held' error end) p.gives.only.held_stays how)
+    halted error end (subst (λ (l : Option (List ℕ)). Gives before.left l p.given) (sym only.left_stays) p.gives.gives) (subst (ReadsMessage (window ++ p.given) (Err error) behind) (sym only.left_stays) p.reads)
+    (subst (λ (h : Option (List ℕ)). Halts h after.held error end) p.gives.only.held_stays how)
   where
-    left : Option (List ℕ)
-    left = before.left
-
-    left' : Option (List ℕ)
-    left' = after.left
-
-    held : Option (List ℕ)
-    held = before.held
-
-    held' : Option (List ℕ)
-    held' = after.held
-
     given : List ℕ
     given = p.given
 
-    halted : (error : HeadError) (end : SessionEnd) → Gives left left' given → ReadsMessage (window ++ given) (Err error) behind left' → Halts held held' error end
+    halted : (error : HeadError) (end : SessionEnd) → Gives before.left after.left given → ReadsMessage (window ++ given) (Err error) behind after.left → Halts before.held after.held error end
         → ServesFrom asks rules window budget (around before desk x) (around after desk x) end
     halted error end gives reads (inl (is, ends, stays)) =
         subst (λ (e : SessionEnd). ServesFrom asks rules window budget (around before desk x) (around after desk x) e) (sym ends)
-        (Serves-failed asks rules window behind desk x left left' held held' given gives (subst (λ (e : HeadError). ReadsMessage (window ++ given) (Err e) behind left') is reads) stays budget some)
+        (Serves-failed asks rules window behind desk x before after given gives (subst (λ (e : HeadError). ReadsMessage (window ++ given) (Err e) behind after.left) is reads) stays budget some)
     halted error end gives reads (inr (inl (is, ends, stays))) =
         subst (λ (e : SessionEnd). ServesFrom asks rules window budget (around before desk x) (around after desk x) e) (sym ends)
-        (Serves-wanting asks rules window behind desk x left left' held held' given error gives reads stays budget some)
-    halted error end gives reads (inr (inr (n, m, refuses))) = Serves-refused asks rules window behind desk x left left' held held' given error end n m gives reads refuses budget some
+        (Serves-wanting asks rules window behind desk x before after given error gives reads stays budget some)
+    halted error end gives reads (inr (inr (n, m, refuses))) = Serves-refused asks rules window behind desk x before after given error end n m gives reads refuses budget some
 
 -- ---- one message, and then the rest
 

@@ -2,7 +2,7 @@
 use Rattle.std.proofs.Common.{◌≡◌, ℕ, List, [], ◌∷◌, Option, Some, Result, Ok, Err, refl, sym, subst, codes}
 use Rattle.std.specs.Prelude.{IfOk}
 use Rattle.soc_raw.specs.declared.no_memory.NoMemory.{NoMemory}
-use Rattle.soc_edge.specs.Told.{Outlook}
+use Rattle.soc_edge.specs.Ahead.{Outlook}
 use Rattle.soc_edge.proofs.Ahead.{Hands-none}
 use Rattle.soc_multipart.specs.Submissions.{SubmissionText}
 use Rattle.soc_multipart.specs.declared.reasons.Reason.{Reason}

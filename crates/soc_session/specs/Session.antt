@@ -2,7 +2,8 @@
 use Rattle.std.specs.Prelude.{◌≡◌, ℕ, ◌+◌, ◌-◌, ◌<◌, Bool, true, ◌||◌, List, [], ◌∷◌, ◌++◌, length, take, map, if◌then◌else◌, Option, None, Some, ⊤}
 use Rattle.std.specs.List.{AllByRecursion, flat_map}
 use Rattle.std.specs.Io.KnownBytes.{IsAtEnd}
-use Rattle.soc_edge.specs.Told.{Told, Gives, Takes, Outlook, Hands}
+use Rattle.soc_edge.specs.Ahead.{Outlook, Hands}
+use Rattle.soc_edge.specs.Told.{Told, Gives, Takes}
 use Rattle.soc_http.specs.declared.head.HeadError.{HeadError}
 use Rattle.soc_http.specs.Message.{TakesMessage}
 use Rattle.soc_http.specs.Reply.{reply_text}

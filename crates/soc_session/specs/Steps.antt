@@ -1,7 +1,8 @@
 -- One message of a session, and what a session leaves to do behind it.
 use Rattle.std.specs.Prelude.{◌≡◌, ℕ, ◌<◌, List, ◌++◌, Option, None, Bool, if◌then◌else◌, ◌⊎◌}
 use Rattle.std.specs.List.{AllByRecursion}
-use Rattle.soc_edge.specs.Told.{Gives, Takes, TakesFront, Outlook}
+use Rattle.soc_edge.specs.Ahead.{Outlook}
+use Rattle.soc_edge.specs.Told.{Gives, Takes, TakesFront}
 use Rattle.soc_http.specs.declared.head.HeadError.{HeadError}
 use Rattle.soc_http.specs.declared.head.HeadError.TheVariants as H
 use Rattle.soc_http.specs.Message.{Message, TakesMessage}

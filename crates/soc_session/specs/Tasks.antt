@@ -1,7 +1,7 @@
 -- The tasks of the code beside the plans that they carry out.
 use Rattle.std.specs.Prelude.{◌≡◌, ℕ, List, map, Option, None, Some, Result, MatchResult, ⊤}
 use Rattle.soc_raw.specs.declared.no_memory.NoMemory.{NoMemory}
-use Rattle.soc_edge.specs.Told.{Outlook, Hands}
+use Rattle.soc_edge.specs.Ahead.{Outlook, Hands}
 use Rattle.soc_http.specs.declared.head.Head.{Head}
 use Rattle.soc_http.specs.declared.reply.Answered.{Answered}
 use Rattle.soc_book.specs.declared.desk.Command.{Command}

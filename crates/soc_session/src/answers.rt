@@ -1,6 +1,6 @@
 //! What one message is answered over a desk.
 ghost use Rattle.std.specs.Prelude.{◌≡◌, None, false};
-ghost use Rattle.soc_edge.specs.Told.{outlook};
+ghost use Rattle.soc_edge.specs.Ahead.{outlook};
 ghost use Rattle.soc_http.specs.Message.{Message};
 ghost use Rattle.soc_session.specs.Arrivals.{IsMessage, IsSized};
 ghost use Rattle.soc_session.specs.Tasks.{Answers, Carries};
@@ -36,8 +36,8 @@ pub(crate) fn answer<K: Desk, C: Clock, W: Draws>(
 ) -> Outcome
     requires { IsSized incoming.now }
     ensures { (message : Message) → IsMessage incoming.now message → Answers K.Asks rules.now message desk.old desk.new
-        (outlook (C.moments clock.old) (W.throttles draws.old) (W.ids draws.old))
-        (outlook (C.moments clock.new) (W.throttles draws.new) (W.ids draws.new)) result }
+        (outlook (C.told clock.old) (W.told draws.old))
+        (outlook (C.told clock.new) (W.told draws.new)) result }
 {
     let Some(body) = &incoming.body else {
         return Outcome::wanting();

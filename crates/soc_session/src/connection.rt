@@ -1,6 +1,7 @@
 //! One connection: messages in, replies out.
 ghost use Rattle.std.specs.Prelude.{◌≡◌, ◌≢◌, ◌≤◌, ◌||◌, [], OnOk, OnErr, Some, None, false};
-ghost use Rattle.soc_edge.specs.Told.{NeverFall, OnlyWrites, ReadFailed, WriteFailed, Writes, WritesFront, outlook};
+ghost use Rattle.soc_edge.specs.Ahead.{outlook};
+ghost use Rattle.soc_edge.specs.Told.{HasCause, NeverFall, OnlyWrites, WriteFailed, Writes, WritesFront};
 ghost use Rattle.soc_http.specs.Reply.{reply_text};
 ghost use Rattle.soc_session.specs.Arrivals.{Arrives, IsSized};
 ghost use Rattle.soc_session.specs.Replies.{closing, no_memory};
@@ -41,12 +42,11 @@ pub fn session<K: Desk, X: Source + Sink, C: Clock, W: Draws>(
 ) -> SessionEnd
     requires { buffer.old ≡ [] }
     ensures serves { Serves K.Asks rules.now
-        (around (X.told link.old) desk.old (outlook (C.moments clock.old) (W.throttles draws.old) (W.ids draws.old)))
-        (around (X.told link.new) desk.new (outlook (C.moments clock.new) (W.throttles draws.new) (W.ids draws.new)))
+        (around (X.told link.old) desk.old (outlook (C.told clock.old) (W.told draws.old)))
+        (around (X.told link.new) desk.new (outlook (C.told clock.new) (W.told draws.new)))
         result }
-    ensures read_cause { result ≡ SessionEnd.ReadFault → ReadFailed (X.told link.old) (X.told link.new) }
-    ensures write_cause { result ≡ SessionEnd.WriteFault → WriteFailed (X.told link.old) (X.told link.new) }
     ensures never_fall { NeverFall (X.told link.old) (X.told link.new) }
+    ensures cause { HasCause (result ≡ SessionEnd.ReadFault) (result ≡ SessionEnd.WriteFault) (X.told link.old) (X.told link.new) }
 {
     let Ok(room) = Room::new(alloc) else {
         return SessionEnd::NoMemory;
@@ -78,14 +78,13 @@ fn answer_next<K: Desk, X: Source + Sink, C: Clock, W: Draws>(
 ) -> Next
     requires { closing false spare.old ≡ no_memory }
     ensures steps { StepsOn K.Asks rules.now buffer.old
-        (around (X.told link.old) desk.old (outlook (C.moments clock.old) (W.throttles draws.old) (W.ids draws.old)))
+        (around (X.told link.old) desk.old (outlook (C.told clock.old) (W.told draws.old)))
         buffer.new
-        (around (X.told link.new) desk.new (outlook (C.moments clock.new) (W.throttles draws.new) (W.ids draws.new)))
+        (around (X.told link.new) desk.new (outlook (C.told clock.new) (W.told draws.new)))
         result }
     ensures spare { closing false spare.new ≡ no_memory }
-    ensures read_cause { result ≡ Next.Ends SessionEnd.ReadFault → ReadFailed (X.told link.old) (X.told link.new) }
-    ensures write_cause { result ≡ Next.Ends SessionEnd.WriteFault → WriteFailed (X.told link.old) (X.told link.new) }
     ensures never_fall { NeverFall (X.told link.old) (X.told link.new) }
+    ensures cause { HasCause (result ≡ Next.Ends SessionEnd.ReadFault) (result ≡ Next.Ends SessionEnd.WriteFault) (X.told link.old) (X.told link.new) }
 {
     match next_message(alloc, link, buffer) {
         Ok(None) => Next::Ends(SessionEnd::Ended),
@@ -145,8 +144,8 @@ fn answer_message<K: Desk, X: Sink, C: Clock, W: Draws>(
     requires sized { IsSized incoming }
     requires spare { closing false spare.old ≡ no_memory }
     ensures responds { Responds K.Asks rules.now incoming desk.old desk.new
-        (outlook (C.moments clock.old) (W.throttles draws.old) (W.ids draws.old))
-        (outlook (C.moments clock.new) (W.throttles draws.new) (W.ids draws.new))
+        (outlook (C.told clock.old) (W.told draws.old))
+        (outlook (C.told clock.new) (W.told draws.new))
         (X.told link.old).held (X.told link.new).held result }
     ensures spare { closing false spare.new ≡ no_memory }
     ensures no_read_fault { result ≢ Next.Ends SessionEnd.ReadFault }

@@ -1,6 +1,6 @@
 //! What a message comes to: a reply that needs no desk, or a command for the desk.
 ghost use Rattle.std.specs.Prelude.{◌≡◌, ◌≤◌, ◌<◌, ◌∷◌, ◌++◌, [], length, IfOk, IfErr, codes};
-ghost use Rattle.soc_edge.specs.Told.{outlook};
+ghost use Rattle.soc_edge.specs.Ahead.{outlook};
 ghost use Rattle.soc_raw.specs.Day.{IsMoment};
 ghost use Rattle.soc_multipart.specs.declared.form_error.FormError.TheVariants.{Malformed};
 ghost use Rattle.soc_multipart.specs.declared.reasons.Reason.{Reason as Why};
@@ -73,8 +73,8 @@ pub(crate) fn task_of<C: Clock, W: Draws>(
 ) -> Result<Task, NoMemory>
     requires { length body.now ≤ 16777216 }
     ensures { Tasks (Plans rules.now (record { head = head.now; body = body.now }))
-        (outlook (C.moments clock.old) (W.throttles draws.old) (W.ids draws.old))
-        (outlook (C.moments clock.new) (W.throttles draws.new) (W.ids draws.new)) result }
+        (outlook (C.told clock.old) (W.told draws.old))
+        (outlook (C.told clock.new) (W.told draws.new)) result }
 {
     let route = match routes.find(alloc, head.verb, head.path.as_str()) {
         Ok(route) => route,
@@ -101,8 +101,8 @@ fn at_route<C: Clock, W: Draws>(
 ) -> Result<Task, NoMemory>
     requires { length body.now ≤ 16777216 }
     ensures { Tasks (λ drawn plan. PlansRoute rules.now (record { head = head.now; body = body.now }) drawn plan route caller)
-        (outlook (C.moments clock.old) (W.throttles draws.old) (W.ids draws.old))
-        (outlook (C.moments clock.new) (W.throttles draws.new) (W.ids draws.new)) result }
+        (outlook (C.told clock.old) (W.told draws.old))
+        (outlook (C.told clock.new) (W.told draws.new)) result }
 {
     if let Route::Submit = route {
         return submission(alloc, rules, head, body, clock, draws);
@@ -141,8 +141,8 @@ fn submission<C: Clock, W: Draws>(
 ) -> Result<Task, NoMemory>
     requires { length body.now ≤ 16777216 }
     ensures { Tasks (PlansSubmission rules.now (record { head = head.now; body = body.now }))
-        (outlook (C.moments clock.old) (W.throttles draws.old) (W.ids draws.old))
-        (outlook (C.moments clock.new) (W.throttles draws.new) (W.ids draws.new)) result }
+        (outlook (C.told clock.old) (W.told draws.old))
+        (outlook (C.told clock.new) (W.told draws.new)) result }
 {
     match said_by(alloc, head, body) {
         Ok(said) => {
@@ -168,8 +168,8 @@ fn said_by(alloc: Global, head: &Head, body: &[u8]) -> Result<Submission, FormEr
 
 /// Takes a moment, a throttle draw and an id draw, in this order.
 fn draw<C: Clock, W: Draws>(clock: &mut C, draws: &mut W) -> Drawing
-    ensures hands { HandsDrawn (outlook (C.moments clock.old) (W.throttles draws.old) (W.ids draws.old))
-        (outlook (C.moments clock.new) (W.throttles draws.new) (W.ids draws.new)) (drawn_of result ∷ []) }
+    ensures hands { HandsDrawn (outlook (C.told clock.old) (W.told draws.old))
+        (outlook (C.told clock.new) (W.told draws.new)) (drawn_of result ∷ []) }
     ensures range { IsDrawn (drawn_of result) }
 {
     let moment = clock.now();

@@ -1,10 +1,8 @@
 // Runs of the program over objects in memory.
-ghost use Rattle.std.specs.Prelude.{◌≡◌, Some, map, string_bytes};
-ghost use Rattle.soc_edge.specs.Faults.{Rose};
-ghost use Rattle.soc_edge.specs.Memory.{repeating};
-ghost use Rattle.soc_edge.specs.Told.{outlook};
-ghost use Rattle.soc_raw.specs.Names.{value_of};
-ghost use Rattle.soc_serve.specs.Replay.{Keeps, Replays, status_of};
+ghost use Rattle.std.specs.Prelude.{◌≡◌, map, string_bytes};
+ghost use Rattle.soc_edge.specs.Memory.{clock_told, draws_told, sink_told, source_told, tree_told};
+ghost use Rattle.soc_edge.specs.Told.{joined};
+ghost use Rattle.soc_serve.specs.Replay.{Replays, RunHasCause, RunsOn, outside, status_of};
 ghost use Rattle.soc_serve.specs.Words.{AreReplay, RefusesWords};
 
 use soc_edge::{Both, MemClock, MemDraws, MemSink, MemSource, MemTree};
@@ -21,19 +19,21 @@ pub fn run_in_memory(
     clock: &mut MemClock,
     draws: &mut MemDraws,
 ) -> u8
-    ensures replays { AreReplay (map string_bytes words.now) → (end : _) × (result ≡ status_of end)
-        × Replays (Some (value_of tree.old.files))
-        (record { left = Some streams.old.source.left; held = Some streams.old.sink.held; outlook = outlook (repeating clock.old) (repeating draws.old.throttles) (repeating draws.old.ids) })
-        (record { left = Some streams.new.source.left; held = Some streams.new.sink.held; outlook = outlook (repeating clock.new) (repeating draws.new.throttles) (repeating draws.new.ids) })
+    ensures replays { AreReplay (map string_bytes words.now) → (end : _) × (result ≡ status_of end) × Replays
+        (outside (tree_told tree.old) (joined (source_told streams.old.source) (sink_told streams.old.sink)) (clock_told clock.old) (draws_told draws.old))
+        (outside (tree_told tree.new) (joined (source_told streams.new.source) (sink_told streams.new.sink)) (clock_told clock.new) (draws_told draws.new))
         end }
-    ensures other_words { ¬ (AreReplay (map string_bytes words.now)) → RefusesWords result (Some streams.old.sink.held) (Some streams.new.sink.held) }
-    ensures untouched { ¬ (AreReplay (map string_bytes words.now)) → Keeps
-        (record { left = Some streams.old.source.left; held = Some streams.old.sink.held; outlook = outlook (repeating clock.old) (repeating draws.old.throttles) (repeating draws.old.ids) })
-        (record { left = Some streams.new.source.left; held = Some streams.new.sink.held; outlook = outlook (repeating clock.new) (repeating draws.new.throttles) (repeating draws.new.ids) }) }
+    ensures other_words { ¬ (AreReplay (map string_bytes words.now)) → RefusesWords result
+        (outside (tree_told tree.old) (joined (source_told streams.old.source) (sink_told streams.old.sink)) (clock_told clock.old) (draws_told draws.old))
+        (outside (tree_told tree.new) (joined (source_told streams.new.source) (sink_told streams.new.sink)) (clock_told clock.new) (draws_told draws.new)) }
     ensures words_cause { result ≡ 2 → ¬ (AreReplay (map string_bytes words.now)) }
-    ensures read_cause { result ≡ 6 → Rose streams.old.source.calls.failed streams.new.source.calls.failed }
-    ensures write_cause { result ≡ 7 → Rose streams.old.sink.calls.failed streams.new.sink.calls.failed }
-    ensures tree_cause { result ≡ 8 → Rose tree.old.calls.failed tree.new.calls.failed }
+    ensures runs_on { RunsOn
+        (outside (tree_told tree.old) (joined (source_told streams.old.source) (sink_told streams.old.sink)) (clock_told clock.old) (draws_told draws.old))
+        (outside (tree_told tree.new) (joined (source_told streams.new.source) (sink_told streams.new.sink)) (clock_told clock.new) (draws_told draws.new)) }
+    ensures cause { RunHasCause
+        (outside (tree_told tree.old) (joined (source_told streams.old.source) (sink_told streams.old.sink)) (clock_told clock.old) (draws_told draws.old))
+        (outside (tree_told tree.new) (joined (source_told streams.new.source) (sink_told streams.new.sink)) (clock_told clock.new) (draws_told draws.new))
+        (result ≡ 6) (result ≡ 7) (result ≡ 8) }
 {
     run_words(alloc, words, tree, streams, clock, draws)
 }

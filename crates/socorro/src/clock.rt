@@ -26,7 +26,7 @@ impl<'a, R: time::Clock> SystemClock<'a, R> {
 impl<'a, R: time::Clock> Clock for SystemClock<'a, R> {
     ghost use Rattle.std.specs.Prelude.{None};
 
-    ghost moments = { λ _ _. None };
+    ghost told = { λ _. record { moments = λ _. None } };
 
     fn now(&mut self) -> u64 {
         held(seconds(self.rt))

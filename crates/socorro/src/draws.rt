@@ -23,9 +23,7 @@ impl SystemDraws {
 impl Draws for SystemDraws {
     ghost use Rattle.std.specs.Prelude.{None};
 
-    ghost throttles = { λ _ _. None };
-
-    ghost ids = { λ _ _. None };
+    ghost told = { λ _. record { throttles = λ _. None; ids = λ _. None } };
 
     fn throttle(&mut self) -> u64 {
         self.generator.next_u64()

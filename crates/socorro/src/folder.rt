@@ -22,9 +22,7 @@ impl<'a, R> Folder<'a, R> {
 impl<'a, R: Files + AllocGlobal> Tree for Folder<'a, R> {
     ghost use Rattle.std.specs.Prelude.{None};
 
-    ghost files = { λ _. None };
-
-    ghost tree_faults = { λ folder. folder.faults };
+    ghost told = { λ folder. record { files = None; faults = folder.faults } };
 
     fn file(&mut self, _alloc: Global, name: &str) -> Result<Option<Bytes>, TreeError> {
         let error = match fs::read(self.rt, name) {

@@ -1,7 +1,7 @@
 // A clock in memory.
 ghost use Rattle.std.specs.Prelude.{◌≡◌, ◌<◌, length};
 ghost use Rattle.std.specs.List.{All};
-ghost use Rattle.soc_edge.specs.Memory.{repeating};
+ghost use Rattle.soc_edge.specs.Memory.{clock_told};
 ghost use Rattle.soc_raw.specs.Day.{IsMoment};
 
 use super::lists::Numbers;
@@ -39,7 +39,7 @@ impl MemClock {
 }
 
 impl Clock for MemClock {
-    ghost moments = { λ c. repeating c };
+    ghost told = { clock_told };
 
     fn now(&mut self) -> u64 {
         let moments = self.moments.as_slice();

@@ -1,6 +1,6 @@
 // Draws in memory.
 ghost use Rattle.std.specs.Prelude.{◌≡◌, ◌<◌, length};
-ghost use Rattle.soc_edge.specs.Memory.{repeating};
+ghost use Rattle.soc_edge.specs.Memory.{draws_told};
 
 use super::lists::{Ids16, Numbers};
 use crate::Draws;
@@ -44,9 +44,7 @@ impl MemDraws {
 }
 
 impl Draws for MemDraws {
-    ghost throttles = { λ d. repeating d.throttles };
-
-    ghost ids = { λ d. repeating d.ids };
+    ghost told = { draws_told };
 
     fn throttle(&mut self) -> u64 {
         let throttles = self.throttles.as_slice();

@@ -1,6 +1,8 @@
 // A tree in memory.
-ghost use Rattle.std.specs.Prelude.{◌≡◌, ◌≤◌, ◌↔◌, Some, IfOk, IsErrOf, IsTrue, if◌then◌else◌};
+ghost use Rattle.std.specs.Prelude.{◌≡◌, ◌↔◌, IfOk, IsErrOf, IsTrue, if◌then◌else◌};
 ghost use Rattle.soc_edge.specs.Calls.{no_calls, is_due, passed, failed};
+ghost use Rattle.soc_edge.specs.Memory.{tree_told};
+ghost use Rattle.soc_edge.specs.Tree.{OnlyLooks};
 ghost use Rattle.soc_raw.specs.Names.{value_of};
 
 use super::calls::CallCount;
@@ -38,15 +40,13 @@ impl MemTree {
 }
 
 impl Tree for MemTree {
-    ghost files = { λ t. Some (value_of t.files) };
-
-    ghost tree_faults = { λ t. t.calls.failed };
+    ghost told = { tree_told };
 
     fn file(&mut self, alloc: Global, name: &str) -> Result<Option<Bytes>, TreeError>
         ensures fails { IsErrOf result TreeError.Failed ↔ IsTrue (is_due self.old.calls) }
         ensures gives { IfOk result (λ file. file ≡ value_of self.old.files name.now) }
         ensures after { self.new ≡ record self.old { calls = (if is_due self.old.calls then failed self.old.calls else passed self.old.calls) } }
-        ensures never_falls { self.old.calls.failed ≤ self.new.calls.failed }
+        ensures looks { OnlyLooks (tree_told self.old) (tree_told self.new) }
     {
         if self.calls.is_due() {
             self.calls.fail();

@@ -6,5 +6,5 @@ use Rattle.soc_serve.proofs.replay.serve.Goals as goal
 
 pub returns-in_default-new-clause-serves : goal.returns-in_default-new-clause-serves
 returns-in_default-new-clause-serves g c =
-    Serves-none c.args.setup.now _ c.new-book.result (ap (λ (desk : MemoryDesk Small). desk.log) c.new-book.ensures)
+    Serves-none c.args.setup.now _ _ c.new-book.result (ap (λ (desk : MemoryDesk Small). desk.log) c.new-book.ensures)
     (ap (λ (desk : MemoryDesk Small). desk.limits) c.new-book.ensures)

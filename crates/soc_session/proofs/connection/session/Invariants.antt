@@ -1,5 +1,6 @@
 use Rattle.std.proofs.Common.{◌≡◌, [], false}
-use Rattle.soc_edge.specs.Told.{outlook, NeverFall}
+use Rattle.soc_edge.specs.Ahead.{outlook}
+use Rattle.soc_edge.specs.Told.{NeverFall}
 use Rattle.soc_session.specs.declared.ending.SessionEnd.{SessionEnd}
 use Rattle.soc_session.specs.Replies.{closing, no_memory}
 use Rattle.soc_session.specs.Session.{Around, around}
@@ -11,9 +12,9 @@ abbrev pub invariant-loop-left : goal.invariant-loop-left
 invariant-loop-left g l =
     ((after : Around g.row.K.Denot) (end : SessionEnd)
     → ServesFrom g.K.Desk.Asks l.rules l.buffer l.left
-    (around (g.X.Tells.told l.link) l.desk (outlook (g.C.Clock.moments l.clock) (g.W.Draws.throttles l.draws) (g.W.Draws.ids l.draws))) after end
+    (around (g.X.Tells.told l.link) l.desk (outlook (g.C.Clock.told l.clock) (g.W.Draws.told l.draws))) after end
     → ServesFrom g.K.Desk.Asks l.rules [] l.rules.session_bytes
-    (around (g.X.Tells.told l.initial.link) l.initial.desk (outlook (g.C.Clock.moments l.initial.clock) (g.W.Draws.throttles l.initial.draws) (g.W.Draws.ids l.initial.draws))) after end)
+    (around (g.X.Tells.told l.initial.link) l.initial.desk (outlook (g.C.Clock.told l.initial.clock) (g.W.Draws.told l.initial.draws))) after end)
     × (closing false l.spare ≡ no_memory)
     × NeverFall (g.X.Tells.told l.initial.link) (g.X.Tells.told l.link)
 
