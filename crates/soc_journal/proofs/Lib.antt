@@ -9,6 +9,7 @@ pub mod Nexts
 pub mod Once
 pub mod Options
 pub mod Pieces
+pub mod Ranges
 pub mod Sealed
 pub mod Standing
 pub mod Stops

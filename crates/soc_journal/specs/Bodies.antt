@@ -15,6 +15,10 @@ pub record StandsBefore (bytes : List ℕ) (place gate : ℕ) (entry : Entry) : 
 abbrev pub ReadsFrom : List ℕ → ℕ → List ℕ → Type 0
 ReadsFrom bytes place text = take (length text) (drop place bytes) ≡ text
 
+-- how many bytes of a text are compared at once: 64 KiB
+abbrev pub piece_size : ℕ
+piece_size = 65_536
+
 -- what a disk gives of a body of so many bytes at a place: all of them, or fewer
 abbrev pub GivesBody : List ℕ → ℕ → ℕ → Result (List ℕ) ReadError → Type 0
 GivesBody bytes place count (Ok body) = (count ≤ length bytes - place) × (body ≡ take count (drop place bytes))
