@@ -1,3 +1,4 @@
+pub mod Apart
 pub mod Appends
 pub mod Bodies
 pub mod Finishes
