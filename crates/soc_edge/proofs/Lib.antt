@@ -3,3 +3,4 @@ pub mod DiskKept
 pub mod DiskStop
 pub mod Disks
 pub mod Told
+pub mod Windows

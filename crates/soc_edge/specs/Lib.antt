@@ -7,3 +7,5 @@ pub mod DiskState
 pub mod Faults
 pub mod Memory
 pub mod Told
+pub mod Untold
+pub mod Windows
