@@ -3,3 +3,5 @@ pub mod DiskKept
 pub mod DiskStop
 pub mod Disks
 pub mod Told
+pub mod Untold
+pub mod Windows

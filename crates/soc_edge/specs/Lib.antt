@@ -9,3 +9,5 @@ pub mod Faults
 pub mod Memory
 pub mod Told
 pub mod Tree
+pub mod Untold
+pub mod Windows

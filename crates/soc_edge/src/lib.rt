@@ -11,6 +11,7 @@ mod clock;
 mod disk;
 mod failed;
 mod memory;
+mod read_ahead;
 mod sink;
 mod source;
 mod steps;
@@ -27,6 +28,7 @@ pub use failed::Failed;
 pub use memory::{
     BytesList, Ids16, MemClock, MemDisk, MemDraws, MemSink, MemSource, MemTree, Numbers,
 };
+pub use read_ahead::ReadAhead;
 pub use sink::Sink;
 pub use source::Source;
 pub use steps::Steps;

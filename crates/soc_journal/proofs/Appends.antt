@@ -11,8 +11,9 @@ use Rattle.soc_journal.specs.Entries.{Entry, IsEntryOf, has_kind, open_gate, clo
 use Rattle.soc_journal.specs.declared.error.AppendError.{AppendError}
 use Rattle.soc_journal.specs.declared.error.AppendError.TheVariants.{StoreFault, JournalFull}
 use Rattle.soc_journal.specs.States.{JournalState, AtRest, InDoubt}
-use Rattle.soc_journal.specs.Text.{version_of, StandsFor, StandsForEither}
+use Rattle.soc_journal.specs.Text.{version_of, JournalText, EitherText}
 use Rattle.soc_journal.proofs.Texts.{behind_gate, sealed_behind, front_of, length-front_of, front_of-push, version_of-front, begins_front, front_begins, AllByRecursion-push, gate_place-push}
+use Rattle.soc_journal.proofs.Ranges.{Tears-wider, Tears-append, WhereTold-map, WhereTold-append, MayTear-wider, MayTear-append, opened_told}
 use Rattle.soc_journal.proofs.Torn.{torn_behind, written_behind, torn_byte, written_byte}
 
 -- each version but the first has the kinds of the second
@@ -24,7 +25,7 @@ IsEntryOf-current version entry current legal = record { known = has_kind_curren
 
 -- a closed gate behind the entries ends them
 pub stands_before : (version : ℕ) (entries : List Entry) (gate : ℕ) (rest image : List ℕ) → image ≡ front_of version entries ++ gate ∷ rest → gate ≢ open_gate
-    → AllByRecursion (IsEntryOf version) entries → StandsFor entries image
+    → AllByRecursion (IsEntryOf version) entries → JournalText entries image
 stands_before version entries gate rest image whole closed legal = record {
   gate = gate;
   rest = rest;
@@ -34,7 +35,7 @@ stands_before version entries gate rest image whole closed legal = record {
 
 -- an open one lets one more count
 pub stands_after : (version : ℕ) (entries : List Entry) (entry : Entry) (rest image : List ℕ) → image ≡ front_of version entries ++ open_gate ∷ (behind_gate entry ++ rest)
-    → AllByRecursion (IsEntryOf version) entries → IsEntryOf version entry → StandsFor (entries ++ entry ∷ []) image
+    → AllByRecursion (IsEntryOf version) entries → IsEntryOf version entry → JournalText (entries ++ entry ∷ []) image
 stands_after version entries entry rest image whole legal one =
     let closed : closed_gate ≢ open_gate = omega arith in
     let moved : image ≡ front_of version (entries ++ entry ∷ []) ++ closed_gate ∷ rest =
@@ -46,7 +47,7 @@ stands_after version entries entry rest image whole legal one =
 
 -- and any byte there does the one or the other
 stands_either : (version : ℕ) (entries : List Entry) (entry : Entry) (gate : ℕ) (rest image : List ℕ) → image ≡ front_of version entries ++ gate ∷ (behind_gate entry ++ rest)
-    → AllByRecursion (IsEntryOf version) entries → IsEntryOf version entry → StandsForEither entries entry image
+    → AllByRecursion (IsEntryOf version) entries → IsEntryOf version entry → EitherText entries entry image
 stands_either version entries entry gate rest image whole legal one = elim (cases_eq gate open_gate) [
   | inl is ↦ inr (stands_after version entries entry rest image (whole ∙ ap (λ (x : ℕ). front_of version entries ++ x ∷ (behind_gate entry ++ rest)) is) legal one)
   | inr closed ↦ inl (stands_before version entries gate (behind_gate entry ++ rest) image whole closed legal)
@@ -78,7 +79,7 @@ module _ (journal : JournalState) (place : ℕ) (at : journal.gate ≡ place) (e
       let P : List ℕ → Type 0 = λ x. Tears (place + 1) count x image in
       torn_behind (front_of (version_of bytes) entries) rests.text.gate rests.text.rest place stands_at count image (subst P whole_at tears)
 
-  pub stands_first : (count : ℕ) (image : List ℕ) → Tears (place + 1) count bytes image → StandsFor entries image
+  pub stands_first : (count : ℕ) (image : List ℕ) → Tears (place + 1) count bytes image → JournalText entries image
   stands_first count image tears =
       stands_before (version_of bytes) entries rests.text.gate (drop (place + 1) image) image (torn_first count image tears) rests.text.closed rests.text.begins.legal
 
@@ -116,7 +117,7 @@ module _ (journal : JournalState) (place : ℕ) (at : journal.gate ≡ place) (e
       let P : List ℕ → Type 0 = λ x. Tears place 1 x image in
       torn_byte (front_of staged_so.version entries) staged_so.gate (behind_gate entry ++ staged_so.rest) place stands_staged image (subst P staged_so.whole tears)
 
-  pub stands_second : (image : List ℕ) → Tears place 1 bytes image → StandsForEither entries entry image
+  pub stands_second : (image : List ℕ) → Tears place 1 bytes image → EitherText entries entry image
   stands_second image tears =
       stands_either staged_so.version entries entry (get_or image place 0) staged_so.rest image (torn_second image tears) staged_so.legal staged_so.one
 
@@ -199,33 +200,81 @@ acknowledged journal after place at entry legal piece is_piece moved no_doubt (S
 module _ (journal : JournalState) (place : ℕ) (at : journal.gate ≡ place) (entry : Entry) where
   -- a stop during the first write and its sync
   pub any_first : (before middle : DiskTold) (count : ℕ) (told : Option (List ℕ)) → MayTear (place + 1) count before middle
-      → IfSome told (λ bytes. (entries : List Entry) → AtRest journal entries bytes before.images → LeavesOnly before middle (StandsForEither entries entry))
+      → IfSome told (λ bytes. (entries : List Entry) → AtRest journal entries bytes before.images → LeavesOnly before middle (EitherText entries entry))
   any_first before middle count None tears = tt
   any_first before middle count (Some bytes) tears = λ entries rests.
       let P : List ℕ → Type 0 = IsTorn before.images (place + 1) count in
-      let stands : (image : List ℕ) → P image → StandsForEither entries entry image = λ image torn.
+      let stands : (image : List ℕ) → P image → EitherText entries entry image = λ image torn.
       let T : List ℕ → Type 0 = λ x. Tears (place + 1) count x image in
       inl (stands_first journal place at entries bytes before.images rests count image (subst T (rests.only torn.earlier torn.was) torn.tears)) in
-      LeavesOnly-weaker before middle P (StandsForEither entries entry) stands tears.any_moment
+      LeavesOnly-weaker before middle P (EitherText entries entry) stands tears.any_moment
 
   -- and during the gate's write and its sync
   pub any_second : (piece : List ℕ) → piece ≡ behind_gate entry → (before middle after : DiskTold) (count : ℕ) (told staged_told : Option (List ℕ)) → IsEntryOf second_version entry
       → MayTear (place + 1) count before middle
       → staged_told ≡ option_map (λ old. written old (place + 1) piece) told → IfSome staged_told (λ now. Only now middle.images)
       → MayTear place 1 middle after
-      → IfSome told (λ bytes. (entries : List Entry) → AtRest journal entries bytes before.images → LeavesOnly before after (StandsForEither entries entry))
+      → IfSome told (λ bytes. (entries : List Entry) → AtRest journal entries bytes before.images → LeavesOnly before after (EitherText entries entry))
   any_second piece is_piece before middle after count None staged_told legal tears is only then = tt
   any_second piece is_piece before middle after count (Some bytes) None legal tears is only then = cc
   any_second piece is_piece before middle after count (Some bytes) (Some content) legal tears is only then = λ entries rests.
       let is_written : content ≡ written bytes (place + 1) piece = cc in
       let so = staged journal place at entries bytes before.images rests entry piece content middle.images legal is_piece is_written only in
       let P : List ℕ → Type 0 = IsTorn middle.images place 1 in
-      let stands : (image : List ℕ) → P image → StandsForEither entries entry image = λ image torn.
+      let stands : (image : List ℕ) → P image → EitherText entries entry image = λ image torn.
       let T : List ℕ → Type 0 = λ x. Tears place 1 x image in
       stands_second journal place at entries entry content middle.images so image (subst T (only torn.earlier torn.was) torn.tears) in
-      LeavesOnly-append before middle after (StandsForEither entries entry) tears.goes_on then.goes_on
+      LeavesOnly-append before middle after (EitherText entries entry) tears.goes_on then.goes_on
       (any_first before middle count (Some bytes) tears entries rests)
-      (LeavesOnly-weaker middle after P (StandsForEither entries entry) stands then.any_moment)
+      (LeavesOnly-weaker middle after P (EitherText entries entry) stands then.any_moment)
+
+-- ---- what is written at all
+
+module _ (gate place : ℕ) (at : gate ≡ place) (entry : Entry) (piece : List ℕ) (is_piece : piece ≡ behind_gate entry) where
+  size : length (sealed entry) ≡ length piece + 1
+  size = omega (arith, ap (λ (x : List ℕ). length x) (sealed_behind entry), ap (λ (x : List ℕ). length x) is_piece)
+
+  -- the first write lies within the entry, and so does the gate's
+  first_within : gate ≤ place + 1
+  first_within = omega (arith, at)
+
+  first_ends : place + 1 + length piece ≤ gate + length (sealed entry)
+  first_ends = omega (arith, at, size)
+
+  second_within : gate ≤ place
+  second_within = omega (arith, at)
+
+  second_ends : place + 1 ≤ gate + length (sealed entry)
+  second_ends = omega (arith, at, size)
+
+  pub tears_first : (before middle : DiskTold) → MayTear (place + 1) (length piece) before middle → MayTear gate (length (sealed entry)) before middle
+  tears_first before middle tears = MayTear-wider gate (length (sealed entry)) (place + 1) (length piece) before middle tears first_within first_ends
+
+  pub tears_second : (before middle after : DiskTold) → MayTear (place + 1) (length piece) before middle → MayTear place 1 middle after → MayTear gate (length (sealed entry)) before after
+  tears_second before middle after first then =
+      MayTear-append gate (length (sealed entry)) before middle after (tears_first before middle first)
+      (MayTear-wider gate (length (sealed entry)) place 1 middle after then second_within second_ends)
+
+  pub torn_first_told : (told now_told : Option (List ℕ)) → WhereTold (Tears (place + 1) (length piece)) told now_told → WhereTold (Tears gate (length (sealed entry))) told now_told
+  torn_first_told told now_told torn =
+      WhereTold-map (Tears (place + 1) (length piece)) (Tears gate (length (sealed entry)))
+      (λ a b tears. Tears-wider gate (length (sealed entry)) (place + 1) (length piece) a b tears first_within first_ends) told now_told torn
+
+  pub torn_second_told : (told middle_told now_told : Option (List ℕ)) → WhereTold (Tears (place + 1) (length piece)) told middle_told → WhereTold (Tears place 1) middle_told now_told
+      → WhereTold (Tears gate (length (sealed entry))) told now_told
+  torn_second_told told middle_told now_told first then =
+      WhereTold-append (Tears gate (length (sealed entry))) (λ a b c. Tears-append gate (length (sealed entry)) a b c) told middle_told now_told (torn_first_told told middle_told first)
+      (WhereTold-map (Tears place 1) (Tears gate (length (sealed entry)))
+      (λ a b tears. Tears-wider gate (length (sealed entry)) place 1 a b tears second_within second_ends) middle_told now_told then)
+
+  -- both writes together write the entry where the closed gate stood
+  pub content_told : (told staged_told now_told : Option (List ℕ)) → staged_told ≡ option_map (λ old. written old (place + 1) piece) told
+      → now_told ≡ option_map (λ old. written old place (open_gate ∷ [])) staged_told → now_told ≡ option_map (λ old. written old gate (sealed entry)) told
+  content_told told staged_told now_told staged opened =
+      let whole : open_gate ∷ piece ≡ sealed entry = ap (λ (x : List ℕ). open_gate ∷ x) is_piece ∙ sym (sealed_behind entry) in
+      opened_told place open_gate piece told staged_told now_told staged opened
+      ∙ (ap (λ (x : List ℕ). option_map (λ old. written old place x) told) whole
+      ∙ ap (λ (n : ℕ). option_map (λ old. written old n (sealed entry)) told) (sym at))
 
 -- what stands over the limit
 pub over_limit : (limit gate count body : ℕ) → count ≡ 7 + body → (gate + count ≤ limit → IsTrue false) → limit < gate + 7 + body

@@ -1,3 +1,4 @@
+pub mod Apart
 pub mod Appends
 pub mod Bodies
 pub mod Finishes
@@ -9,6 +10,7 @@ pub mod Nexts
 pub mod Once
 pub mod Options
 pub mod Pieces
+pub mod Ranges
 pub mod Sealed
 pub mod Standing
 pub mod Stops

@@ -1,12 +1,15 @@
 -- What a disk reads as from a place on, piece by piece.
-use Rattle.std.proofs.Common.{◌≡◌, ℕ, ◌+◌, min, Bool, true, false, IsTrue, ◌↔◌, Option, IfSome, List, [], ◌∷◌, ◌++◌, length, take, drop, refl, sym, ◌∙◌, ap, subst, arith, length-append}
+use Rattle.std.proofs.Common.{◌≡◌, ℕ, ◌+◌, ◌-◌, ◌*◌, ◌<◌, ◌≤◌, min, Bool, ◌==◌, true, false, IsTrue, ◌↔◌, Option, IfSome, List, [], ◌∷◌, ◌++◌, length, take, drop, refl, sym, ◌∙◌, ap, subst, arith, length-append}
 use Rattle.std.specs.Str.{bytes_eq}
 use Rattle.std.proofs.lemmas.Slice.Eq.{bytes_eq-Decides}
 use Rattle.std.proofs.Math.Seq.{take-add}
 use Rattle.std.proofs.lemmas.List.{take_min, length-drop, drop-drop, take-take, take_at, drop_at, drop-take}
 use Rattle.std.proofs.lemmas.Option.{IfSome_then}
 use Rattle.soc_edge.specs.Disk.{ReadsAt}
-use Rattle.soc_journal.specs.Bodies.{ReadsFrom}
+use Rattle.std.specs.Int.{div_ceil}
+use Rattle.std.proofs.lemmas.Bool.Decides.{nat_tests}
+use Rattle.std.proofs.lemmas.Grind.{div_ceil_times}
+use Rattle.soc_journal.specs.Bodies.{ReadsFrom, piece_size}
 use Rattle.soc_journal.proofs.Options.{IfSome-always, IfSome_both}
 
 pub piece_told : (told : Option (List ℕ)) (place count : ℕ) (into piece : List ℕ) (answer : Bool) → length into ≡ length piece → IfSome told (λ bytes. ReadsAt bytes place count into)
@@ -51,6 +54,20 @@ module _ (bytes : List ℕ) (place : ℕ) (piece behind : List ℕ) where
       ∙ (ap (λ (x : List ℕ). x ++ take (length behind) (drop (length piece) (drop place bytes))) front
       ∙ (ap (λ (x : List ℕ). piece ++ take (length behind) x) moved
       ∙ ap (λ (x : List ℕ). piece ++ x) back)))
+
+pub some_left : (empty : Bool) (n : ℕ) → empty ≡ (n == 0) → empty ≡ false → 0 < n
+some_left empty n is some = grind (arith, nat_tests)
+
+-- one piece less is left to be read
+pub one_piece : (n behind : ℕ) → 0 < n → behind ≡ n - piece_size → 1 + div_ceil behind piece_size ≤ div_ceil n piece_size
+one_piece n behind some is =
+    let some_size : 0 < piece_size = omega arith in
+    let whole = div_ceil_times n piece_size some_size in
+    let left = div_ceil_times behind piece_size some_size in
+    fewer (div_ceil behind piece_size) (div_ceil n piece_size) n behind some is whole.0 left.1
+  where
+    fewer : (q k n behind : ℕ) → 0 < n → behind ≡ n - 65_536 → n ≤ k * 65_536 → q * 65_536 < behind + 65_536 → 1 + q ≤ k
+    fewer q k n behind some is low high = omega arith
 
 -- the text was read up to here, where the rest is still to be compared
 abbrev pub ReadsTo : Option (List ℕ) → ℕ → List ℕ → ℕ → List ℕ → Type 0

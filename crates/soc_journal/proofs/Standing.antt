@@ -4,7 +4,7 @@ use Rattle.soc_edge.specs.Disk.{NoMore}
 use Rattle.soc_journal.specs.Entries.{Entry}
 use Rattle.soc_journal.specs.Openings.{OpeningState, HasRead, HasReadAll}
 use Rattle.soc_journal.specs.States.{JournalState, AtRest, InDoubt}
-use Rattle.soc_journal.specs.Text.{StandsFor}
+use Rattle.soc_journal.specs.Text.{JournalText}
 
 module _ (entries : List Entry) (bytes : List ℕ) (images now_images : List ℕ → Type 0) (no_more : NoMore images now_images) where
   pub AtRest-stays : (journal : JournalState) → AtRest journal entries bytes images → AtRest journal entries bytes now_images
@@ -39,7 +39,7 @@ module _ (entries : List Entry) (bytes : List ℕ) (images now_images : List ℕ
   HasReadAll-stays opening has = record { text = has.text; reads = HasRead-stays opening has.reads }
 
 -- at rest, each image stands for the entries
-pub StandsFor-each : (journal : JournalState) (entries : List Entry) (bytes : List ℕ) (images : List ℕ → Type 0) → AtRest journal entries bytes images → (image : List ℕ) → images image → StandsFor entries image
-StandsFor-each journal entries bytes images rests image left =
-    let P : List ℕ → Type 0 = λ x. StandsFor entries x in
+pub JournalText-each : (journal : JournalState) (entries : List Entry) (bytes : List ℕ) (images : List ℕ → Type 0) → AtRest journal entries bytes images → (image : List ℕ) → images image → JournalText entries image
+JournalText-each journal entries bytes images rests image left =
+    let P : List ℕ → Type 0 = λ x. JournalText entries x in
     subst P (sym (rests.only image left)) rests.text

@@ -37,6 +37,22 @@ abbrev pub has_kind : ℕ → ℕ → Bool
 has_kind version kind =
     (kind == accept_kind || kind == ask_kind) || (not (version == first_version) && (kind == withdraw_kind || kind == report_kind))
 
+-- where the version byte stands, behind `SOCJ000`
+abbrev pub version_place : ℕ
+version_place = 7
+
+-- where the first gate stands, behind the version byte
+abbrev pub first_gate : ℕ
+first_gate = 8
+
+-- how many bytes stand before an entry's body: its gate, its kind and the body's length
+abbrev pub head_size : ℕ
+head_size = 6
+
+-- how many bytes an entry has beside its body as it is written: those, and the closed gate behind it
+abbrev pub beside_body : ℕ
+beside_body = 7
+
 -- the most bytes that a body has
 abbrev pub max_body : ℕ
 max_body = 67_108_864
@@ -63,7 +79,7 @@ header version = codes "SOCJ000" ++ version ∷ []
 
 -- where the gate stands behind the header and these entries
 abbrev pub gate_place : List Entry → ℕ
-gate_place entries = 8 + length (entries_text entries)
+gate_place entries = first_gate + length (entries_text entries)
 
 -- an entry as it is written: with the closed gate behind it
 abbrev pub sealed : Entry → List ℕ

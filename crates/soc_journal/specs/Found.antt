@@ -1,7 +1,7 @@
 -- What stands where a gate is wanted.
 use Rattle.std.specs.Prelude.{◌≡◌, ◌≢◌, ℕ, ◌+◌, ◌^◌, ◌<◌, ◌≤◌, List, ◌∷◌, ◌++◌, length, IsTrue, ⊤}
 use Rattle.std.specs.Int.{to_le_bytes, w32}
-use Rattle.soc_journal.specs.Entries.{Entry, IsEntryOf, has_kind, max_body, open_gate, entry_text}
+use Rattle.soc_journal.specs.Entries.{Entry, IsEntryOf, has_kind, max_body, open_gate, head_size, entry_text}
 use Rattle.soc_journal.specs.declared.found.Front.{Front}
 use Rattle.soc_journal.specs.declared.found.Front.TheVariants.{Shut, Cut, Opened}
 use Rattle.soc_journal.specs.declared.found.Found.{Found}
@@ -19,14 +19,14 @@ HasNoGate bytes = (gate : ℕ) (more : List ℕ) → gate ≢ open_gate → byte
 -- an entry's bytes before its body
 abbrev pub IsFront : List ℕ → Front → Type 0
 IsFront bytes Shut = (gate : ℕ) × (more : List ℕ) × (bytes ≡ gate ∷ more) × (gate ≢ open_gate)
-IsFront bytes Cut = (length bytes < 6) × HasNoGate bytes
+IsFront bytes Cut = (length bytes < head_size) × HasNoGate bytes
 IsFront bytes (Opened kind count) = (count < 2 ^ 32) × ((more : List ℕ) × (bytes ≡ entry_head kind count ++ more))
 
 -- a head of this kind and length is that of an entry, of a kind that the version has, which ends at or before the end
 pub record Counts (version kind count place end : ℕ) : Type 0 where
   pub known : IsTrue (has_kind version kind)
   pub short : count ≤ max_body
-  pub fits : place + 6 + count ≤ end
+  pub fits : place + head_size + count ≤ end
 
 -- the bytes begin with such a head
 pub record IsHead (version place end kind count : ℕ) (bytes : List ℕ) : Type 0 where

@@ -3,7 +3,7 @@ use Rattle.std.specs.Prelude.{◌≡◌, ◌≢◌, ℕ, ◌+◌, Option, Some, 
 use Rattle.soc_edge.specs.Disk.{Only}
 use Rattle.soc_edge.specs.declared.failed.Failed.{Failed}
 use Rattle.soc_journal.specs.Entries.{Entry, open_gate, first_version, entry_text, gate_place}
-use Rattle.soc_journal.specs.Text.{version_of, JournalText, StandsForEither}
+use Rattle.soc_journal.specs.Text.{version_of, JournalText, EitherText}
 use Rattle.soc_journal.specs.declared.settled.Settled.{Settled}
 use Rattle.soc_journal.specs.declared.settled.Settled.TheVariants.{Clean, Kept, Dropped}
 
@@ -24,11 +24,11 @@ pub record AtRest (journal : JournalState) (entries : List Entry) (bytes : List 
 
 -- the append of an entry behind these has failed: the content and each image have it or don't
 pub record InDoubt (journal : JournalState) (entries : List Entry) (entry : Entry) (bytes : List ℕ) (images : List ℕ → Type 0) : Type 0 where
-  pub text : StandsForEither entries entry bytes
+  pub text : EitherText entries entry bytes
   pub current : version_of bytes ≢ first_version
   pub gate_stands : journal.gate ≡ gate_place entries
   pub in_doubt : journal.doubt ≡ Some (length (entry_text entry))
-  pub each : (image : List ℕ) → images image → StandsForEither entries entry image
+  pub each : (image : List ℕ) → images image → EitherText entries entry image
 
 -- the gate at this place reads open
 abbrev pub ReadsOpen : List ℕ → ℕ → Type 0

@@ -2,11 +2,11 @@
 -- profile.
 use Rattle.std.specs.Prelude.{◌≡◌, ◌≢◌, ℕ, ◌⊎◌, List, [], ◌∷◌, ◌++◌, length, slice_index}
 use Rattle.std.specs.List.{AllByRecursion}
-use Rattle.soc_journal.specs.Entries.{Entry, IsEntryOf, open_gate, closed_gate, second_version, header, entry_text, entries_text, gate_place}
+use Rattle.soc_journal.specs.Entries.{Entry, IsEntryOf, open_gate, closed_gate, second_version, version_place, header, entry_text, entries_text, gate_place}
 
 -- the byte behind `SOCJ000`
 abbrev pub version_of : List ℕ → ℕ
-version_of bytes = slice_index bytes 7
+version_of bytes = slice_index bytes version_place
 
 -- the bytes are the header, these entries, each of a kind that the version has, and the rest
 pub record Begins (entries : List Entry) (rest bytes : List ℕ) : Type 0 where
@@ -45,13 +45,9 @@ pub record StandsAt (bytes : List ℕ) (place : ℕ) (entry : Entry) : Type 0 wh
   pub whole : bytes ≡ front ++ (entry_text entry ++ rest)
   pub before : length front ≡ place
 
--- an image of the disk is a journal of these entries
-abbrev pub StandsFor : List Entry → List ℕ → Type 0
-StandsFor entries image = JournalText entries image
-
--- an image is a journal of these entries, or of these and one more
-abbrev pub StandsForEither : List Entry → Entry → List ℕ → Type 0
-StandsForEither entries entry image = StandsFor entries image ⊎ StandsFor (entries ++ entry ∷ []) image
+-- the bytes are a journal of these entries, or of these and one more
+abbrev pub EitherText : List Entry → Entry → List ℕ → Type 0
+EitherText entries entry bytes = JournalText entries bytes ⊎ JournalText (entries ++ entry ∷ []) bytes
 
 -- ---- laws
 

@@ -1,10 +1,10 @@
 -- What contracts see of the text of an entry.
 use Rattle.std.specs.Prelude.{◌≡◌, ℕ, ◌-◌, List, length, take, drop, slice_index}
-use Rattle.soc_journal.specs.Entries.{Entry, IsEntryOf, second_version, sealed}
+use Rattle.soc_journal.specs.Entries.{Entry, IsEntryOf, second_version, head_size, beside_body, sealed}
 
 -- the entry of a text that is written as a whole
 abbrev pub entry_in : List ℕ → Entry
-entry_in text = record { kind = slice_index text 1; body = take (length text - 7) (drop 6 text) }
+entry_in text = record { kind = slice_index text 1; body = take (length text - beside_body) (drop head_size text) }
 
 -- the text is that of an entry
 pub record IsSealed (text : List ℕ) : Type 0 where

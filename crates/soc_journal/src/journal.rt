@@ -1,9 +1,9 @@
 // A journal that entries are appended to.
 ghost use Rattle.std.specs.Prelude.{◌≡◌, ◌+◌, ◌<◌, ◌≤◌, ◌↔◌, List, Some, None, [], ◌∷◌, ◌++◌, length, IfSome, IsSome, IsSomeAnd, IfOk, OnOk, OnErr, Ok, IsErrOf, IsTrue};
 ghost use Rattle.std.specs.Option.{option_map};
-ghost use Rattle.soc_edge.specs.Disk.{Only, LeavesOnly, GoesOn, Looks, DiskFailed};
-ghost use Rattle.soc_journal.specs.Entries.{Entry, entry_text};
-ghost use Rattle.soc_journal.specs.Text.{empty_journal, StandsForEither};
+ghost use Rattle.soc_edge.specs.Disk.{written, Tears, WhereTold, Only, LeavesOnly, Looks, MayTear, DiskFailed};
+ghost use Rattle.soc_journal.specs.Entries.{Entry, entry_text, sealed, first_gate, beside_body};
+ghost use Rattle.soc_journal.specs.Text.{empty_journal, EitherText};
 ghost use Rattle.soc_journal.specs.States.{AtRest, InDoubt, IsKeptAt, ReadsOpen, SettledBy, entries_after, journal_after};
 
 use crate::entry_text::EntryText;
@@ -40,14 +40,15 @@ impl Model for Journal {
 
 impl Journal {
     /// Makes an empty journal of at most `limit` bytes on a disk of length 0, by one write and one sync. It takes no
-    /// memory. Of a stop inside this call nothing is said.
+    /// memory. After `Failed`, and at a stop inside this call, that write may be torn, and nothing else was written.
     pub fn create<D: Disk>(disk: &mut D, limit: u64) -> Result<Journal, Failed>
         requires { IfSome (D.state disk.old).content (λ bytes. bytes ≡ []) }
-        ensures journal { IfOk result (λ journal. journal ≡ record { gate = 8; limit = limit; doubt = None }) }
+        ensures journal { IfOk result (λ journal. journal ≡ record { gate = first_gate; limit = limit; doubt = None }) }
         ensures content { OnOk result ((D.state disk.new).content ≡ option_map (λ _. empty_journal) (D.state disk.old).content) }
         ensures at_rest { IfOk result (λ journal. IfSome (D.state disk.new).content (λ bytes. AtRest journal [] bytes (D.state disk.new).images)) }
+        ensures torn { WhereTold (Tears 0 (length empty_journal)) (D.state disk.old).content (D.state disk.new).content }
+        ensures tears { MayTear 0 (length empty_journal) (D.state disk.old) (D.state disk.new) }
         ensures calls { (D.state disk.new).calls ≤ (D.state disk.old).calls + 2 }
-        ensures goes_on { GoesOn (D.state disk.old) (D.state disk.new) }
         ensures cause { OnErr result (DiskFailed (D.state disk.old) (D.state disk.new)) }
     {
         write_and_sync(disk, 0, &EMPTY_JOURNAL)?;
@@ -68,13 +69,19 @@ impl Journal {
     pub fn append<D: Disk>(&mut self, disk: &mut D, entry: &EntryText) -> Result<u64, AppendError>
         requires { self.old.doubt ≡ None }
 
-        ensures full { IsErrOf result AppendError.JournalFull ↔ (self.old.limit < self.old.gate + 7 + length entry.now.body) }
+        ensures full { IsErrOf result AppendError.JournalFull ↔ (self.old.limit < self.old.gate + beside_body + length entry.now.body) }
         ensures full_journal { IsErrOf result AppendError.JournalFull → self.new ≡ self.old }
         ensures full_disk { IsErrOf result AppendError.JournalFull → disk.new ≡ disk.old }
 
         ensures place { IfOk result (λ place. place ≡ self.old.gate) }
         ensures journal { OnOk result (self.new ≡ record self.old { gate = self.old.gate + length (entry_text entry.now) }) }
         ensures doubt { IsErrOf result AppendError.StoreFault → self.new ≡ record self.old { doubt = Some (length (entry_text entry.now)) } }
+
+        // The entry, with the closed gate behind it, is written where the closed gate stood; nothing else ever is.
+        ensures content { OnOk result ((D.state disk.new).content
+            ≡ option_map (λ bytes. written bytes self.old.gate (sealed entry.now)) (D.state disk.old).content) }
+        ensures torn { WhereTold (Tears self.old.gate (length (sealed entry.now))) (D.state disk.old).content (D.state disk.new).content }
+        ensures tears { MayTear self.old.gate (length (sealed entry.now)) (D.state disk.old) (D.state disk.new) }
 
         // At `Ok` the content and each image have the entry.
         ensures acknowledged { OnOk result (IfSome (D.state disk.old).content (λ bytes.
@@ -89,10 +96,9 @@ impl Journal {
         // A stop at any moment of the call leaves the entries from before it, or those and this one.
         ensures any_moment { IfSome (D.state disk.old).content (λ bytes.
             (entries : List Entry) → AtRest self.old entries bytes (D.state disk.old).images
-            → LeavesOnly (D.state disk.old) (D.state disk.new) (StandsForEither entries entry.now)) }
+            → LeavesOnly (D.state disk.old) (D.state disk.new) (EitherText entries entry.now)) }
 
         ensures calls { (D.state disk.new).calls ≤ (D.state disk.old).calls + 4 }
-        ensures goes_on { GoesOn (D.state disk.old) (D.state disk.new) }
         ensures cause { IsErrOf result AppendError.StoreFault → DiskFailed (D.state disk.old) (D.state disk.new) }
     {
         let text = entry.as_slice();

@@ -23,7 +23,7 @@ pub use entry_text::EntryText;
 pub use error::{AppendError, OpenError, ReadError};
 pub use format::{ACCEPT, ASK, ENTRY_HEAD, MAX_BODY, REPORT, WITHDRAW};
 pub use journal::Journal;
-pub use laws::{entry_is_one, fault_is_one, text_is_one};
+pub use laws::{entry_is_one, fault_is_one, gate_is_apart, text_is_one};
 pub use mark::Mark;
 pub use opening::Opening;
 pub use settled::Settled;

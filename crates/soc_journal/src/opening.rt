@@ -1,8 +1,9 @@
 // Opening a journal: its entries in order, and then the journal itself.
-ghost use Rattle.std.specs.Prelude.{◌≡◌, ◌≢◌, ◌+◌, ◌≤◌, ◌⊎◌, List, Some, None, [], length, IfSome, IsSomeAnd, IfOk, OnOk, OnErr, IfErr, IsErrOf, IsTrue, is_none, MatchOption};
-ghost use Rattle.soc_edge.specs.Disk.{Only, LeavesOnly, GoesOn, Looks, DiskFailed};
-ghost use Rattle.soc_journal.specs.Entries.{Entry, first_version, header};
-ghost use Rattle.soc_journal.specs.Text.{HasHeader, version_of, empty_journal, StandsFor, StandsAt};
+ghost use Rattle.std.specs.Prelude.{◌≡◌, ◌≢◌, ◌+◌, ◌≤◌, ◌⊎◌, List, Some, None, [], ◌∷◌, length, IfSome, IsSomeAnd, IfOk, OnOk, OnErr, IfErr, IsErrOf, IsTrue, is_none, MatchOption};
+ghost use Rattle.std.specs.Option.{option_map};
+ghost use Rattle.soc_edge.specs.Disk.{written, Tears, WhereTold, Only, LeavesOnly, Looks, MayTear, DiskFailed};
+ghost use Rattle.soc_journal.specs.Entries.{Entry, first_version, second_version, version_place, first_gate, head_size, header};
+ghost use Rattle.soc_journal.specs.Text.{HasHeader, version_of, empty_journal, JournalText, StandsAt};
 ghost use Rattle.soc_journal.specs.States.{AtRest};
 ghost use Rattle.soc_journal.specs.Openings.{HasRead, HasReadAll, Finds};
 ghost use Rattle.soc_journal.specs.Bodies.{GivesBody};
@@ -61,8 +62,11 @@ impl Journal {
         ensures disk_stays { IfSome (D.state disk.old).content (λ bytes.
             bytes ≢ [] → Looks (D.state disk.old) (D.state disk.new)) }
 
+        // Nothing but an empty journal is written, whole or torn.
+        ensures torn { WhereTold (Tears 0 (length empty_journal)) (D.state disk.old).content (D.state disk.new).content }
+        ensures tears { MayTear 0 (length empty_journal) (D.state disk.old) (D.state disk.new) }
+
         ensures calls { (D.state disk.new).calls ≤ (D.state disk.old).calls + 4 }
-        ensures goes_on { GoesOn (D.state disk.old) (D.state disk.new) }
         ensures cause { IsErrOf result OpenError.StoreFault → DiskFailed (D.state disk.old) (D.state disk.new) }
     {
         let length = synced_len(disk)?;
@@ -101,6 +105,9 @@ impl Opening {
         ensures handed_out { IfOk result (λ next. IfSome next (λ mark.
             Counts self.new.version mark.kind mark.length mark.place self.new.length)) }
 
+        ensures moves { IfOk result (λ next. MatchOption next (self.new.place ≡ self.old.place) (λ mark.
+            (mark.place ≡ self.old.place) × (self.new.place ≡ self.old.place + head_size + mark.length))) }
+
         ensures opening { self.new ≡ record self.old { place = self.new.place; ended = self.new.ended } }
         ensures ended { IfOk result (λ next. self.new.ended ≡ is_none next) }
         ensures refused { OnErr result (self.new ≡ self.old) }
@@ -137,11 +144,11 @@ impl Opening {
         disk: &mut D,
         mark: &Mark,
     ) -> Result<Bytes, ReadError>
-        requires handed_out { mark.now.place + 6 + mark.now.length ≤ self.now.length }
+        requires handed_out { mark.now.place + head_size + mark.now.length ≤ self.now.length }
         ensures body { IfSome (D.state disk.old).content (λ bytes.
             (entry : Entry) → StandsAt bytes mark.now.place entry → mark.now.length ≡ length entry.body
             → IfOk result (λ body. body ≡ entry.body)) }
-        ensures gives { IfSome (D.state disk.old).content (λ bytes. GivesBody bytes (mark.now.place + 6) mark.now.length result) }
+        ensures gives { IfSome (D.state disk.old).content (λ bytes. GivesBody bytes (mark.now.place + head_size) mark.now.length result) }
         ensures disk_stays { Looks (D.state disk.old) (D.state disk.new) }
         ensures calls { (D.state disk.new).calls ≤ (D.state disk.old).calls + 1 }
         ensures cause { IsErrOf result ReadError.StoreFault → DiskFailed (D.state disk.old) (D.state disk.new) }
@@ -163,14 +170,19 @@ impl Opening {
         // disk reads as.
         ensures any_moment { IfSome (D.state disk.old).content (λ bytes.
             (entries : List Entry) → HasReadAll self entries bytes (D.state disk.old).images
-            → LeavesOnly (D.state disk.old) (D.state disk.new) (StandsFor entries)) }
+            → LeavesOnly (D.state disk.old) (D.state disk.new) (JournalText entries)) }
         ensures stands { IfSome (D.state disk.old).content (λ bytes.
             (entries : List Entry) → HasReadAll self entries bytes (D.state disk.old).images
-            → IsSomeAnd (D.state disk.new).content (StandsFor entries)) }
+            → IsSomeAnd (D.state disk.new).content (JournalText entries)) }
 
+        // Nothing but the version byte of a journal of the first version is written.
+        ensures migrated { self.version ≡ first_version → OnOk result ((D.state disk.new).content
+            ≡ option_map (λ bytes. written bytes version_place (second_version ∷ [])) (D.state disk.old).content) }
         ensures untouched { self.version ≢ first_version → disk.new ≡ disk.old }
+        ensures torn { WhereTold (Tears version_place 1) (D.state disk.old).content (D.state disk.new).content }
+        ensures tears { MayTear version_place 1 (D.state disk.old) (D.state disk.new) }
+
         ensures calls { (D.state disk.new).calls ≤ (D.state disk.old).calls + 2 }
-        ensures goes_on { GoesOn (D.state disk.old) (D.state disk.new) }
         ensures cause { OnErr result (DiskFailed (D.state disk.old) (D.state disk.new)) }
     {
         let journal = Journal::behind(self.place, self.limit);
@@ -209,7 +221,7 @@ fn version_at<D: Disk>(disk: &mut D) -> Result<Option<u8>, Failed>
 
 /// The version byte in the first eight bytes.
 fn version_in(front: &[u8]) -> Option<u8>
-    requires { length front.now ≤ 8 }
+    requires { length front.now ≤ first_gate }
     ensures { MatchOption result (¬ (HasHeader front.now)) (λ v. front.now ≡ header v) }
 {
     let (magic, version) = front.split_at_checked(MAGIC.len())?;

@@ -1,8 +1,9 @@
 // Reading what a journal holds.
 ghost use Rattle.std.specs.Prelude.{◌≡◌, ◌≢◌, ◌+◌, ◌<◌, ◌≤◌, ◌^◌, ◌↔◌, length, IfSome, IfOk, OnOk, OnErr, IsErrOf, IsTrue, MatchResult, vec_len};
+ghost use Rattle.std.specs.Int.{div_ceil};
 ghost use Rattle.soc_edge.specs.Disk.{Looks, DiskFailed};
 ghost use Rattle.soc_journal.specs.Entries.{Entry};
-ghost use Rattle.soc_journal.specs.Bodies.{StandsBefore, ReadsFrom, GivesBody};
+ghost use Rattle.soc_journal.specs.Bodies.{StandsBefore, ReadsFrom, GivesBody, piece_size};
 
 use crate::error::ReadError;
 use crate::format::{ENTRY_HEAD, SECOND_VERSION};
@@ -13,7 +14,7 @@ use soc_raw::Bytes;
 use std::alloc::{AllocError, Global};
 
 /// How many bytes are compared at once.
-const PIECE: usize = 4096;
+const PIECE: usize = 65_536;
 
 impl Journal {
     /// The body of the entry at a place. `Altered` comes exactly where no entry that ends at or before the closed gate
@@ -35,10 +36,12 @@ impl Journal {
         }
     }
 
-    /// Whether the disk reads as the text from a place on. It takes no memory.
+    /// Whether the disk reads as the text from a place on, by one call of the disk and one for each 64 KiB begun. It takes
+    /// no memory.
     pub fn holds<D: Disk>(&self, disk: &mut D, place: u64, text: &[u8]) -> Result<bool, Failed>
         ensures holds { IfOk result (λ holds. IfSome (D.state disk.old).content (λ bytes. IsTrue holds ↔ ReadsFrom bytes place text.now)) }
         ensures disk_stays { Looks (D.state disk.old) (D.state disk.new) }
+        ensures calls { (D.state disk.new).calls ≤ (D.state disk.old).calls + 1 + div_ceil (length text.now) piece_size }
         ensures cause { OnErr result (DiskFailed (D.state disk.old) (D.state disk.new)) }
     {
         let length = disk.len()?;
@@ -80,6 +83,7 @@ fn reads_from<D: Disk>(disk: &mut D, place: u64, text: &[u8]) -> Result<bool, Fa
     requires { place + length text.now < 2 ^ 64 }
     ensures holds { IfOk result (λ holds. IfSome (D.state disk.old).content (λ bytes. IsTrue holds ↔ ReadsFrom bytes place text.now)) }
     ensures disk_stays { Looks (D.state disk.old) (D.state disk.new) }
+    ensures calls { (D.state disk.new).calls ≤ (D.state disk.old).calls + div_ceil (length text.now) piece_size }
     ensures cause { OnErr result (DiskFailed (D.state disk.old) (D.state disk.new)) }
 {
     let mut buffer = [0; PIECE];

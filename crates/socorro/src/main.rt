@@ -2,6 +2,7 @@
 #![tactic(auto)]
 
 mod clock;
+mod disk;
 mod draws;
 mod folder;
 mod streams;

@@ -2,7 +2,9 @@ use Rattle.std.proofs.Common.{◌≡◌, ◌+◌, ◌-◌, ◌∙◌, ap, refl, 
 use Rattle.soc_journal.specs.Entries.{entry_text}
 use Rattle.soc_journal.specs.States.{JournalState}
 use Rattle.soc_journal.proofs.Texts.{length-entry_text, length-sealed}
-use Rattle.soc_journal.proofs.Appends.{over_limit, within_limit, not_full, behind_slice, doubt_first, doubt_second, acknowledged, any_first, any_second}
+use Rattle.soc_journal.proofs.Appends.{over_limit, within_limit, not_full, behind_slice, doubt_first, doubt_second, acknowledged, any_first, any_second, tears_first, tears_second, torn_first_told, torn_second_told, content_told}
+use Rattle.soc_edge.proofs.Disks.{Looks-none, MayTear-looks}
+use Rattle.soc_journal.proofs.Ranges.{WhereTold-same}
 use Rattle.soc_journal.proofs.journal.Journal.append.Goals as goal
 
 pub returns-then-not-has_room-clause-full : goal.returns-then-not-has_room-clause-full
@@ -72,3 +74,44 @@ returns-clause-any_moment g c =
     let is_piece = behind_slice _ _ c.as_slice-text.ensures.text in
     any_second c.args.self.now c.self.inside.gate at c.args.entry.now _ is_piece _ _ _ _ _ _ c.as_slice-text.ensures.legal
     c.write_and_sync.ensures.tears c.in_ok-write_and_sync.ensures.written c.in_ok-write_and_sync.ensures.durable c.write_and_sync-2.ensures.tears
+
+pub returns-then-not-has_room-clause-torn : goal.returns-then-not-has_room-clause-torn
+returns-then-not-has_room-clause-torn g c = WhereTold-same _ _ _ _ refl
+
+pub returns-then-not-has_room-clause-tears : goal.returns-then-not-has_room-clause-tears
+returns-then-not-has_room-clause-tears g c = MayTear-looks _ _ _ _ (Looks-none _ (g.met.D.Disk.sound c.args.disk.now))
+
+pub returns-in_err-write_and_sync-clause-torn : goal.returns-in_err-write_and_sync-clause-torn
+returns-in_err-write_and_sync-clause-torn g c =
+    let at = sym (ap (λ (x : JournalState). x.gate) c.self.view_is) in
+    torn_first_told _ _ at c.args.entry.now _ (behind_slice _ _ c.as_slice-text.ensures.text) _ _ c.write_and_sync.ensures.torn
+
+pub returns-in_err-write_and_sync-clause-tears : goal.returns-in_err-write_and_sync-clause-tears
+returns-in_err-write_and_sync-clause-tears g c =
+    let at = sym (ap (λ (x : JournalState). x.gate) c.self.view_is) in
+    tears_first _ _ at c.args.entry.now _ (behind_slice _ _ c.as_slice-text.ensures.text) _ _ c.write_and_sync.ensures.tears
+
+pub returns-in_err-write_and_sync-2-clause-torn : goal.returns-in_err-write_and_sync-2-clause-torn
+returns-in_err-write_and_sync-2-clause-torn g c =
+    let at = sym (ap (λ (x : JournalState). x.gate) c.self.view_is) in
+    torn_second_told _ _ at c.args.entry.now _ (behind_slice _ _ c.as_slice-text.ensures.text) _ _ _ c.write_and_sync.ensures.torn c.write_and_sync-2.ensures.torn
+
+pub returns-in_err-write_and_sync-2-clause-tears : goal.returns-in_err-write_and_sync-2-clause-tears
+returns-in_err-write_and_sync-2-clause-tears g c =
+    let at = sym (ap (λ (x : JournalState). x.gate) c.self.view_is) in
+    tears_second _ _ at c.args.entry.now _ (behind_slice _ _ c.as_slice-text.ensures.text) _ _ _ c.write_and_sync.ensures.tears c.write_and_sync-2.ensures.tears
+
+pub returns-clause-content : goal.returns-clause-content
+returns-clause-content g c =
+    let at = sym (ap (λ (x : JournalState). x.gate) c.self.view_is) in
+    content_told _ _ at c.args.entry.now _ (behind_slice _ _ c.as_slice-text.ensures.text) _ _ _ c.in_ok-write_and_sync.ensures.written c.in_ok-write_and_sync-2.ensures.written
+
+pub returns-clause-torn : goal.returns-clause-torn
+returns-clause-torn g c =
+    let at = sym (ap (λ (x : JournalState). x.gate) c.self.view_is) in
+    torn_second_told _ _ at c.args.entry.now _ (behind_slice _ _ c.as_slice-text.ensures.text) _ _ _ c.write_and_sync.ensures.torn c.write_and_sync-2.ensures.torn
+
+pub returns-clause-tears : goal.returns-clause-tears
+returns-clause-tears g c =
+    let at = sym (ap (λ (x : JournalState). x.gate) c.self.view_is) in
+    tears_second _ _ at c.args.entry.now _ (behind_slice _ _ c.as_slice-text.ensures.text) _ _ _ c.write_and_sync.ensures.tears c.write_and_sync-2.ensures.tears

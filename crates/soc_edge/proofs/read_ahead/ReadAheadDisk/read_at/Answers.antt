@@ -1,0 +1,8 @@
+use Rattle.std.proofs.Common.{ap, refl}
+use Rattle.soc_edge.proofs.Windows.{read_covered}
+use Rattle.soc_edge.proofs.read_ahead.ReadAheadDisk.read_at.Goals as goal
+
+pub returns-then-covers-clause-bytes : goal.returns-then-covers-clause-bytes
+returns-then-covers-clause-bytes g c =
+    read_covered (g.D.Disk.state c.self.inside.disk).content _ (ap (λ a. (g.D.Disk.state a.disk).content) c.self.view_is)
+    c.self.inside.window.from c.self.inside.window.held c.self.inside.window.bytes.items c.self.invariant c.args.place _ _ _ (c.if-covers.ensures.0 refl) c.copy_to.auto.into c.copy_to.ensures.reads
