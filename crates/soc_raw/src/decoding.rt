@@ -3,11 +3,12 @@ ghost use Rattle.std.specs.Prelude.{◌≡◌};
 ghost use Rattle.soc_raw.specs.Reading.{Gives, crash_at};
 ghost use Rattle.soc_raw.specs.Parts.{crash_of_parts};
 
+use crate::blobs::Blobs;
 use crate::crash_id::CrashId;
-use crate::named::{Blobs, Texts};
 use crate::reading::{blobs_at, id_at, moment_at, text_at, texts_at, u64_at};
 use crate::record_error::RecordError;
 use crate::text::Text;
+use crate::texts::Texts;
 use std::alloc::Global;
 
 /// The parts of a record; whether they keep the limits of a raw crash isn't said here.

@@ -3,14 +3,15 @@ ghost use Rattle.std.specs.Prelude.{◌≡◌, ◌≤◌, ◌↔◌, length, dro
 ghost use Rattle.soc_raw.specs.Day.{IsMoment};
 ghost use Rattle.soc_raw.specs.Record.{MAX_RECORD as max_record, Crash, IsCrash, record_of, head_text, content_text};
 
+use crate::blobs::Blobs;
 use crate::bytes::Bytes;
 use crate::copies::{are_same_blobs, are_same_texts, copy_of_blobs, copy_of_texts};
 use crate::crash_id::CrashId;
 use crate::decoding::parts_of;
-use crate::named::{Blobs, Texts};
 use crate::no_memory::NoMemory;
 use crate::record_error::RecordError;
 use crate::text::Text;
+use crate::texts::Texts;
 use crate::writing::{len_of_blobs, len_of_texts, put_blobs, put_counted, put_texts};
 use std::alloc::Global;
 

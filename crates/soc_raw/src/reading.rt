@@ -5,12 +5,13 @@ ghost use Rattle.std.specs.Int.{w32, w64};
 ghost use Rattle.soc_raw.specs.Names.{IsRising};
 ghost use Rattle.soc_raw.specs.Reading.{Gives, number_at, bytes_at, blob_at, text_at, id_at, moment_at, text_pair_at, blob_pair_at, is_above, last_name, pairs_at, counted_pairs_at};
 
+use crate::blobs::Blobs;
 use crate::bytes::Bytes;
 use crate::crash_id::CrashId;
 use crate::day::{FIRST_MOMENT, LAST_MOMENT};
-use crate::named::{Blobs, Texts};
 use crate::record_error::RecordError;
 use crate::text::Text;
+use crate::texts::Texts;
 use std::alloc::Global;
 
 const MAX_ANNOTATIONS: u32 = 1024;

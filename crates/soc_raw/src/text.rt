@@ -1,4 +1,4 @@
-// Owned text.
+//! Owned text.
 ghost use Rattle.std.specs.Prelude.{◌≡◌, IfOk};
 ghost use Rattle.std.specs.Str.{IsUtf8};
 

@@ -4,8 +4,9 @@ ghost use Rattle.std.specs.List.{AllByRecursion};
 ghost use Rattle.soc_raw.specs.Names.{IsRising};
 ghost use Rattle.soc_raw.specs.Record.{counted, pair_text, pairs_text, IsText, HasTextName};
 
-use crate::named::{Blobs, Texts};
+use crate::blobs::Blobs;
 use crate::no_memory::NoMemory;
+use crate::texts::Texts;
 
 /// Writes a text or a blob: its length, and its bytes.
 pub fn put_counted(out: &mut Vec<u8>, bytes: &[u8]) -> Result<(), NoMemory>
@@ -26,8 +27,7 @@ pub fn put_texts(out: &mut Vec<u8>, texts: &Texts) -> Result<(), NoMemory>
     ensures rising { IsRising texts.now }
 {
     out.extend_from_slice(&(texts.len() as u32).to_le_bytes())?;
-    for i in 0..texts.len() {
-        let (name, value) = texts.at(i);
+    for (name, value) in texts {
         put_counted(out, name.as_bytes())?;
         put_counted(out, value.as_bytes())?;
     }
@@ -43,8 +43,7 @@ pub fn put_blobs(out: &mut Vec<u8>, blobs: &Blobs) -> Result<(), NoMemory>
     ensures rising { IsRising blobs.now }
 {
     out.extend_from_slice(&(blobs.len() as u32).to_le_bytes())?;
-    for i in 0..blobs.len() {
-        let (name, value) = blobs.at(i);
+    for (name, value) in blobs {
         put_counted(out, name.as_bytes())?;
         put_counted(out, value)?;
     }
@@ -57,8 +56,7 @@ pub fn len_of_texts(texts: &Texts) -> usize
     ensures { result ≡ length (pairs_text texts.now) }
 {
     let mut total = 4;
-    for i in 0..texts.len() {
-        let (name, value) = texts.at(i);
+    for (name, value) in texts {
         total += 8 + name.len() + value.len();
     }
     total
@@ -70,8 +68,7 @@ pub fn len_of_blobs(blobs: &Blobs) -> usize
     ensures { result ≡ length (pairs_text blobs.now) }
 {
     let mut total = 4;
-    for i in 0..blobs.len() {
-        let (name, value) = blobs.at(i);
+    for (name, value) in blobs {
         total += 8 + name.len() + value.len();
     }
     total

@@ -1,7 +1,7 @@
 use Rattle.std.proofs.Common.{◌∙◌, ap, refl, Ok, Err}
 use Rattle.soc_raw.specs.Names.{value_of}
 use Rattle.soc_raw.proofs.Places.{found_at_place, missing_at_gap, place_along}
-use Rattle.soc_raw.proofs.named.NameMap.get.Goals as goal
+use Rattle.soc_raw.proofs.sorted.Sorted.get.Goals as goal
 
 pub returns-in-Ok : goal.returns-in-Ok
 returns-in-Ok g c =

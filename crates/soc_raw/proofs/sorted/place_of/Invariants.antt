@@ -1,6 +1,6 @@
 use Rattle.std.proofs.Common.{◌≤◌, length, map, ◌-◌}
 use Rattle.soc_raw.specs.Names.{IsBelow, IsAbove}
-use Rattle.soc_raw.proofs.named.place_of.Given as goal
+use Rattle.soc_raw.proofs.sorted.place_of.Given as goal
 
 abbrev pub invariant-loop-low : goal.invariant-loop-low
 invariant-loop-low g l =

@@ -1,7 +1,7 @@
 use Rattle.std.proofs.Common.{refl, map, ◌∙◌, ap, Ok, Err}
 use Rattle.soc_raw.specs.Names.{with_value}
 use Rattle.soc_raw.proofs.Places.{written_at_place, inserted_at_gap, rising_after, place_along}
-use Rattle.soc_raw.proofs.named.NameMap.set.Goals as goal
+use Rattle.soc_raw.proofs.sorted.Sorted.set.Goals as goal
 
 pub invariant_of-self : goal.invariant_of-self
 invariant_of-self g c =
