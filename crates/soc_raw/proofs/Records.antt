@@ -126,7 +126,7 @@ blob_splits bytes x fits e =
     let P : ℕ → Type 0 = λ k. Splits bytes (to_le_bytes w32 k ++ x.0) x.1 in
     subst P (sym t.1) both
 
-blob_again : (x rest : List ℕ) → length x < 2 ^ 32 → blob_at (counted x ++ rest) ≡ Some (x, rest)
+pub blob_again : (x rest : List ℕ) → length x < 2 ^ 32 → blob_at (counted x ++ rest) ≡ Some (x, rest)
 unfolding blob_at
 blob_again x rest short =
     rw (number_again w32 (2 ^ 32) four (length x) (x ++ rest) short) (bytes_again (length x) x rest refl)

@@ -1,4 +1,5 @@
 pub mod CrashId
+pub mod Cursor
 pub mod Day
 pub mod Digit
 pub mod Names

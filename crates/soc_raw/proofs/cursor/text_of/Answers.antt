@@ -1,5 +1,5 @@
 use Rattle.soc_raw.proofs.Readers.{no_text, is_text}
-use Rattle.soc_raw.proofs.reading.text_of.Goals as goal
+use Rattle.soc_raw.proofs.cursor.text_of.Goals as goal
 
 pub returns-in-Ok : goal.returns-in-Ok
 returns-in-Ok c = (is_text _ c.in-Ok.ensures.cases.1, c.in-Ok.ensures.cases.0)
