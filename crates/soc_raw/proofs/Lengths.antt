@@ -52,16 +52,16 @@ pairs_more done left rest n v name value base old mid new at is_name is_value so
     ∙ ap (λ t. (base ++ flat_map pair_text done) ++ (counted n ++ counted t)) is_value
     ∙ flat_map_more pair_text base done (n, v)
 
-regrouped : (a b c d e f : List ℕ) → ((((a ++ b) ++ c) ++ d) ++ e) ++ f ≡ (a ++ (b ++ (c ++ d))) ++ (e ++ f)
-regrouped a b c d e f = simp append_assoc
+regrouped : (s a b c d e f : List ℕ) → (((((s ++ a) ++ b) ++ c) ++ d) ++ e) ++ f ≡ s ++ ((a ++ (b ++ (c ++ d))) ++ (e ++ f))
+regrouped s a b c d e f = simp append_assoc
 
--- the parts one after the other are the record
-pub encoded : (c : Crash) (start a b d e f g mb db : List ℕ) (id rule : List ℕ) → id ≡ c.id → rule ≡ c.rule → start ≡ [] → a ≡ start ++ id → mb ≡ to_le_bytes w64 c.moment → b ≡ a ++ mb → db ≡ to_le_bytes w64 c.draw → d ≡ b ++ db → e ≡ d ++ counted rule → f ≡ e ++ pairs_text c.annotations → g ≡ f ++ pairs_text c.dumps → g ≡ record_of c
+-- the parts one after the other are the record, behind what stood there
+pub encoded : (c : Crash) (start a b d e f g mb db : List ℕ) (id rule : List ℕ) → id ≡ c.id → rule ≡ c.rule → a ≡ start ++ id → mb ≡ to_le_bytes w64 c.moment → b ≡ a ++ mb → db ≡ to_le_bytes w64 c.draw → d ≡ b ++ db → e ≡ d ++ counted rule → f ≡ e ++ pairs_text c.annotations → g ≡ f ++ pairs_text c.dumps → g ≡ start ++ record_of c
 unfolding record_of head_text content_text
-encoded c start a b d e f g mb db id rule is_id is_rule empty pa m pb w pd pe pf pg =
-    let first : a ≡ c.id = pa ∙ ap (λ t. t ++ id) empty ∙ is_id in
-    let second : b ≡ c.id ++ to_le_bytes w64 c.moment = pb ∙ ap (λ t. t ++ mb) first ∙ ap (λ t. c.id ++ t) m in
-    let third : d ≡ (c.id ++ to_le_bytes w64 c.moment) ++ to_le_bytes w64 c.draw = pd ∙ ap (λ t. t ++ db) second ∙ ap (λ t. (c.id ++ to_le_bytes w64 c.moment) ++ t) w in
-    let fourth : e ≡ ((c.id ++ to_le_bytes w64 c.moment) ++ to_le_bytes w64 c.draw) ++ counted c.rule = pe ∙ ap (λ t. t ++ counted rule) third ∙ ap (λ t. ((c.id ++ to_le_bytes w64 c.moment) ++ to_le_bytes w64 c.draw) ++ counted t) is_rule in
+encoded c start a b d e f g mb db id rule is_id is_rule pa m pb w pd pe pf pg =
+    let first : a ≡ start ++ c.id = pa ∙ ap (λ t. start ++ t) is_id in
+    let second : b ≡ (start ++ c.id) ++ to_le_bytes w64 c.moment = pb ∙ ap (λ t. t ++ mb) first ∙ ap (λ t. (start ++ c.id) ++ t) m in
+    let third : d ≡ ((start ++ c.id) ++ to_le_bytes w64 c.moment) ++ to_le_bytes w64 c.draw = pd ∙ ap (λ t. t ++ db) second ∙ ap (λ t. ((start ++ c.id) ++ to_le_bytes w64 c.moment) ++ t) w in
+    let fourth : e ≡ (((start ++ c.id) ++ to_le_bytes w64 c.moment) ++ to_le_bytes w64 c.draw) ++ counted c.rule = pe ∙ ap (λ t. t ++ counted rule) third ∙ ap (λ t. (((start ++ c.id) ++ to_le_bytes w64 c.moment) ++ to_le_bytes w64 c.draw) ++ counted t) is_rule in
     pg ∙ ap (λ t. t ++ pairs_text c.dumps) (pf ∙ ap (λ t. t ++ pairs_text c.annotations) fourth)
-    ∙ regrouped c.id (to_le_bytes w64 c.moment) (to_le_bytes w64 c.draw) (counted c.rule) (pairs_text c.annotations) (pairs_text c.dumps)
+    ∙ regrouped start c.id (to_le_bytes w64 c.moment) (to_le_bytes w64 c.draw) (counted c.rule) (pairs_text c.annotations) (pairs_text c.dumps)

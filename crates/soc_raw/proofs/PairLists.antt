@@ -13,9 +13,11 @@ use Rattle.std.proofs.lemmas.Map.Iter.{rest_so_far}
 use Rattle.std.specs.Map.{keys_of}
 use Rattle.std.specs.Map.Iter.{TakesFirst, deref_pair}
 use Rattle.std.specs.BTreeMap.{insert_entry}
-use Rattle.std.specs.declared.cmp.Ordering.TheVariants.{Less, Greater}
+use Rattle.std.specs.declared.cmp.Ordering.TheVariants.{Less, Equal, Greater}
 use Rattle.std.proofs.Common.{Bor, map}
+use Rattle.std.specs.Prelude.{Result, Ok, Err, OnOk, OnErr}
 use Rattle.soc_raw.specs.Names.{IsRising, with_value}
+use Rattle.soc_raw.specs.Record.{IsText, HasTextName}
 
 pub some_same : {X : Type 0} (x y : X) → Some x ≡ Some y → x ≡ y
 some_same x y e = cc
@@ -41,11 +43,6 @@ copied all copy left rest new n m v w rising next is_name is_value set so_far =
     let whole : copy ++ (n, v) ∷ rest ≡ all = ap (λ t. copy ++ t) (sym next) ∙ so_far in
     let put : new ≡ copy ++ (n, v) ∷ [] = set ∙ ap (λ k. with_value copy k w) is_name ∙ ap (λ u. with_value copy n u) is_value ∙ set_next copy rest (n, v) (subst (λ t. IsRising t) (sym whole) rising) in
     ap (λ t. t ++ rest) put ∙ append_assoc copy ((n, v) ∷ []) rest ∙ whole
-
--- one pair more of a kind
-pub all_more : {X : Type 0} (Is : X → Type 0) (xs : List X) (x : X) → AllByRecursion Is xs → Is x → AllByRecursion Is (xs ++ x ∷ [])
-all_more Is [] x all is = (is, tt)
-all_more Is (y ∷ xs) x all is = (all.0, all_more Is xs x all.1 is)
 
 -- two iterators whose items were compared to their ends
 module _ {A B : Type 0} (view : A → B) (eq : A → A → Bool) (same : (x y : A) → eq x y ≡ true → view x ≡ view y) (differs : (x y : A) → eq x y ≡ false → view x ≡ view y → ⊥) where
@@ -100,3 +97,24 @@ pair_differs x y e h =
     let yes : pair_eq x y ≡ true = ap (λ b. b && bytes_eq x.1.now y.1.now) name ∙ value in
     let no_way : true ≡ false = sym yes ∙ e in
     cc
+
+-- what holds of each pair holds once a name has a value
+module _ (Is : List ℕ × List ℕ → Type 0) (keeps : (p : List ℕ × List ℕ) (n v : List ℕ) → Is p → Is (n, v) → Is (p.0, v)) where
+  all_with : (ps : List (List ℕ × List ℕ)) (n v : List ℕ) → AllByRecursion Is ps → Is (n, v) → AllByRecursion Is (with_value ps n v)
+  all_with [] n v all is = (is, tt)
+  all_with (p ∷ ps) n v all is =
+      elim (slice_cmp nat_cmp n p.0) as (λ o. AllByRecursion Is (match_ordering o ((n, v) ∷ p ∷ ps) ((p.0, v) ∷ ps) (p ∷ insert_entry (slice_cmp nat_cmp) ps n v))) [
+        | Less ↦ (is, all)
+        | Equal ↦ (keeps p n v all.0 is, all.1)
+        | Greater ↦ (all.0, all_with ps n v all.1 is)
+      ]
+
+  pub all_set : {T E : Type 0} (r : Result T E) (old new : List (List ℕ × List ℕ)) (n v : List ℕ) → OnOk r (new ≡ with_value old n v) → OnErr r (new ≡ old) → AllByRecursion Is old → Is (n, v) → AllByRecursion Is new
+  all_set (Ok _) old new n v done failed all is = subst (λ ps. AllByRecursion Is ps) (sym done) (all_with old n v all is)
+  all_set (Err _) old new n v done failed all is = subst (λ ps. AllByRecursion Is ps) (sym failed) all
+
+pub keeps_text : (p : List ℕ × List ℕ) (n v : List ℕ) → IsText p → IsText (n, v) → IsText (p.0, v)
+keeps_text p n v old new = (old.0, new.1)
+
+pub keeps_name : (p : List ℕ × List ℕ) (n v : List ℕ) → HasTextName p → HasTextName (n, v) → HasTextName (p.0, v)
+keeps_name p n v old new = old

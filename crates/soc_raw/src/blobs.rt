@@ -1,7 +1,9 @@
 //! Bytes by name.
 ghost use Rattle.std.specs.Prelude.{◌≡◌, ◌<◌, ◌↔◌, [], length, IsTrue, OnOk, OnErr, slice_get};
+ghost use Rattle.std.specs.List.{AllByRecursion};
 ghost use Rattle.std.specs.Option.{option_copied};
 ghost use Rattle.soc_raw.specs.Names.{IsRising, value_of, with_value};
+ghost use Rattle.soc_raw.specs.Record.{HasTextName};
 
 use crate::bytes::Bytes;
 use crate::named::BlobPairs;
@@ -22,7 +24,12 @@ impl Model for Blobs {
 
     ghost Value = { List (List ℕ × List ℕ) };
 
+    ghost use Rattle.std.specs.List.{AllByRecursion};
+    ghost use Rattle.soc_raw.specs.Record.{HasTextName};
+
     ghost view = { λ t. t.map };
+
+    ghost invariant = { λ t. AllByRecursion HasTextName t.map };
 }
 
 impl Blobs {
@@ -40,6 +47,8 @@ impl Blobs {
         ensures ok { OnOk result (self.new ≡ with_value self.old name value) }
         ensures err { OnErr result (self.new ≡ self.old) }
     {
+        // A name is UTF-8.
+        let _name = name.as_str();
         self.map.set(name, value)
     }
 
@@ -57,6 +66,7 @@ impl Blobs {
     pub fn len(&self) -> usize
         ensures count { result ≡ length self.now }
         ensures rising { IsRising self.now }
+        ensures names { AllByRecursion HasTextName self.now }
     {
         self.map.len()
     }
@@ -81,6 +91,7 @@ impl Blobs {
     pub fn iter(&self) -> BlobPairs<'_>
         ensures rest { result ≡ self.now }
         ensures rising { IsRising self.now }
+        ensures names { AllByRecursion HasTextName self.now }
     {
         BlobPairs::of(self.map.iter())
     }
@@ -88,13 +99,15 @@ impl Blobs {
 
 impl<'a> IntoIterator for &'a Blobs {
     ghost use Rattle.std.specs.Prelude.{◌≡◌};
+    ghost use Rattle.std.specs.List.{AllByRecursion};
+    ghost use Rattle.soc_raw.specs.Record.{HasTextName};
     ghost use Rattle.soc_raw.specs.Names.{IsRising};
 
     type Item = (&'a str, &'a [u8]);
 
     type IntoIter = BlobPairs<'a>;
 
-    ghost into_iter_gives = { λ m it. (it ≡ m.now) × IsRising m.now };
+    ghost into_iter_gives = { λ m it. (it ≡ m.now) × IsRising m.now × AllByRecursion HasTextName m.now };
 
     fn into_iter(self) -> BlobPairs<'a> {
         self.iter()

@@ -32,7 +32,7 @@ pub use digit::Digit;
 pub use named::{BlobPairs, NamedValues, TextPairs};
 pub use no_memory::NoMemory;
 pub use pairs::Pairs;
-pub use raw_crash::{RawCrash, one_crash};
+pub use raw_crash::{RawCrash, one_content, one_crash};
 pub use record_error::RecordError;
 pub use sorted::Sorted;
 pub use text::Text;

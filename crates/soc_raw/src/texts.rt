@@ -1,7 +1,9 @@
 //! Texts by name.
 ghost use Rattle.std.specs.Prelude.{◌≡◌, ◌<◌, ◌↔◌, [], length, IsTrue, OnOk, OnErr, slice_get};
+ghost use Rattle.std.specs.List.{AllByRecursion};
 ghost use Rattle.std.specs.Option.{option_copied};
 ghost use Rattle.soc_raw.specs.Names.{IsRising, value_of, with_value};
+ghost use Rattle.soc_raw.specs.Record.{IsText};
 
 use crate::named::TextPairs;
 use crate::no_memory::NoMemory;
@@ -21,7 +23,12 @@ impl Model for Texts {
 
     ghost Value = { List (List ℕ × List ℕ) };
 
+    ghost use Rattle.std.specs.List.{AllByRecursion};
+    ghost use Rattle.soc_raw.specs.Record.{IsText};
+
     ghost view = { λ t. t.map };
+
+    ghost invariant = { λ t. AllByRecursion IsText t.map };
 }
 
 impl Texts {
@@ -39,6 +46,9 @@ impl Texts {
         ensures ok { OnOk result (self.new ≡ with_value self.old name value) }
         ensures err { OnErr result (self.new ≡ self.old) }
     {
+        // Texts are UTF-8.
+        let _name = name.as_str();
+        let _value = value.as_str();
         self.map.set(name, value)
     }
 
@@ -56,6 +66,7 @@ impl Texts {
     pub fn len(&self) -> usize
         ensures count { result ≡ length self.now }
         ensures rising { IsRising self.now }
+        ensures texts { AllByRecursion IsText self.now }
     {
         self.map.len()
     }
@@ -80,6 +91,7 @@ impl Texts {
     pub fn iter(&self) -> TextPairs<'_>
         ensures rest { result ≡ self.now }
         ensures rising { IsRising self.now }
+        ensures texts { AllByRecursion IsText self.now }
     {
         TextPairs::of(self.map.iter())
     }
@@ -87,13 +99,15 @@ impl Texts {
 
 impl<'a> IntoIterator for &'a Texts {
     ghost use Rattle.std.specs.Prelude.{◌≡◌};
+    ghost use Rattle.std.specs.List.{AllByRecursion};
+    ghost use Rattle.soc_raw.specs.Record.{IsText};
     ghost use Rattle.soc_raw.specs.Names.{IsRising};
 
     type Item = (&'a str, &'a str);
 
     type IntoIter = TextPairs<'a>;
 
-    ghost into_iter_gives = { λ m it. (it ≡ m.now) × IsRising m.now };
+    ghost into_iter_gives = { λ m it. (it ≡ m.now) × IsRising m.now × AllByRecursion IsText m.now };
 
     fn into_iter(self) -> TextPairs<'a> {
         self.iter()
