@@ -1,11 +1,10 @@
 -- How long a record is, and its parts as they are written.
-use Rattle.std.proofs.Common.{◌≡◌, ℕ, zero, suc, ◌+◌, ◌^◌, ◌<◌, ◌≤◌, List, [], ◌∷◌, ◌++◌, length, length-append, take, drop, Some, sym, ap, ◌∙◌, arith, append_assoc, refl}
-use Rattle.std.specs.Prelude.{slice_get, flat_map, sum_by}
+use Rattle.std.proofs.Common.{◌≡◌, ℕ, ◌+◌, ◌^◌, ◌<◌, ◌≤◌, List, [], ◌∷◌, ◌++◌, length, length-append, drop, sym, ap, ◌∙◌, arith, append_assoc, refl}
+use Rattle.std.specs.Prelude.{flat_map, sum_by}
 use Rattle.std.specs.Int.{w64, to_le_bytes}
 use Rattle.std.proofs.lemmas.List.Sums.{sum_by-cons}
 use Rattle.std.proofs.lemmas.List.{flat_map_more, drop_at}
 use Rattle.soc_raw.specs.Record.{Crash, pair_len, counted, pair_text, pairs_text, head_text, content_text, record_of, MAX_RECORD}
-use Rattle.soc_raw.proofs.PairLists.{take_next, some_same}
 
 pub head_length : (c : Crash) → length c.id + 8 + 8 + 4 + length c.rule ≡ length (head_text c)
 unfolding head_text
@@ -44,65 +43,25 @@ pub content_at : (c : Crash) (n : ℕ) → n ≡ length (head_text c) → drop n
 unfolding record_of
 content_at c n e = drop_at (head_text c) (content_text c) n (sym e)
 
--- a pair is no longer than all of them
-pub pair_short : (ps : List (List ℕ × List ℕ)) (i : ℕ) (n v : List ℕ) → slice_get ps i ≡ Some (n, v) → (length n ≤ length (flat_map pair_text ps)) × (length v ≤ length (flat_map pair_text ps))
-pair_short [] i n v at = cc
-pair_short (p ∷ ps) zero n v at =
-    let name : p.0 ≡ n = ap (λ u. u.0) (some_same p (n, v) at) in
-    let value : p.1 ≡ v = ap (λ u. u.1) (some_same p (n, v) at) in
-    let long = length-append (pair_text p) (flat_map pair_text ps) in
-    let pair = length-append (counted p.0) (counted p.1) in
-    (rw (← name) (omega arith), rw (← value) (omega arith))
-pair_short (p ∷ ps) (suc i) n v at =
-    let more = pair_short ps i n v at in
-    let long = length-append (pair_text p) (flat_map pair_text ps) in
-    (omega arith, omega arith)
-
 -- one pair more is written
-pub pairs_more : (ps : List (List ℕ × List ℕ)) (i : ℕ) (n v name value base old mid new : List ℕ) → slice_get ps i ≡ Some (n, v) → name ≡ n → value ≡ v → old ≡ base ++ flat_map pair_text (take i ps) → mid ≡ old ++ counted name → new ≡ mid ++ counted value → new ≡ base ++ flat_map pair_text (take (i + 1) ps)
-pairs_more ps i n v name value base old mid new at is_name is_value so_far first second =
-    let e : suc i ≡ i + 1 = omega arith in
+pub pairs_more : (done left rest : List (List ℕ × List ℕ)) (n v name value base old mid new : List ℕ) → left ≡ (n, v) ∷ rest → name ≡ n → value ≡ v → old ≡ base ++ flat_map pair_text done → mid ≡ old ++ counted name → new ≡ mid ++ counted value → new ≡ base ++ flat_map pair_text (done ++ (n, v) ∷ [])
+pairs_more done left rest n v name value base old mid new at is_name is_value so_far first second =
     second ∙ ap (λ t. t ++ counted value) (first ∙ ap (λ t. t ++ counted name) so_far)
-    ∙ append_assoc (base ++ flat_map pair_text (take i ps)) (counted name) (counted value)
-    ∙ ap (λ t. (base ++ flat_map pair_text (take i ps)) ++ (counted t ++ counted value)) is_name
-    ∙ ap (λ t. (base ++ flat_map pair_text (take i ps)) ++ (counted n ++ counted t)) is_value
-    ∙ flat_map_more pair_text base (take i ps) (n, v)
-    ∙ ap (λ t. base ++ flat_map pair_text t) (sym (take_next ps i (n, v) at))
-    ∙ ap (λ k. base ++ flat_map pair_text (take k ps)) e
+    ∙ append_assoc (base ++ flat_map pair_text done) (counted name) (counted value)
+    ∙ ap (λ t. (base ++ flat_map pair_text done) ++ (counted t ++ counted value)) is_name
+    ∙ ap (λ t. (base ++ flat_map pair_text done) ++ (counted n ++ counted t)) is_value
+    ∙ flat_map_more pair_text base done (n, v)
 
-regrouped : (a b c d e f : List ℕ) → ((((a ++ b) ++ c) ++ d) ++ e) ++ f ≡ (a ++ (b ++ (c ++ d))) ++ (e ++ f)
-regrouped a b c d e f = simp append_assoc
+regrouped : (s a b c d e f : List ℕ) → (((((s ++ a) ++ b) ++ c) ++ d) ++ e) ++ f ≡ s ++ ((a ++ (b ++ (c ++ d))) ++ (e ++ f))
+regrouped s a b c d e f = simp append_assoc
 
--- the parts one after the other are the record
-pub encoded : (c : Crash) (start a b d e f g mb db : List ℕ) (id rule : List ℕ) → id ≡ c.id → rule ≡ c.rule → start ≡ [] → a ≡ start ++ id → mb ≡ to_le_bytes w64 c.moment → b ≡ a ++ mb → db ≡ to_le_bytes w64 c.draw → d ≡ b ++ db → e ≡ d ++ counted rule → f ≡ e ++ pairs_text c.annotations → g ≡ f ++ pairs_text c.dumps → g ≡ record_of c
+-- the parts one after the other are the record, behind what stood there
+pub encoded : (c : Crash) (start a b d e f g mb db : List ℕ) (id rule : List ℕ) → id ≡ c.id → rule ≡ c.rule → a ≡ start ++ id → mb ≡ to_le_bytes w64 c.moment → b ≡ a ++ mb → db ≡ to_le_bytes w64 c.draw → d ≡ b ++ db → e ≡ d ++ counted rule → f ≡ e ++ pairs_text c.annotations → g ≡ f ++ pairs_text c.dumps → g ≡ start ++ record_of c
 unfolding record_of head_text content_text
-encoded c start a b d e f g mb db id rule is_id is_rule empty pa m pb w pd pe pf pg =
-    let first : a ≡ c.id = pa ∙ ap (λ t. t ++ id) empty ∙ is_id in
-    let second : b ≡ c.id ++ to_le_bytes w64 c.moment = pb ∙ ap (λ t. t ++ mb) first ∙ ap (λ t. c.id ++ t) m in
-    let third : d ≡ (c.id ++ to_le_bytes w64 c.moment) ++ to_le_bytes w64 c.draw = pd ∙ ap (λ t. t ++ db) second ∙ ap (λ t. (c.id ++ to_le_bytes w64 c.moment) ++ t) w in
-    let fourth : e ≡ ((c.id ++ to_le_bytes w64 c.moment) ++ to_le_bytes w64 c.draw) ++ counted c.rule = pe ∙ ap (λ t. t ++ counted rule) third ∙ ap (λ t. ((c.id ++ to_le_bytes w64 c.moment) ++ to_le_bytes w64 c.draw) ++ counted t) is_rule in
+encoded c start a b d e f g mb db id rule is_id is_rule pa m pb w pd pe pf pg =
+    let first : a ≡ start ++ c.id = pa ∙ ap (λ t. start ++ t) is_id in
+    let second : b ≡ (start ++ c.id) ++ to_le_bytes w64 c.moment = pb ∙ ap (λ t. t ++ mb) first ∙ ap (λ t. (start ++ c.id) ++ t) m in
+    let third : d ≡ ((start ++ c.id) ++ to_le_bytes w64 c.moment) ++ to_le_bytes w64 c.draw = pd ∙ ap (λ t. t ++ db) second ∙ ap (λ t. ((start ++ c.id) ++ to_le_bytes w64 c.moment) ++ t) w in
+    let fourth : e ≡ (((start ++ c.id) ++ to_le_bytes w64 c.moment) ++ to_le_bytes w64 c.draw) ++ counted c.rule = pe ∙ ap (λ t. t ++ counted rule) third ∙ ap (λ t. (((start ++ c.id) ++ to_le_bytes w64 c.moment) ++ to_le_bytes w64 c.draw) ++ counted t) is_rule in
     pg ∙ ap (λ t. t ++ pairs_text c.dumps) (pf ∙ ap (λ t. t ++ pairs_text c.annotations) fourth)
-    ∙ regrouped c.id (to_le_bytes w64 c.moment) (to_le_bytes w64 c.draw) (counted c.rule) (pairs_text c.annotations) (pairs_text c.dumps)
-
-len_more : (ps : List (List ℕ × List ℕ)) (i : ℕ) (n v : List ℕ) → slice_get ps i ≡ Some (n, v) → (length (flat_map pair_text (take (suc i) ps)) ≡ length (flat_map pair_text (take i ps)) + (8 + length n + length v)) × (length (flat_map pair_text (take (suc i) ps)) ≤ length (flat_map pair_text ps))
-len_more [] i n v at = cc
-len_more (p ∷ ps) zero n v at =
-    let name : p.0 ≡ n = ap (λ u. u.0) (some_same p (n, v) at) in
-    let value : p.1 ≡ v = ap (λ u. u.1) (some_same p (n, v) at) in
-    let alone = length-append (pair_text p) [] in
-    let long = length-append (pair_text p) (flat_map pair_text ps) in
-    let pair = length-append (counted p.0) (counted p.1) in
-    (rw (← name, ← value) (omega arith), omega arith)
-len_more (p ∷ ps) (suc i) n v at =
-    let more = len_more ps i n v at in
-    let front = length-append (pair_text p) (flat_map pair_text (take i ps)) in
-    let next = length-append (pair_text p) (flat_map pair_text (take (suc i) ps)) in
-    let long = length-append (pair_text p) (flat_map pair_text ps) in
-    (omega arith, omega arith)
-
--- the length of one pair more, which is no longer than all pairs
-pub len_next : (ps : List (List ℕ × List ℕ)) (i : ℕ) (n v : List ℕ) → slice_get ps i ≡ Some (n, v) → (length (flat_map pair_text (take (i + 1) ps)) ≡ length (flat_map pair_text (take i ps)) + (8 + length n + length v)) × (length (flat_map pair_text (take (i + 1) ps)) ≤ length (flat_map pair_text ps))
-len_next ps i n v at =
-    let next : i + 1 ≡ suc i = omega arith in
-    let longer = len_more ps i n v at in
-    (rw next longer.0, rw next longer.1)
+    ∙ regrouped start c.id (to_le_bytes w64 c.moment) (to_le_bytes w64 c.draw) (counted c.rule) (pairs_text c.annotations) (pairs_text c.dumps)

@@ -1,4 +1,5 @@
 pub mod Calendar
+pub mod Cursors
 pub mod Ids
 pub mod Lengths
 pub mod PairLists

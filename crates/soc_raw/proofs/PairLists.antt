@@ -1,67 +1,120 @@
 -- Lists of pairs that are copied and compared pair by pair.
-use Rattle.std.proofs.Common.{◌≡◌, ℕ, zero, suc, ◌+◌, List, [], ◌∷◌, ◌++◌, take, Some, sym, ap, subst, ◌∙◌, arith, refl, Bool, true, false, not}
-use Rattle.std.specs.Prelude.{slice_get}
+use Rattle.std.proofs.Common.{◌≡◌, ℕ, List, [], ◌∷◌, ◌++◌, Option, Some, None, sym, ap, subst, ◌∙◌, refl, Bool, true, false, ◌&&◌, append_assoc}
+use Rattle.std.specs.Prelude.{MatchOption, IfSome, IsTrue}
 use Rattle.std.specs.Ordering.{nat_cmp, match_ordering, ordering_reverse}
-use Rattle.std.specs.List.{AllByRecursion}
+use Rattle.std.specs.Iterator.{YieldsThen}
+use Rattle.std.specs.List.{AllByRecursion, AllZip}
 use Rattle.std.specs.List.Sorted.{IsStrictlySortedBy}
 use Rattle.std.specs.Cmp.Lexicographic.{slice_cmp, nat_list_cmp_total}
 use Rattle.std.specs.Str.{bytes_eq}
 use Rattle.std.proofs.lemmas.Slice.Eq.{bytes_eq-Decides}
+use Rattle.std.proofs.lemmas.List.{append_cancel_left}
+use Rattle.std.proofs.lemmas.Map.Iter.{rest_so_far}
 use Rattle.std.specs.Map.{keys_of}
+use Rattle.std.specs.Map.Iter.{TakesFirst, deref_pair}
 use Rattle.std.specs.BTreeMap.{insert_entry}
-use Rattle.std.specs.declared.cmp.Ordering.TheVariants.{Less, Greater}
+use Rattle.std.specs.declared.cmp.Ordering.TheVariants.{Less, Equal, Greater}
+use Rattle.std.proofs.Common.{Bor, map}
+use Rattle.std.specs.Prelude.{Result, Ok, Err, OnOk, OnErr}
 use Rattle.soc_raw.specs.Names.{IsRising, with_value}
+use Rattle.soc_raw.specs.Record.{IsText, HasTextName}
 
 pub some_same : {X : Type 0} (x y : X) → Some x ≡ Some y → x ≡ y
 some_same x y e = cc
 
--- what holds of each key holds of the one at a place
-key_of_all : {V : Type 0} (P : List ℕ → Type 0) (ps : List (List ℕ × V)) (i : ℕ) (e : List ℕ × V) → AllByRecursion P (keys_of ps) → slice_get ps i ≡ Some e → P e.0
-key_of_all P [] i e all at = cc
-key_of_all P (p ∷ ps) zero e all at = subst (λ u. P u.0) (some_same p e at) all.0
-key_of_all P (p ∷ ps) (suc i) e all at = key_of_all P ps i e all.1 at
+-- what holds of each key holds of one in the middle
+key_within : {V : Type 0} (P : List ℕ → Type 0) (front rest : List (List ℕ × V)) (e : List ℕ × V) → AllByRecursion P (keys_of (front ++ e ∷ rest)) → P e.0
+key_within P [] rest e all = all.0
+key_within P (p ∷ front) rest e all = key_within P front rest e all.1
 
--- the pairs up to a place, and the one that stands there
-set_next : {V : Type 0} (ps : List (List ℕ × V)) (i : ℕ) (e : List ℕ × V) → IsRising ps → slice_get ps i ≡ Some e → with_value (take i ps) e.0 e.1 ≡ take (suc i) ps
+-- a pair that stands behind others is put behind them
+set_next : {V : Type 0} (front rest : List (List ℕ × V)) (e : List ℕ × V) → IsRising (front ++ e ∷ rest) → with_value front e.0 e.1 ≡ front ++ e ∷ []
 unfolding IsStrictlySortedBy
-set_next [] i e rising at = cc
-set_next (p ∷ ps) zero e rising at = ap (λ u. u ∷ []) (sym (some_same p e at))
-set_next (p ∷ ps) (suc i) e rising at =
-    let less : slice_cmp nat_cmp p.0 e.0 ≡ Less = key_of_all (λ y. slice_cmp nat_cmp p.0 y ≡ Less) ps i e rising.0 at in
+set_next [] rest e rising = refl
+set_next (p ∷ front) rest e rising =
+    let less : slice_cmp nat_cmp p.0 e.0 ≡ Less = key_within (λ y. slice_cmp nat_cmp p.0 y ≡ Less) front rest e rising.0 in
     let greater : slice_cmp nat_cmp e.0 p.0 ≡ Greater = nat_list_cmp_total.antisymm e.0 p.0 ∙ ap ordering_reverse less in
-    ap (λ o. match_ordering o ((e.0, e.1) ∷ p ∷ take i ps) ((p.0, e.1) ∷ take i ps) (p ∷ insert_entry (slice_cmp nat_cmp) (take i ps) e.0 e.1)) greater
-    ∙ ap (λ t. p ∷ t) (set_next ps i e rising.1 at)
+    ap (λ o. match_ordering o (e ∷ p ∷ front) ((p.0, e.1) ∷ front) (p ∷ insert_entry (slice_cmp nat_cmp) front e.0 e.1)) greater
+    ∙ ap (λ t. p ∷ t) (set_next front rest e rising.1)
 
-pub copied : {V : Type 0} (ps copy new : List (List ℕ × V)) (i : ℕ) (n m : List ℕ) (v w : V) → IsRising ps → slice_get ps i ≡ Some (n, v) → m ≡ n → w ≡ v → copy ≡ take i ps → new ≡ with_value copy m w → new ≡ take (i + 1) ps
-copied ps copy new i n m v w rising at is_name is_value so_far set =
-    let e : suc i ≡ i + 1 = omega arith in
-    set ∙ ap (λ t. with_value t m w) so_far ∙ ap (λ k. with_value (take i ps) k w) is_name ∙ ap (λ u. with_value (take i ps) n u) is_value ∙ set_next ps i (n, v) rising at ∙ ap (λ k. take k ps) e
+-- one pair more is copied
+pub copied : {V : Type 0} (all copy left rest new : List (List ℕ × V)) (n m : List ℕ) (v w : V) → IsRising all → left ≡ (n, v) ∷ rest → m ≡ n → w ≡ v → new ≡ with_value copy m w → copy ++ left ≡ all → new ++ rest ≡ all
+copied all copy left rest new n m v w rising next is_name is_value set so_far =
+    let whole : copy ++ (n, v) ∷ rest ≡ all = ap (λ t. copy ++ t) (sym next) ∙ so_far in
+    let put : new ≡ copy ++ (n, v) ∷ [] = set ∙ ap (λ k. with_value copy k w) is_name ∙ ap (λ u. with_value copy n u) is_value ∙ set_next copy rest (n, v) (subst (λ t. IsRising t) (sym whole) rising) in
+    ap (λ t. t ++ rest) put ∙ append_assoc copy ((n, v) ∷ []) rest ∙ whole
 
-pub take_next : {X : Type 0} (xs : List X) (i : ℕ) (x : X) → slice_get xs i ≡ Some x → take (suc i) xs ≡ take i xs ++ x ∷ []
-take_next [] i x at = cc
-take_next (y ∷ xs) zero x at = ap (λ u. u ∷ []) (some_same y x at)
-take_next (y ∷ xs) (suc i) x at = ap (λ t. y ∷ t) (take_next xs i x at)
+-- two iterators whose items were compared to their ends
+module _ {A B : Type 0} (view : A → B) (eq : A → A → Bool) (same : (x y : A) → eq x y ≡ true → view x ≡ view y) (differs : (x y : A) → eq x y ≡ false → view x ≡ view y → ⊥) where
+  same_views : (xs ys : List A) → AllZip (λ x y. eq x y ≡ true) xs ys → map view xs ≡ map view ys
+  same_views [] [] all = refl
+  same_views [] (y ∷ ys) all = elim all [ ]
+  same_views (x ∷ xs) [] all = elim all [ ]
+  same_views (x ∷ xs) (y ∷ ys) all = ap (λ v. v ∷ map view xs) (same x y all.0) ∙ ap (λ vs. view y ∷ vs) (same_views xs ys all.1)
 
-pub same_next : {X : Type 0} (xs ys : List X) (i : ℕ) (x y : X) → slice_get xs i ≡ Some x → slice_get ys i ≡ Some y → x ≡ y → take i xs ≡ take i ys → take (i + 1) xs ≡ take (i + 1) ys
-same_next xs ys i x y at_x at_y same so_far =
-    let e : i + 1 ≡ suc i = omega arith in
-    ap (λ k. take k xs) e ∙ take_next xs i x at_x ∙ ap (λ t. t ++ x ∷ []) so_far ∙ ap (λ u. take i ys ++ u ∷ []) same ∙ sym (take_next ys i y at_y) ∙ ap (λ k. take k ys) (sym e)
+  at_ends : (s t u w : List B) (r : Bool) (o p : Option A) → TakesFirst view s o u → TakesFirst view t p w
+      → MatchOption o (MatchOption p (r ≡ true) (λ _. r ≡ false)) (λ x. (r ≡ false) × IfSome p (λ y. eq x y ≡ false))
+      → (IsTrue r → s ≡ t) × (s ≡ t → IsTrue r)
+  at_ends s t u w r None None first second last = ((λ h. first.0 ∙ sym second.0), λ h. last)
+  at_ends s t u w r None (Some y) first second last =
+      ((λ h. absurd (let e : true ≡ false = sym h ∙ last in cc)), λ h. absurd (let e : [] ≡ view y ∷ w = sym first.0 ∙ h ∙ second in cc))
+  at_ends s t u w r (Some x) None first second last =
+      ((λ h. absurd (let e : true ≡ false = sym h ∙ last.0 in cc)), λ h. absurd (let e : [] ≡ view x ∷ u = sym second.0 ∙ sym h ∙ first in cc))
+  at_ends s t u w r (Some x) (Some y) first second last =
+      ((λ h. absurd (let e : true ≡ false = sym h ∙ last.0 in cc)), λ h. absurd (differs x y last.1 (let e : view x ∷ u ≡ view y ∷ w = sym first ∙ h ∙ second in cc)))
 
-not_differs : (r : Bool) → false ≡ not r → r ≡ true
-not_differs true e = refl
-not_differs false e = e
+  pub compared : (a b s t : List B) (r : Bool) (xs ys : List A) (o p : Option A) (u w : List B) → s ≡ a → t ≡ b → YieldsThen (TakesFirst view) s xs o u → YieldsThen (TakesFirst view) t ys p w → AllZip (λ x y. eq x y ≡ true) xs ys
+      → MatchOption o (MatchOption p (r ≡ true) (λ _. r ≡ false)) (λ x. (r ≡ false) × IfSome p (λ y. eq x y ≡ false))
+      → (IsTrue r → a ≡ b) × (a ≡ b → IsTrue r)
+  compared a b s t r xs ys o p u w from to first second all last =
+      let before : s ≡ map view xs ++ first.0 = rest_so_far view xs s first.0 first.1 in
+      let behind : t ≡ map view ys ++ second.0 = rest_so_far view ys t second.0 second.1 in
+      let front : map view xs ≡ map view ys = same_views xs ys all in
+      let ends = at_ends first.0 second.0 u w r o p first.2 second.2 last in (
+        (λ h. sym from ∙ before ∙ ap (λ t. map view xs ++ t) (ends.0 h) ∙ ap (λ t. t ++ second.0) front ∙ sym behind ∙ to),
+        λ h. ends.1 (append_cancel_left (map view ys) first.0 second.0 (ap (λ t. t ++ first.0) (sym front) ∙ sym before ∙ from ∙ h ∙ sym to ∙ behind)),
+      )
 
-same_bytes : (a b : List ℕ) → false ≡ not (bytes_eq a b) → a ≡ b
-same_bytes a b e = (bytes_eq-Decides a b).0 (not_differs (bytes_eq a b) e)
+-- equal pairs of bytes
+abbrev pub pair_eq : Bor (List ℕ) × Bor (List ℕ) → Bor (List ℕ) × Bor (List ℕ) → Bool
+pair_eq x y = bytes_eq x.0.now y.0.now && bytes_eq x.1.now y.1.now
 
-pub same_pair : (a b x y : List ℕ) → false ≡ not (bytes_eq a b) → false ≡ not (bytes_eq x y) → (let p : List ℕ × List ℕ = (a, x) in p) ≡ (b, y)
-same_pair a b x y names values = rw (same_bytes a b names, same_bytes x y values) refl
+both : (a b : Bool) → (a && b) ≡ true → (a ≡ true) × (b ≡ true)
+both true b e = (refl, e)
+both false b e = cc
 
-all_more : {X : Type 0} (Is : X → Type 0) (xs : List X) (i : ℕ) (x : X) → slice_get xs i ≡ Some x → Is x → AllByRecursion Is (take i xs) → AllByRecursion Is (take (suc i) xs)
-all_more Is [] i x at is all = cc
-all_more Is (y ∷ xs) zero x at is all = (subst Is (sym (some_same y x at)) is, tt)
-all_more Is (y ∷ xs) (suc i) x at is all = (all.0, all_more Is xs i x at is all.1)
+pub pair_same : (x y : Bor (List ℕ) × Bor (List ℕ)) → pair_eq x y ≡ true → deref_pair x ≡ deref_pair y
+pair_same x y e =
+    let h = both (bytes_eq x.0.now y.0.now) (bytes_eq x.1.now y.1.now) e in
+    let name : x.0.now ≡ y.0.now = (bytes_eq-Decides x.0.now y.0.now).0 h.0 in
+    let value : x.1.now ≡ y.1.now = (bytes_eq-Decides x.1.now y.1.now).0 h.1 in
+    ap (λ n. (n, x.1.now)) name ∙ ap (λ v. (y.0.now, v)) value
 
--- one pair more that is of a kind
-pub all_next : {X : Type 0} (Is : X → Type 0) (xs : List X) (i : ℕ) (x : X) → slice_get xs i ≡ Some x → Is x → AllByRecursion Is (take i xs) → AllByRecursion Is (take (i + 1) xs)
-all_next Is xs i x at is all = (let e : suc i ≡ i + 1 = omega arith in subst (λ k. AllByRecursion Is (take k xs)) e (all_more Is xs i x at is all))
+pub pair_differs : (x y : Bor (List ℕ) × Bor (List ℕ)) → pair_eq x y ≡ false → deref_pair x ≡ deref_pair y → ⊥
+pair_differs x y e h =
+    let name : bytes_eq x.0.now y.0.now ≡ true = (bytes_eq-Decides x.0.now y.0.now).1 (ap (λ u. u.0) h) in
+    let value : bytes_eq x.1.now y.1.now ≡ true = (bytes_eq-Decides x.1.now y.1.now).1 (ap (λ u. u.1) h) in
+    let yes : pair_eq x y ≡ true = ap (λ b. b && bytes_eq x.1.now y.1.now) name ∙ value in
+    let no_way : true ≡ false = sym yes ∙ e in
+    cc
+
+-- what holds of each pair holds once a name has a value
+module _ (Is : List ℕ × List ℕ → Type 0) (keeps : (p : List ℕ × List ℕ) (n v : List ℕ) → Is p → Is (n, v) → Is (p.0, v)) where
+  all_with : (ps : List (List ℕ × List ℕ)) (n v : List ℕ) → AllByRecursion Is ps → Is (n, v) → AllByRecursion Is (with_value ps n v)
+  all_with [] n v all is = (is, tt)
+  all_with (p ∷ ps) n v all is =
+      elim (slice_cmp nat_cmp n p.0) as (λ o. AllByRecursion Is (match_ordering o ((n, v) ∷ p ∷ ps) ((p.0, v) ∷ ps) (p ∷ insert_entry (slice_cmp nat_cmp) ps n v))) [
+        | Less ↦ (is, all)
+        | Equal ↦ (keeps p n v all.0 is, all.1)
+        | Greater ↦ (all.0, all_with ps n v all.1 is)
+      ]
+
+  pub all_set : {T E : Type 0} (r : Result T E) (old new : List (List ℕ × List ℕ)) (n v : List ℕ) → OnOk r (new ≡ with_value old n v) → OnErr r (new ≡ old) → AllByRecursion Is old → Is (n, v) → AllByRecursion Is new
+  all_set (Ok _) old new n v done failed all is = subst (λ ps. AllByRecursion Is ps) (sym done) (all_with old n v all is)
+  all_set (Err _) old new n v done failed all is = subst (λ ps. AllByRecursion Is ps) (sym failed) all
+
+pub keeps_text : (p : List ℕ × List ℕ) (n v : List ℕ) → IsText p → IsText (n, v) → IsText (p.0, v)
+keeps_text p n v old new = (old.0, new.1)
+
+pub keeps_name : (p : List ℕ × List ℕ) (n v : List ℕ) → HasTextName p → HasTextName (n, v) → HasTextName (p.0, v)
+keeps_name p n v old new = old

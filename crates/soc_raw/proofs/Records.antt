@@ -126,7 +126,7 @@ blob_splits bytes x fits e =
     let P : ℕ → Type 0 = λ k. Splits bytes (to_le_bytes w32 k ++ x.0) x.1 in
     subst P (sym t.1) both
 
-blob_again : (x rest : List ℕ) → length x < 2 ^ 32 → blob_at (counted x ++ rest) ≡ Some (x, rest)
+pub blob_again : (x rest : List ℕ) → length x < 2 ^ 32 → blob_at (counted x ++ rest) ≡ Some (x, rest)
 unfolding blob_at
 blob_again x rest short =
     rw (number_again w32 (2 ^ 32) four (length x) (x ++ rest) short) (bytes_again (length x) x rest refl)
@@ -404,3 +404,18 @@ refused NoMemory bytes none = tt
 
 pub same_crash : (a b : Crash) → IsCrash a → IsCrash b → record_of a ≡ record_of b → a ≡ b
 same_crash a b is_a is_b e = some_same a b (sym (read_again a is_a) ∙ ap crash_at e ∙ read_again b is_b)
+
+-- a content is that of one crash's annotations and dumps alone, whatever stands behind it
+pub same_content : (a b : Crash) (x y : List ℕ) → IsCrash a → IsCrash b → content_text a ++ x ≡ content_text b ++ y → (a.annotations ≡ b.annotations) × (a.dumps ≡ b.dumps) × (x ≡ y)
+unfolding content_text
+same_content a b x y is_a is_b e =
+    let short_a = pairs_fit a is_a.fits in
+    let short_b = pairs_fit b is_b.fits in
+    let annotations_of_a = counted_again text_pair_at IsText texts_read MAX_ANNOTATIONS a.annotations (pairs_text a.dumps ++ x) is_a.few_annotations (lit< tt) short_a.0 is_a.annotations is_a.annotations_rise in
+    let annotations_of_b = counted_again text_pair_at IsText texts_read MAX_ANNOTATIONS b.annotations (pairs_text b.dumps ++ y) is_b.few_annotations (lit< tt) short_b.0 is_b.annotations is_b.annotations_rise in
+    let whole : pairs_text a.annotations ++ (pairs_text a.dumps ++ x) ≡ pairs_text b.annotations ++ (pairs_text b.dumps ++ y) = sym (append_assoc (pairs_text a.annotations) (pairs_text a.dumps) x) ∙ e ∙ append_assoc (pairs_text b.annotations) (pairs_text b.dumps) y in
+    let fronts = some_same (a.annotations, pairs_text a.dumps ++ x) (b.annotations, pairs_text b.dumps ++ y) (sym annotations_of_a ∙ ap (counted_pairs_at text_pair_at MAX_ANNOTATIONS) whole ∙ annotations_of_b) in
+    let dumps_of_a = counted_again blob_pair_at HasTextName blobs_read MAX_DUMPS a.dumps x is_a.few_dumps (lit< tt) short_a.1 is_a.dumps is_a.dumps_rise in
+    let dumps_of_b = counted_again blob_pair_at HasTextName blobs_read MAX_DUMPS b.dumps y is_b.few_dumps (lit< tt) short_b.1 is_b.dumps is_b.dumps_rise in
+    let backs = some_same (a.dumps, x) (b.dumps, y) (sym dumps_of_a ∙ ap (counted_pairs_at blob_pair_at MAX_DUMPS) (ap (λ p. p.1) fronts) ∙ dumps_of_b) in
+    (ap (λ p. p.0) fronts, ap (λ p. p.0) backs, ap (λ p. p.1) backs)

@@ -1,6 +1,8 @@
 pub mod CrashId
+pub mod Cursor
 pub mod Day
 pub mod Digit
+pub mod inner
 pub mod Names
 pub mod Parts
 pub mod RawCrash

@@ -24,6 +24,16 @@ abbrev pub Gives : {X Y : Type 0} → (X → Y) → Result X RecordError → Opt
 Gives view (Ok x) read = read ≡ Some (view x)
 Gives view (Err e) read = Refuses e read
 
+-- what a read of the front answered, seen by view, and what it left are what `at` reads of the bytes
+abbrev pub ReadsAs : {X Y : Type 0} → (X → Y) → (List ℕ → Option (Y × List ℕ)) → Option X → List ℕ → List ℕ → Type 0
+ReadsAs view at None old new = at old ≡ None
+ReadsAs view at (Some x) old new = at old ≡ Some (view x, new)
+
+-- the same, where a refusal has its cause
+abbrev pub GivesFrom : {X Y : Type 0} → (X → Y) → (List ℕ → Option (Y × List ℕ)) → Result X RecordError → List ℕ → List ℕ → Type 0
+GivesFrom view at (Ok x) old new = at old ≡ Some (view x, new)
+GivesFrom view at (Err e) old new = Refuses e (at old)
+
 abbrev pub number_at : Width → List ℕ → Option (ℕ × List ℕ)
 number_at w bytes =
     if nat_lt (length bytes) (byte_len w) then None

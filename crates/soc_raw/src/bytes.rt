@@ -1,4 +1,4 @@
-// Owned bytes.
+//! Owned bytes.
 ghost use Rattle.std.specs.Prelude.{◌≡◌, IfOk};
 
 use crate::no_memory::NoMemory;

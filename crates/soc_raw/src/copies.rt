@@ -1,10 +1,11 @@
 //! Copies of maps, and maps that are the same.
 ghost use Rattle.std.specs.Prelude.{◌≡◌, ◌↔◌, IfOk, IsTrue};
 
+use crate::blobs::Blobs;
 use crate::bytes::Bytes;
-use crate::named::{Blobs, Texts};
 use crate::no_memory::NoMemory;
 use crate::text::Text;
+use crate::texts::Texts;
 use std::alloc::Global;
 
 /// The same texts by the same names.
@@ -12,8 +13,7 @@ pub fn copy_of_texts(alloc: Global, texts: &Texts) -> Result<Texts, NoMemory>
     ensures { IfOk result (λ copy. copy ≡ texts.now) }
 {
     let mut copy = Texts::new(alloc);
-    for i in 0..texts.len() {
-        let (name, value) = texts.at(i);
+    for (name, value) in texts {
         copy.set(Text::of(alloc, name)?, Text::of(alloc, value)?)?;
     }
     Ok(copy)
@@ -24,8 +24,7 @@ pub fn copy_of_blobs(alloc: Global, blobs: &Blobs) -> Result<Blobs, NoMemory>
     ensures { IfOk result (λ copy. copy ≡ blobs.now) }
 {
     let mut copy = Blobs::new(alloc);
-    for i in 0..blobs.len() {
-        let (name, value) = blobs.at(i);
+    for (name, value) in blobs {
         copy.set(Text::of(alloc, name)?, Bytes::of(alloc, value)?)?;
     }
     Ok(copy)
@@ -35,32 +34,12 @@ pub fn copy_of_blobs(alloc: Global, blobs: &Blobs) -> Result<Blobs, NoMemory>
 pub fn are_same_texts(a: &Texts, b: &Texts) -> bool
     ensures { IsTrue result ↔ (a.now ≡ b.now) }
 {
-    if a.len() != b.len() {
-        return false;
-    }
-    for i in 0..a.len() {
-        let (name, value) = a.at(i);
-        let (other_name, other_value) = b.at(i);
-        if name != other_name || value != other_value {
-            return false;
-        }
-    }
-    true
+    a.iter().eq(b)
 }
 
 /// Whether two maps have the same names with the same bytes.
 pub fn are_same_blobs(a: &Blobs, b: &Blobs) -> bool
     ensures { IsTrue result ↔ (a.now ≡ b.now) }
 {
-    if a.len() != b.len() {
-        return false;
-    }
-    for i in 0..a.len() {
-        let (name, value) = a.at(i);
-        let (other_name, other_value) = b.at(i);
-        if name != other_name || value != other_value {
-            return false;
-        }
-    }
-    true
+    a.iter().eq(b)
 }

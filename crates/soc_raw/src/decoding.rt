@@ -3,11 +3,13 @@ ghost use Rattle.std.specs.Prelude.{◌≡◌};
 ghost use Rattle.soc_raw.specs.Reading.{Gives, crash_at};
 ghost use Rattle.soc_raw.specs.Parts.{crash_of_parts};
 
+use crate::blobs::Blobs;
 use crate::crash_id::CrashId;
-use crate::named::{Blobs, Texts};
+use crate::cursor::Cursor;
 use crate::reading::{blobs_at, id_at, moment_at, text_at, texts_at, u64_at};
 use crate::record_error::RecordError;
 use crate::text::Text;
+use crate::texts::Texts;
 use std::alloc::Global;
 
 /// The parts of a record; whether they keep the limits of a raw crash isn't said here.
@@ -26,22 +28,14 @@ pub struct Parts {
 pub fn parts_of(alloc: Global, bytes: &[u8]) -> Result<Parts, RecordError>
     ensures { Gives crash_of_parts result (crash_at bytes.now) }
 {
-    let (id, rest) = match id_at(bytes) {
-        Ok(read) => read,
-        Err(error) => return Err(error),
-    };
-    let (moment, rest) = moment_at(rest)?;
-    let (draw, rest) = u64_at(rest)?;
-    let (rule, rest) = text_at(rest)?;
-    let (annotations, rest) = match texts_at(alloc, rest) {
-        Ok(read) => read,
-        Err(error) => return Err(error),
-    };
-    let (dumps, rest) = match blobs_at(alloc, rest) {
-        Ok(read) => read,
-        Err(error) => return Err(error),
-    };
-    if !rest.is_empty() {
+    let mut cursor = Cursor::new(bytes);
+    let id = id_at(&mut cursor)?;
+    let moment = moment_at(&mut cursor)?;
+    let draw = u64_at(&mut cursor)?;
+    let rule = text_at(&mut cursor)?;
+    let annotations = texts_at(alloc, &mut cursor)?;
+    let dumps = blobs_at(alloc, &mut cursor)?;
+    if !cursor.is_empty() {
         return Err(RecordError::BadRecord);
     }
     Ok(Parts {

@@ -1,4 +1,4 @@
-// The one free refusal.
+//! The one free refusal.
 use std::alloc::{AllocError, AllocFailed};
 use std::error::Error;
 use std::fmt;

@@ -1,21 +1,16 @@
-// A list of pairs of texts.
+//! A list of pairs of texts.
 ghost use Rattle.std.specs.Prelude.{◌≡◌, ◌<◌, ◌++◌, ◌∷◌, ◌↔◌, [], length, IsTrue, OnOk, OnErr, slice_get, Some};
 
+use crate::named::{Named, NamedValues, TextPairs};
 use crate::no_memory::NoMemory;
 use crate::text::Text;
 use std::alloc::Global;
 use std::marker::Model;
 
-#[derive(Debug, Drop)]
-struct Pair {
-    name: Text,
-    value: Text,
-}
-
 /// Pairs of a name and a value, in order. Names may repeat.
 #[derive(Debug, Drop)]
 pub struct Pairs {
-    items: Vec<Pair>,
+    items: Vec<Named<Text>>,
 }
 
 impl Model for Pairs {
@@ -41,7 +36,7 @@ impl Pairs {
         ensures ok { OnOk result (self.new ≡ self.old ++ (name, value) ∷ []) }
         ensures err { OnErr result (self.new ≡ self.old) }
     {
-        self.items.push(Pair { name, value })?;
+        self.items.push(Named { name, value })?;
         Ok(())
     }
 
@@ -66,5 +61,26 @@ impl Pairs {
     {
         let pair = &self.items[i];
         (pair.name.as_str(), pair.value.as_str())
+    }
+
+    /// The names and values, in order.
+    pub fn iter(&self) -> TextPairs<'_>
+        ensures { result ≡ self.now }
+    {
+        TextPairs::of(NamedValues::of(self.items.as_slice()))
+    }
+}
+
+impl<'a> IntoIterator for &'a Pairs {
+    ghost use Rattle.std.specs.Prelude.{◌≡◌};
+
+    type Item = (&'a str, &'a str);
+
+    type IntoIter = TextPairs<'a>;
+
+    ghost into_iter_gives = { λ pairs it. it ≡ pairs.now };
+
+    fn into_iter(self) -> TextPairs<'a> {
+        self.iter()
     }
 }

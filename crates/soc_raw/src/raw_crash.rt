@@ -1,16 +1,18 @@
 //! Raw crashes.
-ghost use Rattle.std.specs.Prelude.{◌≡◌, ◌≤◌, ◌↔◌, length, drop, IfOk, IfErr, OnOk, IsTrue};
+ghost use Rattle.std.specs.Prelude.{◌≡◌, ◌≤◌, ◌↔◌, ◌++◌, List, ℕ, length, drop, IfOk, IfErr, OnOk, OnErr, IsTrue};
 ghost use Rattle.soc_raw.specs.Day.{IsMoment};
 ghost use Rattle.soc_raw.specs.Record.{MAX_RECORD as max_record, Crash, IsCrash, record_of, head_text, content_text};
+ghost use Rattle.soc_raw.specs.inner.Writing.{Extends};
 
+use crate::blobs::Blobs;
 use crate::bytes::Bytes;
 use crate::copies::{are_same_blobs, are_same_texts, copy_of_blobs, copy_of_texts};
 use crate::crash_id::CrashId;
 use crate::decoding::parts_of;
-use crate::named::{Blobs, Texts};
 use crate::no_memory::NoMemory;
 use crate::record_error::RecordError;
 use crate::text::Text;
+use crate::texts::Texts;
 use crate::writing::{len_of_blobs, len_of_texts, put_blobs, put_counted, put_texts};
 use std::alloc::Global;
 
@@ -63,19 +65,54 @@ impl RawCrash {
             && are_same_blobs(&self.dumps, &other.dumps)
     }
 
+    /// A raw crash is one of those that there are.
+    pub fn is_crash(&self)
+        ensures { IsCrash (crash_of self.now) }
+    {
+        let _id = self.id.as_str();
+        let _draw = self.draw;
+        let _rule = self.rule.as_str();
+        let _annotations = self.annotations.len();
+        let _dumps = self.dumps.len();
+    }
+
     /// The record, in one piece of memory of its length.
     pub fn encode(&self, alloc: Global) -> Result<Bytes, NoMemory>
         ensures record { IfOk result (λ bytes. bytes ≡ record_text self.now) }
         ensures whole { OnOk result (IsCrash (crash_of self.now)) }
     {
+        self.is_crash();
         let mut out = Vec::with_capacity(alloc, self.record_len())?;
+        self.encode_into(&mut out)?;
+        Ok(Bytes::from(out))
+    }
+
+    /// Writes the record behind what stands in the buffer. The buffer takes all of the memory before it takes a byte.
+    pub fn encode_into(&self, out: &mut Vec<u8>) -> Result<(), NoMemory>
+        ensures ok { OnOk result (out.new.items ≡ out.old.items ++ record_text self.now) }
+        ensures err { OnErr result (out.new.items ≡ out.old.items) }
+    {
+        out.reserve(self.record_len())?;
+        let start = out.len();
+        let written = self.put(out);
+        if written.is_err() {
+            out.truncate(start);
+        }
+        written
+    }
+
+    /// Writes the record, or a part of it.
+    fn put(&self, out: &mut Vec<u8>) -> Result<(), NoMemory>
+        ensures record { OnOk result (out.new.items ≡ out.old.items ++ record_text self.now) }
+        ensures front { OnErr result (Extends out.old.items out.new.items) }
+    {
         out.extend_from_slice(self.id.as_str().as_bytes())?;
         out.extend_from_slice(&self.moment.to_le_bytes())?;
         out.extend_from_slice(&self.draw.to_le_bytes())?;
-        put_counted(&mut out, self.rule.as_str().as_bytes())?;
-        put_texts(&mut out, &self.annotations)?;
-        put_blobs(&mut out, &self.dumps)?;
-        Ok(Bytes::from(out))
+        put_counted(out, self.rule.as_str().as_bytes())?;
+        put_texts(out, &self.annotations)?;
+        put_blobs(out, &self.dumps)?;
+        Ok(())
     }
 
     /// The length of the record, at most 67,108,864.
@@ -123,4 +160,9 @@ impl RawCrash {
 /// A record is that of one raw crash alone.
 pub fn one_crash()
     ensures { (a b : Crash) → IsCrash a → IsCrash b → record_of a ≡ record_of b → a ≡ b }
+{}
+
+/// A content is that of one list of annotations and one of dumps alone, whatever stands behind it.
+pub fn one_content()
+    ensures { (a b : Crash) (x y : List ℕ) → IsCrash a → IsCrash b → content_text a ++ x ≡ content_text b ++ y → (a.annotations ≡ b.annotations) × (a.dumps ≡ b.dumps) × (x ≡ y) }
 {}

@@ -1,6 +1,6 @@
-// Owned text.
+//! Owned text.
 ghost use Rattle.std.specs.Prelude.{◌≡◌, IfOk};
-ghost use Rattle.std.specs.Str.{IsUtf8};
+ghost use Rattle.std.specs.Str.Lossy.{utf8_lossy};
 
 use crate::no_memory::NoMemory;
 use std::alloc::Global;
@@ -27,6 +27,15 @@ impl Text {
     {
         Ok(Text {
             text: String::from_str(alloc, s)?,
+        })
+    }
+
+    /// The text that the bytes are, with U+FFFD for each part that is no UTF-8, as `String::from_utf8_lossy` has it.
+    pub fn lossy(alloc: Global, bytes: &[u8]) -> Result<Text, NoMemory>
+        ensures { IfOk result (λ text. text ≡ utf8_lossy bytes.now) }
+    {
+        Ok(Text {
+            text: String::from_utf8_lossy(alloc, bytes)?,
         })
     }
 

@@ -1,16 +1,17 @@
 //! The parts of a record, written.
-ghost use Rattle.std.specs.Prelude.{◌≡◌, ◌<◌, ◌^◌, ◌++◌, length, flat_map, OnOk};
-ghost use Rattle.std.specs.List.{AllByRecursion};
-ghost use Rattle.soc_raw.specs.Names.{IsRising};
-ghost use Rattle.soc_raw.specs.Record.{counted, pair_text, pairs_text, IsText, HasTextName};
+ghost use Rattle.std.specs.Prelude.{◌≡◌, ◌<◌, ◌^◌, ◌++◌, length, flat_map, OnOk, OnErr};
+ghost use Rattle.soc_raw.specs.Record.{counted, pair_text, pairs_text};
+ghost use Rattle.soc_raw.specs.inner.Writing.{Extends};
 
-use crate::named::{Blobs, Texts};
+use crate::blobs::Blobs;
 use crate::no_memory::NoMemory;
+use crate::texts::Texts;
 
 /// Writes a text or a blob: its length, and its bytes.
 pub fn put_counted(out: &mut Vec<u8>, bytes: &[u8]) -> Result<(), NoMemory>
     requires { length bytes.now < 2 ^ 32 }
-    ensures { OnOk result (out.new.items ≡ out.old.items ++ counted bytes.now) }
+    ensures written { OnOk result (out.new.items ≡ out.old.items ++ counted bytes.now) }
+    ensures front { OnErr result (Extends out.old.items out.new.items) }
 {
     out.extend_from_slice(&(bytes.len() as u32).to_le_bytes())?;
     out.extend_from_slice(bytes)?;
@@ -22,12 +23,10 @@ pub fn put_texts(out: &mut Vec<u8>, texts: &Texts) -> Result<(), NoMemory>
     requires few { length texts.now < 2 ^ 32 }
     requires fits { length (flat_map pair_text texts.now) < 2 ^ 32 }
     ensures written { OnOk result (out.new.items ≡ out.old.items ++ pairs_text texts.now) }
-    ensures texts { OnOk result (AllByRecursion IsText texts.now) }
-    ensures rising { IsRising texts.now }
+    ensures front { OnErr result (Extends out.old.items out.new.items) }
 {
     out.extend_from_slice(&(texts.len() as u32).to_le_bytes())?;
-    for i in 0..texts.len() {
-        let (name, value) = texts.at(i);
+    for (name, value) in texts {
         put_counted(out, name.as_bytes())?;
         put_counted(out, value.as_bytes())?;
     }
@@ -39,12 +38,10 @@ pub fn put_blobs(out: &mut Vec<u8>, blobs: &Blobs) -> Result<(), NoMemory>
     requires few { length blobs.now < 2 ^ 32 }
     requires fits { length (flat_map pair_text blobs.now) < 2 ^ 32 }
     ensures written { OnOk result (out.new.items ≡ out.old.items ++ pairs_text blobs.now) }
-    ensures names { OnOk result (AllByRecursion HasTextName blobs.now) }
-    ensures rising { IsRising blobs.now }
+    ensures front { OnErr result (Extends out.old.items out.new.items) }
 {
     out.extend_from_slice(&(blobs.len() as u32).to_le_bytes())?;
-    for i in 0..blobs.len() {
-        let (name, value) = blobs.at(i);
+    for (name, value) in blobs {
         put_counted(out, name.as_bytes())?;
         put_counted(out, value)?;
     }
@@ -57,8 +54,7 @@ pub fn len_of_texts(texts: &Texts) -> usize
     ensures { result ≡ length (pairs_text texts.now) }
 {
     let mut total = 4;
-    for i in 0..texts.len() {
-        let (name, value) = texts.at(i);
+    for (name, value) in texts {
         total += 8 + name.len() + value.len();
     }
     total
@@ -70,8 +66,7 @@ pub fn len_of_blobs(blobs: &Blobs) -> usize
     ensures { result ≡ length (pairs_text blobs.now) }
 {
     let mut total = 4;
-    for i in 0..blobs.len() {
-        let (name, value) = blobs.at(i);
+    for (name, value) in blobs {
         total += 8 + name.len() + value.len();
     }
     total

@@ -5,23 +5,23 @@ use Rattle.soc_raw.proofs.Readers.{started, goes_on, ends, ends_low, is_done, se
 use Rattle.soc_raw.proofs.reading.blobs_after.Goals as goal
 
 pub loop-init : goal.loop-init
-loop-init c = started blob_pair_at c.new-blobs.result c.args.count c.args.bytes.now c.new-blobs.ensures
+loop-init c = started blob_pair_at c.new-blobs.result c.args.count c.args.cursor.now c.new-blobs.ensures
 
-pub returns-in_err-pair : goal.returns-in_err-pair
-returns-in_err-pair c =
+pub returns-in_err-name : goal.returns-in_err-name
+returns-in_err-name c =
     let p = err_from_is_err_and c.from_residual.result c.from_residual.ensures.1 in
-    rw (p.1, p.2) (ends blob_pair_at c.in_err-pair.field-0.0 c.loop.blobs c.args.count c.loop.counter c.loop.rest.now (pairs_at blob_pair_at None c.args.count c.args.bytes.now) c.loop-test.true c.in_err-pair.ensures c.loop.invariant)
+    rw (p.1, p.2) (ends blob_pair_at c.in_err-name.field-0.0 c.loop.blobs c.args.count c.loop.counter c.loop.cursor (pairs_at blob_pair_at None c.args.count c.args.cursor.now) c.loop-test.true c.in_err-name.ensures c.loop.invariant)
 
 pub returns-then-not-comes_last_of_blobs : goal.returns-then-not-comes_last_of_blobs
 returns-then-not-comes_last_of_blobs c =
-    ends_low blob_pair_at c.loop.blobs c.args.count c.loop.counter c.loop.rest.now _ _ _ c.loop-test.true c.in_ok-pair.ensures
+    ends_low blob_pair_at c.loop.blobs c.args.count c.loop.counter c.loop.cursor _ _ _ c.loop-test.true c.in_ok-name.ensures
     (sym c.comes_last_of_blobs.ensures.above ∙ c.if-not-comes_last_of_blobs.true) c.loop.invariant
 
 pub loop-preserved : goal.loop-preserved
 loop-preserved c =
     let above = sym c.if-not-comes_last_of_blobs.false ∙ c.comes_last_of_blobs.ensures.above in
-    goes_on blob_pair_at c.loop.blobs c.set.new.self c.args.count c.loop.counter c.loop.rest.now _ _ _ c.loop-test.true c.in_ok-pair.ensures above
+    goes_on blob_pair_at c.loop.blobs c.set.new.self c.args.count c.loop.counter c.loop.cursor _ _ _ c.loop-test.true c.in_ok-name.ensures above
     (set_last c.loop.blobs c.set.new.self _ _ _ _ c.comes_last_of_blobs.ensures.rising above c.in_ok-of.ensures c.in_ok-of-2.ensures c.in_ok-set.ensures.ok) c.loop.invariant
 
 pub returns : goal.returns
-returns c = is_done blob_pair_at c.loop.blobs c.args.count c.loop.counter c.loop.rest.now (pairs_at blob_pair_at None c.args.count c.args.bytes.now) c.loop-test.false c.loop.invariant
+returns c = is_done blob_pair_at c.loop.blobs c.args.count c.loop.counter c.loop.cursor (pairs_at blob_pair_at None c.args.count c.args.cursor.now) c.loop-test.false c.loop.invariant

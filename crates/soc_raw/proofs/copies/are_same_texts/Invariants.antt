@@ -1,6 +1,0 @@
-use Rattle.std.proofs.Common.{◌≡◌, take}
-use Rattle.soc_raw.proofs.copies.are_same_texts.Given as goal
-
--- the pairs so far are the same
-abbrev pub invariant-loop-i : goal.invariant-loop-i
-invariant-loop-i l = take l.i l.a ≡ take l.i l.b
