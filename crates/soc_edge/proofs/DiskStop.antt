@@ -2,16 +2,16 @@
 use Rattle.std.proofs.Common.{◌≡◌, ◌⊎◌, inl, inr, ℕ, zero, suc, ◌+◌, ◌-◌, ◌/◌, ◌%◌, ◌<◌, ◌≤◌, List, [], ◌∷◌, ◌++◌, length, take, drop, map, replicate, set, get_or, refl, sym, ◌∙◌, ap, subst, arith, Bool, true, false, nat_lt, ◌==◌, if◌then◌else◌}
 use Rattle.std.proofs.lemmas.List.{length-take, length-drop, length-map, append_assoc, take_at, drop_at, drop-drop, drop_more, get_or_at, set_at, take_more, map_push, length-take-le, take_all, take_rest}
 use Rattle.std.proofs.lemmas.Bool.Decides.{nat_tests}
-use Rattle.soc_edge.specs.declared.memory.disk.Entry.{Entry}
-use Rattle.soc_edge.specs.declared.memory.disk.Entry.TheVariants.{Write, Sync}
+use Rattle.soc_edge.specs.declared.memory.disk.DiskStep.{DiskStep}
+use Rattle.soc_edge.specs.declared.memory.disk.DiskStep.TheVariants.{Write, Sync}
 use Rattle.soc_edge.proofs.Disks.{drop-Tears}
 use Rattle.soc_edge.specs.Disk.{written, Tears}
-use Rattle.soc_edge.specs.DiskLaws.{length-front, Tears-same, Tears-written}
+use Rattle.soc_edge.specs.inner.DiskLaws.{length-front, Tears-same, Tears-written}
 use Rattle.soc_edge.specs.DiskLog.{IsImage, Made, Wrote, Synced, reads_as, stopped, Stopped, torn, flipped}
-use Rattle.soc_edge.specs.DiskEntries.{bytes_of, syncs_of, AllEnd, log_of}
+use Rattle.soc_edge.specs.inner.DiskEntries.{bytes_of, syncs_of, AllEnd, log_of}
 
 -- writes that no sync has settled go on from what the ones before them left
-pub stopped-unsettled : (first : List ℕ) (log : List Made) (entries : List Entry) (bytes : List ℕ) (choice : ℕ) → syncs_of entries ≡ 0
+pub stopped-unsettled : (first : List ℕ) (log : List Made) (entries : List DiskStep) (bytes : List ℕ) (choice : ℕ) → syncs_of entries ≡ 0
     → stopped first (log_of log entries bytes) choice ≡ stopped (stopped first log choice).image (log_of [] entries bytes) (stopped first log choice).choice
 stopped-unsettled first log [] bytes choice none = refl
 stopped-unsettled first log (Write place count ∷ entries) bytes choice none =
@@ -26,7 +26,7 @@ some_or_none zero = inl refl
 some_or_none (suc n) = inr (omega arith)
 
 -- writes that a later sync settles are made
-pub stopped-settled : (first : List ℕ) (log : List Made) (entries : List Entry) (bytes : List ℕ) (choice : ℕ) → 0 < syncs_of entries
+pub stopped-settled : (first : List ℕ) (log : List Made) (entries : List DiskStep) (bytes : List ℕ) (choice : ℕ) → 0 < syncs_of entries
     → stopped first (log_of log entries bytes) choice ≡ stopped (reads_as first log) (log_of [] entries bytes) choice
 stopped-settled first log [] bytes choice some = absurd (omega arith)
 stopped-settled first log (Write place count ∷ entries) bytes choice some =
@@ -73,7 +73,7 @@ positive : (n : ℕ) → (n == 0) ≡ false → 0 < n
 positive n other = grind (arith, nat_tests)
 
 -- a write is played
-pub played-write : (image next_image : List ℕ) (later : List Entry) (bytes : List ℕ) (place count choice next_choice syncs : ℕ)
+pub played-write : (image next_image : List ℕ) (later : List DiskStep) (bytes : List ℕ) (place count choice next_choice syncs : ℕ)
     → syncs ≡ syncs_of later
     → next_image ≡ (if nat_lt 0 syncs then written image place (take count bytes) else torn (choice % 4) place (take count bytes) image)
     → next_choice ≡ (if nat_lt 0 syncs then choice else choice / 4)
@@ -101,7 +101,7 @@ played-write image next_image later bytes place count choice next_choice syncs c
     ]
 
 -- a sync is played
-pub played-sync : (image : List ℕ) (later : List Entry) (bytes : List ℕ) (choice : ℕ) → stopped image (log_of [] later bytes) choice ≡ stopped image (log_of [] (Sync ∷ later) bytes) choice
+pub played-sync : (image : List ℕ) (later : List DiskStep) (bytes : List ℕ) (choice : ℕ) → stopped image (log_of [] later bytes) choice ≡ stopped image (log_of [] (Sync ∷ later) bytes) choice
 played-sync image later bytes choice =
     elim (some_or_none (syncs_of later)) [
       | inl none ↦ sym (stopped-unsettled image (Synced ∷ []) later bytes choice none)
@@ -109,13 +109,13 @@ played-sync image later bytes choice =
     ]
 
 -- What holds before an entry is played, and after it
-pub record Playing (target : Stopped) (room : ℕ) (image : List ℕ) (rest : List Entry) (bytes : List ℕ) (choice syncs : ℕ) : Type 0 where
+pub record Playing (target : Stopped) (room : ℕ) (image : List ℕ) (rest : List DiskStep) (bytes : List ℕ) (choice syncs : ℕ) : Type 0 where
   pub goes_on : stopped image (log_of [] rest bytes) choice ≡ target
   pub counted : syncs ≡ syncs_of rest
   pub ends : AllEnd room rest
   pub within : bytes_of rest ≤ length bytes
 
-pub Playing-write : (target : Stopped) (room : ℕ) (image next_image : List ℕ) (rest : List Entry) (bytes : List ℕ) (place count choice next_choice syncs : ℕ)
+pub Playing-write : (target : Stopped) (room : ℕ) (image next_image : List ℕ) (rest : List DiskStep) (bytes : List ℕ) (place count choice next_choice syncs : ℕ)
     → Playing target room image rest bytes choice syncs
     → get_or rest 0 (Write 0 0) ≡ Write place count → 1 ≤ length rest
     → next_image ≡ (if nat_lt 0 syncs then written image place (take count bytes) else torn (choice % 4) place (take count bytes) image)
@@ -124,7 +124,7 @@ pub Playing-write : (target : Stopped) (room : ℕ) (image next_image : List ℕ
 Playing-write target room image next_image rest bytes place count choice next_choice syncs playing first some image_is choice_is =
     let later = take (length rest - 1) (drop 1 rest) in
     let whole : rest ≡ Write place count ∷ later = first-rest rest (Write 0 0) (Write place count) first some in
-    let P : List Entry → Type 0 = λ x. Playing target room image x bytes choice syncs in
+    let P : List DiskStep → Type 0 = λ x. Playing target room image x bytes choice syncs in
     let here : Playing target room image (Write place count ∷ later) bytes choice syncs = subst P whole playing in
     let all : take (length bytes - count) (drop count bytes) ≡ drop count bytes = take_rest bytes count in
     record {
@@ -135,14 +135,14 @@ Playing-write target room image next_image rest bytes place count choice next_ch
       within = omega (arith, here.within, ap (λ (x : List ℕ). length x) all, length-drop count bytes);
     }
 
-pub Playing-sync : (target : Stopped) (room : ℕ) (image : List ℕ) (rest : List Entry) (bytes : List ℕ) (choice syncs : ℕ)
+pub Playing-sync : (target : Stopped) (room : ℕ) (image : List ℕ) (rest : List DiskStep) (bytes : List ℕ) (choice syncs : ℕ)
     → Playing target room image rest bytes choice syncs
     → get_or rest 0 (Write 0 0) ≡ Sync → 1 ≤ length rest
     → Playing target room image (take (length rest - 1) (drop 1 rest)) bytes choice (syncs - 1)
 Playing-sync target room image rest bytes choice syncs playing first some =
     let later = take (length rest - 1) (drop 1 rest) in
     let whole : rest ≡ Sync ∷ later = first-rest rest (Write 0 0) Sync first some in
-    let P : List Entry → Type 0 = λ x. Playing target room image x bytes choice syncs in
+    let P : List DiskStep → Type 0 = λ x. Playing target room image x bytes choice syncs in
     let here : Playing target room image (Sync ∷ later) bytes choice syncs = subst P whole playing in
     record {
       goes_on = played-sync image later bytes choice ∙ here.goes_on;
@@ -152,24 +152,24 @@ Playing-sync target room image rest bytes choice syncs playing first some =
     }
 
 -- a first write ends within the room, and its bytes are there
-pub Playing-room : (target : Stopped) (room : ℕ) (image : List ℕ) (rest : List Entry) (bytes : List ℕ) (place count choice syncs : ℕ)
+pub Playing-room : (target : Stopped) (room : ℕ) (image : List ℕ) (rest : List DiskStep) (bytes : List ℕ) (place count choice syncs : ℕ)
     → Playing target room image rest bytes choice syncs
     → get_or rest 0 (Write 0 0) ≡ Write place count → 1 ≤ length rest
     → (place + count ≤ room) × (count ≤ length bytes)
 Playing-room target room image rest bytes place count choice syncs playing first some =
     let later = take (length rest - 1) (drop 1 rest) in
     let whole : rest ≡ Write place count ∷ later = first-rest rest (Write 0 0) (Write place count) first some in
-    let P : List Entry → Type 0 = λ x. Playing target room image x bytes choice syncs in
+    let P : List DiskStep → Type 0 = λ x. Playing target room image x bytes choice syncs in
     let here : Playing target room image (Write place count ∷ later) bytes choice syncs = subst P whole playing in
     (here.ends.0, omega (arith, here.within))
 
-pub Playing-some_sync : (target : Stopped) (room : ℕ) (image : List ℕ) (rest : List Entry) (bytes : List ℕ) (choice syncs : ℕ)
+pub Playing-some_sync : (target : Stopped) (room : ℕ) (image : List ℕ) (rest : List DiskStep) (bytes : List ℕ) (choice syncs : ℕ)
     → Playing target room image rest bytes choice syncs
     → get_or rest 0 (Write 0 0) ≡ Sync → 1 ≤ length rest → 1 ≤ syncs
 Playing-some_sync target room image rest bytes choice syncs playing first some =
     let later = take (length rest - 1) (drop 1 rest) in
     let whole : rest ≡ Sync ∷ later = first-rest rest (Write 0 0) Sync first some in
-    omega (arith, playing.counted, ap (λ (x : List Entry). syncs_of x) whole)
+    omega (arith, playing.counted, ap (λ (x : List DiskStep). syncs_of x) whole)
 
 -- flipped in place is the same as written flipped
 pub flipped-written : (content piece : List ℕ) (place : ℕ) → 0 < length piece
@@ -254,7 +254,7 @@ MadeWithin room [] = Unit {0}
 MadeWithin room (Wrote place bytes ∷ log) = (place + length bytes ≤ room) × MadeWithin room log
 MadeWithin room (Synced ∷ log) = MadeWithin room log
 
-pub MadeWithin-log_of : (room : ℕ) (log : List Made) (entries : List Entry) (bytes : List ℕ) → MadeWithin room log → AllEnd room entries → MadeWithin room (log_of log entries bytes)
+pub MadeWithin-log_of : (room : ℕ) (log : List Made) (entries : List DiskStep) (bytes : List ℕ) → MadeWithin room log → AllEnd room entries → MadeWithin room (log_of log entries bytes)
 MadeWithin-log_of room log [] bytes made ends = made
 MadeWithin-log_of room log (Write place count ∷ entries) bytes made ends =
     let low : place + length (take count bytes) ≤ room = omega (arith, length-take count bytes, ends.0) in
@@ -274,18 +274,18 @@ length-stopped room first (Wrote place bytes ∷ log) choice low made =
     omega (arith, (Tears-torn (before.choice % 4) place bytes before.image).no_longer, length-stopped room first log choice low made.1, made.0)
 length-stopped room first (Synced ∷ log) choice low made = length-reads_as room first log low made
 
-pub AllEnd-wider : (room wider : ℕ) (entries : List Entry) → room ≤ wider → AllEnd room entries → AllEnd wider entries
+pub AllEnd-wider : (room wider : ℕ) (entries : List DiskStep) → room ≤ wider → AllEnd room entries → AllEnd wider entries
 AllEnd-wider room wider [] more ends = tt
 AllEnd-wider room wider (Write place count ∷ entries) more ends = (omega (arith, ends.0), AllEnd-wider room wider entries more ends.1)
 AllEnd-wider room wider (Sync ∷ entries) more ends = AllEnd-wider room wider entries more ends
 
 -- what a stop leaves fits the room
-pub stopped-fits : (room : ℕ) (first image : List ℕ) (entries same_entries : List Entry) (bytes same_bytes : List ℕ) (choice : ℕ)
+pub stopped-fits : (room : ℕ) (first image : List ℕ) (entries same_entries : List DiskStep) (bytes same_bytes : List ℕ) (choice : ℕ)
     → same_entries ≡ entries → same_bytes ≡ bytes → image ≡ (stopped first (log_of [] same_entries same_bytes) choice).image
     → length first ≤ room → AllEnd room entries → length image ≤ room
 stopped-fits room first image entries same_entries bytes same_bytes choice entries_are bytes_are image_is low ends =
     let whole : image ≡ (stopped first (log_of [] entries bytes) choice).image =
-    image_is ∙ (ap (λ (x : List Entry). (stopped first (log_of [] x same_bytes) choice).image) entries_are
+    image_is ∙ (ap (λ (x : List DiskStep). (stopped first (log_of [] x same_bytes) choice).image) entries_are
     ∙ ap (λ (x : List ℕ). (stopped first (log_of [] entries x) choice).image) bytes_are) in
     omega (
       arith,

@@ -1,6 +1,7 @@
 -- The calls of an object in memory: it fails at the numbers that it was given, counted from 0.
-use Rattle.std.specs.Prelude.{ℕ, ◌+◌, ◌-◌, ◌^◌, min, Bool, List, nat_eq, Result, is_err, if◌then◌else◌}
+use Rattle.std.specs.Prelude.{ℕ, ◌+◌, min, Bool, List, nat_eq, Result, is_err, if◌then◌else◌}
 use Rattle.std.specs.List.{list_any}
+use Rattle.soc_edge.specs.Faults.{last_count}
 
 -- how many calls were made, how many of them failed, and the numbers of those that fail
 pub record Calls : Type 0 where
@@ -17,7 +18,7 @@ is_due calls = list_any (λ n. nat_eq n calls.made) calls.fails
 
 -- one more; a count stands still at its last value
 abbrev pub one_more : ℕ → ℕ
-one_more n = min (n + 1) (2 ^ 64 - 1)
+one_more n = min (n + 1) last_count
 
 -- after a call that succeeded
 abbrev pub passed : Calls → Calls

@@ -54,17 +54,33 @@ abbrev pub refuses_write : DiskState → ℕ → ℕ → Bool
 refuses_write disk place count =
     refuses_sync disk || (nat_lt disk.room (place + count) || nat_lt disk.room (bytes_written disk.log + count))
 
+-- the byte whose bits are all 1
+abbrev pub all_bits : ℕ
+all_bits = 255
+
 -- a byte that differs in each bit
 abbrev pub flipped : ℕ → ℕ
-flipped byte = 255 - byte
+flipped byte = all_bits - byte
 
--- A stop does one of four things to a write that no sync has settled: it loses it, keeps it, keeps the first half of
--- its bytes, or leaves each of them flipped.
+-- what a stop may do to a write that no sync has settled: each way by its digit of base 4
+abbrev pub ways : ℕ
+ways = 4
+
+abbrev pub loses : ℕ
+loses = 0
+
+abbrev pub keeps : ℕ
+keeps = 1
+
+abbrev pub halves : ℕ
+halves = 2
+
+-- the write is lost, kept, kept by the first half of its bytes, or else left with each of them flipped
 abbrev pub torn : ℕ → ℕ → List ℕ → List ℕ → List ℕ
 torn choice place bytes content =
-    if choice == 0 then content
-    else if choice == 1 then written content place bytes
-    else if choice == 2 then written content place (take (length bytes / 2) bytes)
+    if choice == loses then content
+    else if choice == keeps then written content place bytes
+    else if choice == halves then written content place (take (length bytes / 2) bytes)
     else written content place (map flipped bytes)
 
 -- the image that a stop leaves by a choice, and what is left of the choice: its last digit of base 4 is for the first
@@ -76,8 +92,8 @@ pub record Stopped : Type 0 where
 abbrev pub stopped : List ℕ → List Made → ℕ → Stopped
 stopped first [] choice = record { image = first; choice = choice }
 stopped first (Wrote place bytes ∷ log) choice = record {
-  image = torn ((stopped first log choice).choice % 4) place bytes (stopped first log choice).image;
-  choice = (stopped first log choice).choice / 4;
+  image = torn ((stopped first log choice).choice % ways) place bytes (stopped first log choice).image;
+  choice = (stopped first log choice).choice / ways;
 }
 stopped first (Synced ∷ log) choice = record { image = reads_as first log; choice = choice }
 

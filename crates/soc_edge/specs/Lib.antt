@@ -1,13 +1,11 @@
 pub mod Ahead
 pub mod Calls
 pub mod Disk
-pub mod DiskEntries
-pub mod DiskLaws
 pub mod DiskLog
-pub mod DiskState
 pub mod Faults
 pub mod Memory
 pub mod Told
 pub mod Tree
 pub mod Untold
 pub mod Windows
+pub mod inner

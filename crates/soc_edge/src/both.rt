@@ -1,4 +1,4 @@
-// A source and a sink as one.
+//! A source and a sink as one.
 ghost use Rattle.soc_edge.specs.Told.{joined};
 
 use crate::{Failed, Sink, Source, Tells};

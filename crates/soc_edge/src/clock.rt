@@ -1,4 +1,4 @@
-// The clock and random draws. They don't fail.
+//! The clock and random draws. They don't fail.
 ghost use Rattle.soc_raw.specs.Day.{IsMoment};
 ghost use Rattle.soc_edge.specs.Ahead.{ClockTold, DrawsTold, HandsMoment, HandsThrottle, HandsId};
 

@@ -1,4 +1,4 @@
-// A disk, whose writes are safe only after a sync.
+//! A disk, whose writes are safe only after a sync.
 ghost use Rattle.std.specs.Prelude.{◌≡◌, ◌≤◌, length, IfSome, IfOk, OnOk, OnErr};
 ghost use Rattle.std.specs.Option.{option_map};
 ghost use Rattle.soc_edge.specs.Calls.{one_more};

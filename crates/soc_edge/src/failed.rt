@@ -1,4 +1,4 @@
-// The one fault of what lies outside.
+//! The one fault of what lies outside.
 use thiserror::Error;
 
 /// A call to the outside failed. It comes only where that object's count of faults rose in the call.

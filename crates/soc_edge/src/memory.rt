@@ -1,4 +1,4 @@
-// Stand-ins in memory for what lies outside.
+//! Stand-ins in memory for what lies outside.
 mod calls;
 mod clock;
 mod disk;

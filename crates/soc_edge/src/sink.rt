@@ -1,4 +1,4 @@
-// Where bytes go to.
+//! Where bytes go to.
 ghost use Rattle.std.specs.Prelude.{◌<◌, ◌≤◌, [], length, take, IfOk, OnErr};
 ghost use Rattle.soc_edge.specs.Told.{Writes, WriteFailed};
 

@@ -1,4 +1,4 @@
-// A count of steps that costs nothing.
+//! A count of steps that costs nothing.
 ghost use Rattle.std.specs.Prelude.{◌≡◌, ◌+◌, ◌<◌};
 
 use std::marker::Model;

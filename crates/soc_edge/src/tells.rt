@@ -1,4 +1,4 @@
-// What a source and a sink tell of themselves.
+//! What a source and a sink tell of themselves.
 ghost use Rattle.soc_edge.specs.Told.{Told, untold};
 
 /// What is left to be read, what was written, and how often a call has failed. A pure source leaves out what is

@@ -1,3 +1,4 @@
+//! Worked rows: each stand-in in memory, call by call.
 ghost use Rattle.std.specs.Prelude.{◌≡◌, ◌+◌, ◌<◌, IfOk};
 
 use crate::*;

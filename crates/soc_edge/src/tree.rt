@@ -1,4 +1,4 @@
-// A folder of files that are read whole.
+//! A folder of files that are read whole.
 ghost use Rattle.std.specs.Prelude.{◌≡◌, IfSome, IfOk, IsErrOf};
 ghost use Rattle.soc_edge.specs.Tree.{TreeTold, OnlyLooks, TreeFailed};
 ghost use Rattle.soc_edge.specs.declared.tree.TreeError.TheVariants.{NoMemory};

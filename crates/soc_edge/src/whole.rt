@@ -1,4 +1,4 @@
-// Writes of a whole piece.
+//! Writes of a whole piece.
 ghost use Rattle.std.specs.Prelude.{OnOk, OnErr};
 ghost use Rattle.soc_edge.specs.Told.{Writes, WritesFront, WriteFailed};
 

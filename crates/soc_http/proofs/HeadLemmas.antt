@@ -9,7 +9,8 @@ use Rattle.soc_http.specs.declared.head.HeadError.{HeadError}
 use Rattle.soc_http.specs.declared.head.HeadError.TheVariants as H
 use Rattle.soc_http.specs.Block.{EndsInEmptyLine, IsBlock, HasNoBlock, HasFewLines, block_limit}
 use Rattle.soc_http.specs.Message.{HeadOf, RefusesBlock, TakesBlock, TakesHead, BeginsRefused, EndsInHead, HasNoBlockInLimit, RefusesHead, ByText, OrNoMemory, ReadsHead}
-use Rattle.soc_http.specs.Reading.{Fills, ahead, IfEnded, IfFault, IsWithinHead, ReadsHeadFrom, ReadsHeadAhead, IsSearched}
+use Rattle.soc_http.specs.Reading.{ahead, IfEnded, IfFault, IsWithinHead, ReadsHeadFrom, ReadsHeadAhead}
+use Rattle.soc_http.specs.inner.Windows.{Fills, IsSearched}
 
 -- ---- the search
 

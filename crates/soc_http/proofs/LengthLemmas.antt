@@ -13,7 +13,7 @@ use Rattle.soc_http.specs.declared.framing.Framing.{Framing}
 use Rattle.soc_http.specs.declared.framing.Stated.{Stated}
 use Rattle.soc_http.specs.declared.framing.Stated.TheVariants.{Length, Bad}
 use Rattle.soc_http.specs.Request.{Line, is_named, values_of, stated, is_length, is_coding, is_close}
-use Rattle.soc_http.specs.Framing.{framing_of, stated_more, stated_by_line}
+use Rattle.soc_http.specs.inner.Framing.{framing_of, stated_more, stated_by_line}
 
 -- the first i bytes are digits that write this number
 pub record IsReadTo (bytes : List ℕ) (i value : ℕ) : Type 0 where

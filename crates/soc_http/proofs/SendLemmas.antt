@@ -5,7 +5,7 @@ use Rattle.std.proofs.lemmas.Grind.{flat_map-append}
 use Rattle.std.specs.Borrow.{Bor}
 use Rattle.soc_edge.specs.Told.{Told, Writes, WritesFront}
 use Rattle.soc_edge.proofs.Told.{Writes-append, WritesFront-longer, WritesFront-behind}
-use Rattle.soc_http.specs.Pieces.{IsSent, pieces_text}
+use Rattle.soc_http.specs.inner.Pieces.{IsSent, pieces_text}
 
 -- the pending bytes were written
 pub IsSent-flushed : (s a b : Told) (p d : List ℕ) → IsSent s a p d → Writes a b p → Writes s b d

@@ -1,5 +1,5 @@
 -- Bodies of messages: so many bytes behind a head (RFC 9112, section 6.2).
-use Rattle.std.specs.Prelude.{◌≡◌, ℕ, ◌<◌, ◌≤◌, List, [], ◌++◌, length, take, Option, None, Some, Result, Ok, Err}
+use Rattle.std.specs.Prelude.{◌≡◌, ℕ, ◌<◌, List, [], ◌++◌, length, Option, None, Some, Result, Ok, Err}
 use Rattle.std.specs.Borrow.{Bor}
 use Rattle.std.specs.Io.KnownBytes.{IsAtEnd}
 use Rattle.soc_edge.specs.Told.{Told, Reads}
@@ -52,66 +52,6 @@ abbrev pub ReadsBodyAhead : Option (List ℕ) → ℕ → Result (List ℕ) Body
 ReadsBodyAhead None count result after = after ≡ None
 ReadsBodyAhead (Some text) count result None = ⊥
 ReadsBodyAhead (Some text) count result (Some rest) = ReadsBody text count result rest
-
--- ---- a piece of a body
-
--- what asking for a piece finds: the window has so many bytes of it, at least one and at most those that are left
-abbrev pub IsPiece : List ℕ → ℕ → Result ℕ BodyError → List ℕ → Type 0
-IsPiece text left (Ok count) window = (window ≡ text) × (0 < count) × (count ≤ left) × (count ≤ length window)
-IsPiece text left (Err B.CutShort) window = (text ≡ []) × (window ≡ [])
-IsPiece text left (Err B.ReadFault) window = (text ≡ []) × (window ≡ [])
-IsPiece text left (Err B.NoMemory) window = ⊥
-
-pub record IsPieceReady
-    (before after : Told) (old : List ℕ) (left : ℕ) (result : Result ℕ BodyError) (new : List ℕ) : Type 0 where
-  pub given : List ℕ
-  pub gives : Reads before after given
-  pub reads : IsPiece (old ++ given) left result new
-  pub ended : IfCut result (IsAtEnd after.left)
-
--- ---- a body that is passed over
-
-abbrev pub PassesOver : List ℕ → ℕ → Result (Unit {0}) BodyError → List ℕ → Type 0
-PassesOver text count (Ok done) rest = Skips text count rest
-PassesOver text count (Err B.CutShort) rest = (length text < count) × (rest ≡ [])
-PassesOver text count (Err B.ReadFault) rest = (length text < count) × (rest ≡ [])
-PassesOver text count (Err B.NoMemory) rest = ⊥
-
-pub record Passes
-    (before after : Told) (old : List ℕ) (count : ℕ) (result : Result (Unit {0}) BodyError) (new : List ℕ) : Type 0 where
-  pub given : List ℕ
-  pub gives : Reads before after given
-  pub reads : PassesOver (old ++ given) count result new
-  pub ended : IfCut result (IsAtEnd after.left)
-
--- what stands behind so many bytes, once the source gave some
-pub record Past (before after : Told) (old new : List ℕ) (count : ℕ) : Type 0 where
-  pub given : List ℕ
-  pub gives : Reads before after given
-  pub skips : Skips (old ++ given) count new
-
--- ---- a body that is read into its place
-
-abbrev pub ReadsInto : List ℕ → List ℕ → Result (Unit {0}) BodyError → List ℕ → Type 0
-ReadsInto text body (Ok done) rest = text ≡ body ++ rest
-ReadsInto text body (Err B.CutShort) rest = (length text < length body) × (rest ≡ [])
-ReadsInto text body (Err B.ReadFault) rest = (length text < length body) × (rest ≡ [])
-ReadsInto text body (Err B.NoMemory) rest = ⊥
-
-pub record IntoFrom
-    (before after : Told) (old body : List ℕ) (result : Result (Unit {0}) BodyError) (new : List ℕ) : Type 0 where
-  pub given : List ℕ
-  pub gives : Reads before after given
-  pub reads : ReadsInto (old ++ given) body result new
-  pub ended : IfCut result (IsAtEnd after.left)
-
--- the first bytes of the body are there, and the window is empty unless all of them are
-pub record IsFilledTo (before after : Told) (old body new : List ℕ) (at : ℕ) : Type 0 where
-  pub given : List ℕ
-  pub gives : Reads before after given
-  pub whole : old ++ given ≡ take at body ++ new
-  pub within : at ≤ length body
-  pub emptied : at < length body → new ≡ []
 
 -- ---- a piece that is lent
 

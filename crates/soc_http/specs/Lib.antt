@@ -1,11 +1,10 @@
 pub mod Block
 pub mod Request
-pub mod Framing
 pub mod Message
 pub mod Reading
 pub mod Reply
-pub mod Pieces
 pub mod Query
 pub mod Route
 pub mod Body
 pub mod Examples
+pub mod inner

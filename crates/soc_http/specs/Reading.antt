@@ -1,22 +1,16 @@
 -- Reading from a window and a source: what is ahead of a reader is what stands unread in its window, and then what the source has left.
-use Rattle.std.specs.Prelude.{◌≡◌, ℕ, ◌≤◌, List, [], ◌++◌, length, take, Option, None, Some, Result, Ok, Err, ⊤}
+use Rattle.std.specs.Prelude.{◌≡◌, ◌≤◌, List, ℕ, ◌++◌, length, Option, None, Some, Result, Ok, Err, ⊤}
 use Rattle.std.specs.Io.KnownBytes.{prepend_known, IsAtEnd}
 use Rattle.soc_edge.specs.Told.{Told, Reads}
 use Rattle.soc_http.specs.declared.head.Head.{Head}
 use Rattle.soc_http.specs.declared.head.HeadError.{HeadError}
 use Rattle.soc_http.specs.declared.head.HeadError.TheVariants as H
-use Rattle.soc_http.specs.Message.{ReadsHead, EndsInHead, HasNoBlockInLimit}
-use Rattle.soc_http.specs.Block.{IsBlock, HasNoBlock, block_limit}
+use Rattle.soc_http.specs.Message.{ReadsHead}
+use Rattle.soc_http.specs.Block.{HasNoBlock, block_limit}
 
 -- what is ahead, where the source tells it
 abbrev pub ahead : List ℕ → Told → Option (List ℕ)
 ahead window told = prepend_known window told.left
-
--- the source gave bytes, which stand behind those of the window
-pub record Fills (before after : Told) (old new : List ℕ) : Type 0 where
-  pub given : List ℕ
-  pub gives : Reads before after given
-  pub grown : new ≡ old ++ given
 
 -- the answers that a text gives only where it ends
 abbrev pub IfEnded : Result (Option Head) HeadError → Type 0 → Type 0
@@ -59,15 +53,3 @@ abbrev pub ReadsHeadAhead : Option (List ℕ) → Result (Option Head) HeadError
 ReadsHeadAhead None result after = after ≡ None
 ReadsHeadAhead (Some text) result None = ⊥
 ReadsHeadAhead (Some text) result (Some rest) = ReadsHead text result rest
-
--- what a search for a block finds in the window, with which the source has this left
-abbrev pub IsSearched : List ℕ → Told → Result (Option ℕ) HeadError → Type 0
-IsSearched window after (Ok None) = (window ≡ []) × IsAtEnd after.left
-IsSearched window after (Ok (Some end)) = (end ≤ length window) × (end ≤ block_limit) × IsBlock (take end window)
-IsSearched window after (Err H.CutShort) = EndsInHead window × IsAtEnd after.left
-IsSearched window after (Err H.HeadTooLarge) = HasNoBlockInLimit window
-IsSearched window after (Err H.ReadFault) = IsWithinHead window
-IsSearched window after (Err H.BadHead) = ⊥
-IsSearched window after (Err H.NoLength) = ⊥
-IsSearched window after (Err H.BodyTooLarge) = ⊥
-IsSearched window after (Err H.NoMemory) = ⊥

@@ -11,9 +11,16 @@ use Rattle.soc_http.specs.declared.reply.Answered.{Answered}
 abbrev pub line_end : List ℕ
 line_end = codes "\r\n"
 
+-- the first number of three digits, and the first of four
+abbrev pub first_status : ℕ
+first_status = 100
+
+abbrev pub past_status : ℕ
+past_status = 1000
+
 -- a status has three digits, and the first is not 0
 abbrev pub is_status : ℕ → Bool
-is_status status = nat_le 100 status && nat_lt status 1000
+is_status status = nat_le first_status status && nat_lt status past_status
 
 -- the phrase of a status; a number that is no status, or none that is known, has an empty one
 abbrev pub phrase_of : ℕ → List ℕ

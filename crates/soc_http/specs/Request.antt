@@ -42,12 +42,19 @@ is_post Post = true
 is_post Other = false
 
 -- `?`, behind which the query stands
+abbrev pub query_mark : ℕ
+query_mark = 63
+
 abbrev pub is_query_mark : ℕ → Bool
-is_query_mark b = b == 63
+is_query_mark b = b == query_mark
+
+-- how many digits a length may have
+abbrev pub digit_limit : ℕ
+digit_limit = 19
 
 -- 1 to 19 digits
 abbrev pub is_length : List ℕ → Bool
-is_length value = nat_lt 0 (length value) && (nat_le (length value) 19 && list_all is_ascii_digit value)
+is_length value = nat_lt 0 (length value) && (nat_le (length value) digit_limit && list_all is_ascii_digit value)
 
 -- what the values of the `Content-Length` lines state: nothing, a length, or what can't be taken
 abbrev pub stated : List (List ℕ) → Stated

@@ -36,15 +36,23 @@ literal_target path =
 abbrev pub report_front : List ℕ
 report_front = codes "/report/index/"
 
+-- its length
+abbrev pub front_length : ℕ
+front_length = 14
+
 -- `/`
+abbrev pub slash : ℕ
+slash = 47
+
 abbrev pub is_slash : ℕ → Bool
-is_slash b = b == 47
+is_slash b = b == slash
 
 -- what stands behind that front, where it is at least one byte and no further `/`
 abbrev pub report_id : List ℕ → Option (List ℕ)
 report_id path =
-    if bytes_eq (take 14 path) report_front && (nat_lt 14 (length path) && not (list_any is_slash (drop 14 path)))
-    then Some (drop 14 path) else None
+    if bytes_eq (take front_length path) report_front
+    && (nat_lt front_length (length path) && not (list_any is_slash (drop front_length path)))
+    then Some (drop front_length path) else None
 
 -- the target of a path: a report's, or a literal one
 abbrev pub report_or : Option (List ℕ) → Option Target → Option Target

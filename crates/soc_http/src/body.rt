@@ -1,10 +1,11 @@
-// Reading bodies from a source.
+//! Reading bodies from a source.
 ghost use Rattle.std.specs.Prelude.{◌≡◌, ◌≤◌, ◌<◌, ◌+◌, length, take, vec_len, IfOk, IsErrOf, OnErr};
 ghost use Rattle.soc_edge.specs.Told.{OnlyReads, ReadFailed};
 ghost use Rattle.soc_http.specs.Reading.{ahead};
 ghost use Rattle.std.specs.Borrow.{sem};
 ghost use Rattle.std.specs.Io.BufRead.{Rests};
-ghost use Rattle.soc_http.specs.Body.{IsPieceReady, BodyFrom, ReadsBodyAhead, Passes, IntoFrom, PieceFrom};
+ghost use Rattle.soc_http.specs.Body.{BodyFrom, ReadsBodyAhead, PieceFrom};
+ghost use Rattle.soc_http.specs.inner.Bodies.{IsPieceReady, Passes, IntoFrom};
 ghost use Rattle.soc_http.specs.contracts.buffer.Buffer.{the_row};
 
 use crate::buffer::{Buffer, read_behind};

@@ -1,10 +1,10 @@
-// The window that messages are read through.
+//! The window that messages are read through.
 ghost use Rattle.std.specs.Prelude.{◌≡◌, ◌≤◌, ◌<◌, ◌+◌, ◌-◌, [], length, take, drop, IfOk, IsErrOf, OnErr};
 ghost use Rattle.std.specs.Io.KnownBytes.{IsAtEnd};
 ghost use Rattle.soc_edge.specs.Told.{OnlyReads, Reads, ReadFailed};
 ghost use Rattle.std.specs.Borrow.{sem};
 ghost use Rattle.std.specs.Io.BufRead.{Rests};
-ghost use Rattle.soc_http.specs.Reading.{Fills};
+ghost use Rattle.soc_http.specs.inner.Windows.{Fills};
 ghost use Rattle.soc_http.specs.Body.{PieceFrom};
 ghost use Rattle.soc_http.specs.contracts.buffer.Buffer.{the_row};
 

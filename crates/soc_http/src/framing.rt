@@ -1,11 +1,11 @@
-// What the lines of a head say of its body and of the connection.
+//! What the lines of a head say of its body and of the connection.
 ghost use Rattle.std.specs.Prelude.{◌≡◌, ◌++◌, ◌∷◌, [], List, ℕ, length, map, Some, None, if◌then◌else◌};
 ghost use Rattle.std.specs.List.{All};
 ghost use Rattle.std.specs.Str.{str_eq_ignore_ascii_case};
 ghost use Rattle.std.specs.Str.Parse.{digits_value};
 ghost use Rattle.httparse.specs.Spans.{IsHeaderWithin, header_bytes};
 ghost use Rattle.soc_http.specs.Request.{is_length, taken_length, is_post, is_close};
-ghost use Rattle.soc_http.specs.Framing.{framing_of, stated_more, stated_by_line};
+ghost use Rattle.soc_http.specs.inner.Framing.{framing_of, stated_more, stated_by_line};
 
 use crate::head::HeadError;
 use crate::verb::Verb;

@@ -1,4 +1,4 @@
-// Heads of requests, and why one is refused.
+//! Heads of requests, and why one is refused.
 use crate::verb::Verb;
 use soc_raw::{NoMemory, Pairs, Text};
 use thiserror::Error;

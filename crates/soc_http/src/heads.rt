@@ -1,8 +1,9 @@
-// Reading heads from a source.
+//! Reading heads from a source.
 ghost use Rattle.std.specs.Prelude.{◌≡◌, ◌≤◌, IfOk, IsErrOf, IfSome};
 ghost use Rattle.soc_edge.specs.Told.{ReadFailed};
 ghost use Rattle.soc_http.specs.Request.{IsWithinLimits};
-ghost use Rattle.soc_http.specs.Reading.{Fills, IsSearched, ReadsHeadFrom, ReadsHeadAhead, ahead};
+ghost use Rattle.soc_http.specs.Reading.{ReadsHeadFrom, ReadsHeadAhead, ahead};
+ghost use Rattle.soc_http.specs.inner.Windows.{Fills, IsSearched};
 
 use crate::block::read_block;
 use crate::buffer::Buffer;

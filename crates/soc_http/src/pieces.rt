@@ -1,8 +1,8 @@
-// Texts in several pieces, written in as few writes as a small buffer allows.
+//! Texts in several pieces, written in as few writes as a small buffer allows.
 ghost use Rattle.std.specs.Prelude.{◌≡◌, ◌<◌, ◌≤◌, ◌+◌, ◌++◌, [], List, ℕ, Option, length, OnOk, OnErr};
 ghost use Rattle.std.specs.Bool.{OnTrue, OnFalse};
 ghost use Rattle.soc_edge.specs.Told.{Told, Writes, WritesFront, WriteFailed};
-ghost use Rattle.soc_http.specs.Pieces.{pieces_text, IsSent};
+ghost use Rattle.soc_http.specs.inner.Pieces.{pieces_text, IsSent};
 
 use crate::reply::WriteFault;
 use soc_edge::{Sink, write_all};

@@ -1,4 +1,4 @@
-// Queries.
+//! Queries.
 ghost use Rattle.std.specs.Prelude.{◌≡◌, IfOk};
 ghost use Rattle.soc_http.specs.Query.{query_pairs};
 

@@ -1,8 +1,8 @@
-// Replies.
+//! Replies.
 ghost use Rattle.std.specs.Prelude.{◌≡◌, ◌≤◌, OnOk, OnErr, length, decimal};
 ghost use Rattle.soc_edge.specs.Told.{Told, Writes, WritesFront, WriteFailed};
 ghost use Rattle.soc_http.specs.Reply.{reply_text, phrase_of, media_type, allow_line, close_line};
-ghost use Rattle.soc_http.specs.Pieces.{pieces_text};
+ghost use Rattle.soc_http.specs.inner.Pieces.{pieces_text};
 
 use crate::pieces::write_pieces;
 use crate::verb::Verb;

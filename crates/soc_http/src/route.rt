@@ -1,4 +1,4 @@
-// Routes.
+//! Routes.
 ghost use Rattle.std.specs.Prelude.{◌≡◌, IsOk, MatchOption, None, Some};
 ghost use Rattle.soc_http.specs.Route.{IsRouteOf, literal_target, report_id, is_verb};
 

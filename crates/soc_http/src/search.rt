@@ -1,4 +1,4 @@
-// Where a head block ends.
+//! Where a head block ends.
 ghost use Rattle.std.specs.Prelude.{◌≤◌, length, take, MatchOption};
 ghost use Rattle.soc_http.specs.Block.{IsBlock, HasNoBlock};
 

@@ -1,4 +1,4 @@
-// Worked rows, each fed in one piece and one byte at a time.
+//! Worked rows, each fed in one piece and one byte at a time.
 use crate::{
     Answered, BodyError, Buffer, Head, HeadError, Kind, Route, RouteError, Routes, Verb,
     body_piece, pairs_of, read_body, read_head, write_reply,

@@ -1,4 +1,4 @@
-// Methods.
+//! Methods.
 
 /// The method of a request, as far as the routes tell methods apart.
 #[derive(Clone, Copy, Debug, PartialEq, Eq)]

@@ -11,7 +11,8 @@ use Rattle.soc_session.specs.declared.ending.SessionEnd.TheVariants.{NoMemory}
 use Rattle.soc_session.proofs.ConnectionLemmas.{Serves-nothing, Serves-of}
 use Rattle.soc_serve.specs.declared.setup.Setup.{Setup}
 use Rattle.soc_serve.specs.Replay.{ServesBook}
-use Rattle.soc_serve.specs.Texts.{AreTexts, text_of}
+use Rattle.soc_serve.specs.Texts.{text_of}
+use Rattle.soc_serve.specs.inner.Texts.{AreTexts}
 
 -- both files were read from the same tree
 pub texts-are : (before middle : Option (List ℕ → Option (List ℕ))) (said brought : List ℕ) → IfSome before (λ files. said ≡ text_of files (codes "settings.toml")) → middle ≡ before

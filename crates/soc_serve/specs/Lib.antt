@@ -6,3 +6,4 @@ pub mod Texts
 pub mod TokenText
 pub mod Words
 mod SettingExamples
+pub mod inner

@@ -11,7 +11,7 @@ use Rattle.soc_session.specs.declared.ending.SessionEnd.TheVariants.{Ended, Clos
 use Rattle.soc_session.specs.Session.{Serves, around}
 use Rattle.soc_serve.specs.declared.replay.RunEnd.{RunEnd}
 use Rattle.soc_serve.specs.declared.replay.RunEnd.TheVariants as R
-use Rattle.soc_serve.specs.declared.setup.Refusal.{Refusal}
+use Rattle.soc_serve.specs.declared.setup.FileRefusal.{FileRefusal}
 use Rattle.soc_serve.specs.declared.setup.Setup.{Setup}
 use Rattle.soc_serve.specs.Setup.{refusal_line, setup_of}
 use Rattle.soc_serve.specs.Texts.{text_of}
@@ -39,7 +39,7 @@ abbrev pub DrawsNothing : Outside → Outside → Type 0
 DrawsNothing before after = Hands before.outlook after.outlook [] [] []
 
 -- what the files of a tree say, where the tree tells them
-abbrev pub Says : Option (List ℕ → Option (List ℕ)) → Result Setup Refusal → Type 0
+abbrev pub Says : Option (List ℕ → Option (List ℕ)) → Result Setup FileRefusal → Type 0
 Says files said = IfSome files (λ told. setup_of (text_of told (codes "settings.toml")) (text_of told (codes "tokens.toml")) ≡ said)
 
 -- a run, by its end: the files are looked at before the input
@@ -47,10 +47,10 @@ abbrev pub Replays : Outside → Outside → RunEnd → Type 0
 Replays before after (R.Served end) =
     (setup : Setup) × Says before.tree.files (Ok setup) × ServesBook setup before.streams after.streams before.outlook after.outlook end
 Replays before after R.TextRefused =
-    (refusal : Refusal) × Says before.tree.files (Err refusal) × DrawsNothing before after
+    (refusal : FileRefusal) × Says before.tree.files (Err refusal) × DrawsNothing before after
     × Writes before.streams after.streams (refusal_line refusal)
 Replays before after R.LineFault =
-    (refusal : Refusal) × Says before.tree.files (Err refusal) × DrawsNothing before after
+    (refusal : FileRefusal) × Says before.tree.files (Err refusal) × DrawsNothing before after
     × WritesFront before.streams after.streams (refusal_line refusal)
 Replays before after R.TreeFault = DrawsNothing before after × (after.streams ≡ before.streams)
 Replays before after R.NoMemory = DrawsNothing before after × (after.streams ≡ before.streams)
@@ -83,11 +83,3 @@ status_of R.TextRefused = 3
 status_of R.LineFault = 7
 status_of R.TreeFault = 8
 status_of R.NoMemory = 10
-
--- the line was written, or cut short by a fault, or memory wanted for it
-abbrev pub Refuses : Told → Told → Refusal → RunEnd → Type 0
-Refuses before after refusal (R.Served end) = ⊥
-Refuses before after refusal R.TextRefused = Writes before after (refusal_line refusal)
-Refuses before after refusal R.LineFault = WritesFront before after (refusal_line refusal)
-Refuses before after refusal R.TreeFault = ⊥
-Refuses before after refusal R.NoMemory = after ≡ before

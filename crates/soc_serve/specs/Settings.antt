@@ -19,17 +19,36 @@ use Rattle.soc_serve.specs.declared.settings.SettingsError.{SettingsError}
 use Rattle.soc_serve.specs.declared.settings.SettingsError.TheVariants.{NotToml, BadSetting, BadRule, NoMemory}
 use Rattle.soc_serve.specs.Documents.{document_of}
 
+-- the most crashes that may be accepted
+abbrev pub most_crashes : ℕ
+most_crashes = 65536
+
+-- the least and the most bytes of a journal
+abbrev pub least_journal_bytes : ℕ
+least_journal_bytes = 64
+
+abbrev pub most_journal_bytes : ℕ
+most_journal_bytes = 68719476736
+
+-- the most bytes of a session
+abbrev pub most_session_bytes : ℕ
+most_session_bytes = 4294967296
+
+-- the most rules, and the most products that may be named
+abbrev pub most_entries : ℕ
+most_entries = 256
+
 -- a number from 1 to 65,536
 abbrev pub crashes_of : Data → Option ℕ
-crashes_of = number_of 1 65536
+crashes_of = number_of 1 most_crashes
 
 -- a number from 64 to 68,719,476,736
 abbrev pub journal_bytes_of : Data → Option ℕ
-journal_bytes_of = number_of 64 68719476736
+journal_bytes_of = number_of least_journal_bytes most_journal_bytes
 
 -- a number from 1 to 4,294,967,296
 abbrev pub session_bytes_of : Data → Option ℕ
-session_bytes_of = number_of 1 4294967296
+session_bytes_of = number_of 1 most_session_bytes
 
 -- the key is one of the profile, and the value has its form
 abbrev pub is_good : List ℕ → Data → Bool
@@ -37,7 +56,7 @@ is_good key value =
     if bytes_eq key (codes "crashes") then is_some (crashes_of value)
     else if bytes_eq key (codes "journal_bytes") then is_some (journal_bytes_of value)
     else if bytes_eq key (codes "public_products") then is_some (products_of value)
-    else if bytes_eq key (codes "rule") then is_table_array 256 value
+    else if bytes_eq key (codes "rule") then is_table_array most_entries value
     else if bytes_eq key (codes "session_bytes") then is_some (session_bytes_of value)
     else false
 
@@ -69,10 +88,10 @@ abbrev pub settings_with : List Rule → Members → Settings
 settings_with rules table = record {
   rules = rules;
   public = at_or (codes "public_products") products_of AllProducts table;
-  session_bytes = at_or (codes "session_bytes") session_bytes_of 4294967296 table;
+  session_bytes = at_or (codes "session_bytes") session_bytes_of most_session_bytes table;
   limits = record {
-    journal_bytes = at_or (codes "journal_bytes") journal_bytes_of 68719476736 table;
-    crashes = at_or (codes "crashes") crashes_of 65536 table;
+    journal_bytes = at_or (codes "journal_bytes") journal_bytes_of most_journal_bytes table;
+    crashes = at_or (codes "crashes") crashes_of most_crashes table;
   };
 }
 
@@ -95,9 +114,9 @@ pub record IsWithin (low high n : ℕ) : Type 0 where
 
 -- each number lies in its range
 pub record LieInRanges (settings : Settings) : Type 0 where
-  pub session_bytes : IsWithin 1 4294967296 settings.session_bytes
-  pub journal_bytes : IsWithin 64 68719476736 settings.limits.journal_bytes
-  pub crashes : IsWithin 1 65536 settings.limits.crashes
+  pub session_bytes : IsWithin 1 most_session_bytes settings.session_bytes
+  pub journal_bytes : IsWithin least_journal_bytes most_journal_bytes settings.limits.journal_bytes
+  pub crashes : IsWithin 1 most_crashes settings.limits.crashes
 
 -- why rules weren't read is why settings aren't
 abbrev pub of_rules : RuleError → SettingsError

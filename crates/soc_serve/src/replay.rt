@@ -2,9 +2,10 @@
 ghost use Rattle.std.specs.Prelude.{◌≡◌, ◌⊎◌};
 ghost use Rattle.soc_edge.specs.Ahead.{outlook};
 ghost use Rattle.soc_edge.specs.Told.{NeverFall, HasCause, WriteFailed};
-ghost use Rattle.soc_serve.specs.Replay.{Refuses, Replays, RunHasCause, RunsOn, ServesBook, session_status, status_of, outside};
+ghost use Rattle.soc_serve.specs.Replay.{Replays, RunHasCause, RunsOn, ServesBook, session_status, status_of, outside};
+ghost use Rattle.soc_serve.specs.inner.Refusals.{Refuses};
 
-use crate::setup::{Refusal, Setup, SetupError, refusal_line, set_up};
+use crate::setup::{FileRefusal, Setup, SetupError, refusal_line, set_up};
 use crate::texts::read_texts;
 use soc_book::{Book, Small};
 use soc_edge::{Clock, Draws, Failed, Sink, Source, Tree, TreeError, write_all};
@@ -90,7 +91,7 @@ pub(crate) fn replay<T: Tree, X: Source + Sink, C: Clock, W: Draws>(
 }
 
 /// Writes the line that tells which file is refused.
-fn refuse<K: Sink>(alloc: Global, output: &mut K, refusal: &Refusal) -> RunEnd
+fn refuse<K: Sink>(alloc: Global, output: &mut K, refusal: &FileRefusal) -> RunEnd
     ensures refuses { Refuses (K.told output.old) (K.told output.new) refusal.now result }
     ensures cause { result ≡ RunEnd.LineFault → WriteFailed (K.told output.old) (K.told output.new) }
 {

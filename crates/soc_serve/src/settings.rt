@@ -155,8 +155,8 @@ fn public_of(alloc: Global, table: &Table) -> Result<Products, NoMemory>
 }
 
 fn session_bytes_of(table: &Table) -> u64
-    ensures value { result ≡ spec.at_or (codes "session_bytes") spec.session_bytes_of 4294967296 (table_view table.now) }
-    ensures range { spec.IsWithin 1 4294967296 result }
+    ensures value { result ≡ spec.at_or (codes "session_bytes") spec.session_bytes_of spec.most_session_bytes (table_view table.now) }
+    ensures range { spec.IsWithin 1 spec.most_session_bytes result }
 {
     match soc_toml::value_at(table, "session_bytes") {
         Some(value) => session_bytes_in(value).unwrap_or(MOST_SESSION_BYTES),
@@ -165,8 +165,8 @@ fn session_bytes_of(table: &Table) -> u64
 }
 
 fn journal_bytes_of(table: &Table) -> u64
-    ensures value { result ≡ spec.at_or (codes "journal_bytes") spec.journal_bytes_of 68719476736 (table_view table.now) }
-    ensures range { spec.IsWithin 64 68719476736 result }
+    ensures value { result ≡ spec.at_or (codes "journal_bytes") spec.journal_bytes_of spec.most_journal_bytes (table_view table.now) }
+    ensures range { spec.IsWithin spec.least_journal_bytes spec.most_journal_bytes result }
 {
     match soc_toml::value_at(table, "journal_bytes") {
         Some(value) => journal_bytes_in(value).unwrap_or(MOST_JOURNAL_BYTES),
@@ -175,8 +175,8 @@ fn journal_bytes_of(table: &Table) -> u64
 }
 
 fn crashes_of(table: &Table) -> u32
-    ensures value { result ≡ spec.at_or (codes "crashes") spec.crashes_of 65536 (table_view table.now) }
-    ensures range { spec.IsWithin 1 65536 result }
+    ensures value { result ≡ spec.at_or (codes "crashes") spec.crashes_of spec.most_crashes (table_view table.now) }
+    ensures range { spec.IsWithin 1 spec.most_crashes result }
 {
     match soc_toml::value_at(table, "crashes") {
         Some(value) => crashes_in(value).unwrap_or(MOST_CRASHES as u32),
@@ -237,7 +237,7 @@ fn are_products(value: &Value) -> bool
 }
 
 fn is_text_array(value: &Value) -> bool
-    ensures { result ≡ is_some (texts_within 256 (view value.now)) }
+    ensures { result ≡ is_some (texts_within spec.most_entries (view value.now)) }
 {
     match value.as_array() {
         Some(array) => array.len() <= MOST_ENTRIES && are_texts(array),

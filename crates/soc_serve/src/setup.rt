@@ -20,7 +20,7 @@ pub(crate) struct Setup {
 
 /// Which file is refused, and why.
 #[derive(Drop)]
-pub(crate) enum Refusal {
+pub(crate) enum FileRefusal {
     SettingsNotToml,
     BadSetting { key: Text },
     BadRule { index: u32 },
@@ -31,7 +31,7 @@ pub(crate) enum Refusal {
 /// Why there is nothing to go by.
 #[derive(Drop)]
 pub(crate) enum SetupError {
-    Refused(Refusal),
+    Refused(FileRefusal),
     NoMemory,
 }
 
@@ -42,20 +42,22 @@ pub(crate) fn set_up(alloc: Global, texts: &Texts) -> Result<Setup, SetupError>
 {
     let settings = match Settings::read(alloc, texts.settings.as_slice()) {
         Ok(settings) => settings,
-        Err(SettingsError::NotToml) => return Err(SetupError::Refused(Refusal::SettingsNotToml)),
+        Err(SettingsError::NotToml) => return Err(SetupError::Refused(
+            FileRefusal::SettingsNotToml,
+        )),
         Err(SettingsError::BadSetting { key }) => {
-            return Err(SetupError::Refused(Refusal::BadSetting { key }));
+            return Err(SetupError::Refused(FileRefusal::BadSetting { key }));
         }
         Err(SettingsError::BadRule { index }) => {
-            return Err(SetupError::Refused(Refusal::BadRule { index }));
+            return Err(SetupError::Refused(FileRefusal::BadRule { index }));
         }
         Err(SettingsError::NoMemory) => return Err(SetupError::NoMemory),
     };
     match read_tokens(alloc, texts.tokens.as_slice()) {
         Ok(tokens) => Ok(with_tokens(settings, tokens)),
-        Err(TokensError::NotToml) => Err(SetupError::Refused(Refusal::TokensNotToml)),
+        Err(TokensError::NotToml) => Err(SetupError::Refused(FileRefusal::TokensNotToml)),
         Err(TokensError::BadToken { index }) => {
-            Err(SetupError::Refused(Refusal::BadToken { index }))
+            Err(SetupError::Refused(FileRefusal::BadToken { index }))
         }
         Err(TokensError::NoMemory) => Err(SetupError::NoMemory),
     }
@@ -76,20 +78,20 @@ fn with_tokens(settings: Settings, tokens: Tokens) -> Setup
 }
 
 /// The line that tells which file is refused, and why.
-pub(crate) fn refusal_line(alloc: Global, refusal: &Refusal) -> Result<Bytes, NoMemory>
+pub(crate) fn refusal_line(alloc: Global, refusal: &FileRefusal) -> Result<Bytes, NoMemory>
     ensures { IfOk result (λ text. text ≡ refusal_line refusal.now) }
 {
     let mut digits = itoa::Buffer::new();
     match refusal {
-        Refusal::SettingsNotToml => line(alloc, "refused settings.toml: 110", ""),
-        Refusal::BadSetting { key } => line(alloc, "refused settings.toml: 111 ", key.as_str()),
-        Refusal::BadRule { index } => line(
+        FileRefusal::SettingsNotToml => line(alloc, "refused settings.toml: 110", ""),
+        FileRefusal::BadSetting { key } => line(alloc, "refused settings.toml: 111 ", key.as_str()),
+        FileRefusal::BadRule { index } => line(
             alloc,
             "refused settings.toml: 20 ",
             digits.format(*index),
         ),
-        Refusal::TokensNotToml => line(alloc, "refused tokens.toml: 110", ""),
-        Refusal::BadToken { index } => line(
+        FileRefusal::TokensNotToml => line(alloc, "refused tokens.toml: 110", ""),
+        FileRefusal::BadToken { index } => line(
             alloc,
             "refused tokens.toml: 70 ",
             digits.format(*index),

@@ -1,7 +1,8 @@
 //! The files that a run goes by.
 ghost use Rattle.std.specs.Prelude.{◌≡◌, IfOk, IfSome, IsErrOf};
 ghost use Rattle.soc_edge.specs.Tree.{OnlyLooks, TreeFailed};
-ghost use Rattle.soc_serve.specs.Texts.{AreTexts, text_of};
+ghost use Rattle.soc_serve.specs.Texts.{text_of};
+ghost use Rattle.soc_serve.specs.inner.Texts.{AreTexts};
 
 use soc_edge::{Tree, TreeError};
 use soc_raw::Bytes;

@@ -12,7 +12,7 @@ use Rattle.soc_book.specs.declared.desk.Command.TheVariants as C
 use Rattle.soc_book.specs.declared.desk.Receipt.{Receipt}
 use Rattle.soc_book.specs.declared.desk.Reply.{Reply}
 use Rattle.soc_book.specs.Kinds.{IsReplyTo}
-use Rattle.soc_session.specs.declared.answers.Outcome.{Outcome}
+use Rattle.soc_session.specs.declared.answers.Handled.{Handled}
 use Rattle.soc_session.specs.declared.rules.Rules.{Rules}
 use Rattle.soc_session.specs.declared.tasks.Task.{Task}
 use Rattle.soc_session.specs.declared.tasks.Task.TheVariants.{Say, Ask}
@@ -20,18 +20,18 @@ use Rattle.soc_session.specs.Desk.{Asking, IsExchange, AnswersPlan}
 use Rattle.soc_session.specs.Plan.{Drawn, Plan, says, keeps, shows, drains, IsAsked, MayDraw, Plans}
 use Rattle.soc_session.specs.Replies.{desk_reply, no_memory}
 use Rattle.soc_session.specs.Rows.{IsRow}
-use Rattle.soc_session.specs.Tasks.{Answers, AnswersTask, Carries, HandsDrawn, IsTask, Tasks, message_of, reply_of}
+use Rattle.soc_session.specs.inner.Tasks.{Answers, AnswersTask, Carries, HandsDrawn, IsTask, Tasks, message_of, reply_of}
 
 -- memory wanted before the desk was asked
-pub Answers-wanting : {K : Type 0} (asks : K → Command → Receipt → K → Type 0) (rules : Rules) (message : Message) (desk : K) (x y : Outlook) (drawn : List Drawn) (outcome : Outcome)
+pub Answers-wanting : {K : Type 0} (asks : K → Command → Receipt → K → Type 0) (rules : Rules) (message : Message) (desk : K) (x y : Outlook) (drawn : List Drawn) (outcome : Handled)
     → MayDraw rules message drawn → HandsDrawn x y drawn → outcome ≡ record { reply = None; stopped = false }
     → Answers asks rules message desk desk x y outcome
 Answers-wanting {K} asks rules message desk x y drawn outcome may hands is = record {
   exchange = record { message = message; drawn = drawn; asked = None; reply = no_memory };
   is = inr (record { draws = may; unasked = refl; reply = refl });
   message_is = refl;
-  reply_is = ap (λ (o : Outcome). reply_of o.reply) (sym is);
-  stopped_is = ap (λ (o : Outcome). o.stopped) (sym is);
+  reply_is = ap (λ (o : Handled). reply_of o.reply) (sym is);
+  stopped_is = ap (λ (o : Handled). o.stopped) (sym is);
   steps = refl;
   hands = hands;
 }
@@ -78,7 +78,7 @@ exchange_is rules message drawn plan (Ask command) (Some asking) None plans is a
     inl (record { plan = plan; plans = plans; answers = answers_asked plan command asking no_memory is answers.0 answers.1 (inr (answers.2, refl)) })
 
 -- a task that was carried out answers its message
-pub Answers-done : {K : Type 0} (asks : K → Command → Receipt → K → Type 0) (rules : Rules) (message : Message) (task : Task) (desk after : K) (x y : Outlook) (outcome : Outcome)
+pub Answers-done : {K : Type 0} (asks : K → Command → Receipt → K → Type 0) (rules : Rules) (message : Message) (task : Task) (desk after : K) (x y : Outlook) (outcome : Handled)
     → Tasks (Plans rules message) x y (Ok task) → Carries asks task desk after outcome → Answers asks rules message desk after x y outcome
 Answers-done {K} asks rules message task desk after x y outcome tasks carries = record {
   exchange = record { message = message; drawn = tasks.drawn; asked = carries.asked; reply = reply_of outcome.reply };
@@ -111,7 +111,7 @@ message-is : (message : Message) (head : Head) (body : List ℕ) → message.hea
 message-is message head body h b = ap (λ x. message_of x body) (sym h) ∙ ap (λ x. message_of message.head x) (sym b)
 
 -- the message is the one that came
-pub Answers-came : {K : Type 0} (asks : K → Command → Receipt → K → Type 0) (rules : Rules) (message : Message) (head : Head) (body : List ℕ) (desk after : K) (x y : Outlook) (outcome : Outcome)
+pub Answers-came : {K : Type 0} (asks : K → Command → Receipt → K → Type 0) (rules : Rules) (message : Message) (head : Head) (body : List ℕ) (desk after : K) (x y : Outlook) (outcome : Handled)
     → message.head ≡ head → message.body ≡ body → Answers asks rules (message_of head body) desk after x y outcome → Answers asks rules message desk after x y outcome
 Answers-came {K} asks rules message head body desk after x y outcome h b answers =
     subst (λ m. Answers asks rules m desk after x y outcome) (message-is message head body h b) answers

@@ -10,7 +10,7 @@ use Rattle.soc_http.specs.Body.{BodyFrom}
 use Rattle.soc_http.specs.Message.{TakesHead, TakesMessage, RefusesMessage}
 use Rattle.soc_http.specs.Reading.{ReadsHeadFrom, IsWithinHead}
 use Rattle.soc_http.proofs.HeadLemmas.{ReadsHead-more}
-use Rattle.soc_session.specs.Arrivals.{Arrives, ReadsMessage}
+use Rattle.soc_session.specs.inner.Arrivals.{Arrives, ReadsMessage}
 use Rattle.soc_session.specs.Messages.{IsUnfinished}
 
 -- no head

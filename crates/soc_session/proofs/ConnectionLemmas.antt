@@ -17,29 +17,29 @@ use Rattle.soc_http.proofs.HeadLemmas.{ReadsHead-more}
 use Rattle.soc_book.specs.declared.desk.Command.{Command}
 use Rattle.soc_book.specs.declared.desk.Receipt.{Receipt}
 use Rattle.soc_session.specs.declared.arrivals.Incoming.{Incoming}
-use Rattle.soc_session.specs.declared.answers.Outcome.{Outcome}
+use Rattle.soc_session.specs.declared.answers.Handled.{Handled}
 use Rattle.soc_session.specs.declared.connection.Next.{Next}
 use Rattle.soc_session.specs.declared.connection.Next.TheVariants.{Ends}
 use Rattle.soc_session.specs.declared.ending.SessionEnd.{SessionEnd}
 use Rattle.soc_session.specs.declared.ending.SessionEnd.TheVariants.{Ended, Closed, Stopped, Refused, ReadFault, WriteFault, TooLong, NoMemory}
 use Rattle.soc_session.specs.declared.rules.Rules.{Rules}
-use Rattle.soc_session.specs.Arrivals.{Arrives, IsMessage, ReadsMessage}
+use Rattle.soc_session.specs.inner.Arrivals.{Arrives, IsMessage, ReadsMessage}
 use Rattle.soc_session.specs.Desk.{Exchange, IsExchange, StepsDesk, says_stopped}
 use Rattle.soc_session.specs.Messages.{RefusedAt}
 use Rattle.soc_session.specs.Plan.{Drawn}
 use Rattle.soc_session.specs.Replies.{closing}
-use Rattle.soc_session.specs.Session.{Around, around, CutsReply, EndsAtEdge, EndsBehind, HandsTurns, IsEnd, Leaves, Serves, Turn, Writes, met, refused, turn_bytes, turn_text, closing_of, is_last, replies_text, drawn_for}
-use Rattle.soc_session.specs.Steps.{Exchanges, Halts, IsNext, Refuses, Responds, ServesFrom, StepsOn, WritesNext, next_of}
-use Rattle.soc_session.specs.Tasks.{Answers, HandsDrawn, reply_of}
+use Rattle.soc_session.specs.Session.{Around, around, CutsReply, EndsAtEdge, EndsBehind, HandsResponses, IsEnd, Leaves, Serves, Response, WritesAll, met, refused, response_bytes, response_text, closing_of, is_last, replies_text, drawn_for}
+use Rattle.soc_session.specs.inner.Steps.{Exchanges, Halts, IsNext, Refuses, Responds, ServesFrom, StepsOn, WritesNext, next_of}
+use Rattle.soc_session.specs.inner.Tasks.{Answers, HandsDrawn, reply_of}
 
--- ---- no turn
+-- ---- no response
 
 -- the session ends at a message's edge
 pub Serves-edge : {K : Type 0} (asks : K → Command → Receipt → K → Type 0) (rules : Rules) (window : List ℕ) (budget : ℕ) (desk : K) (x : Outlook) (before after : Told) (end : SessionEnd) (given : List ℕ)
-    → Gives before.left after.left given → Leaves end (window ++ given) after.left → Writes end before.held after.held [] → IsEnd end budget []
+    → Gives before.left after.left given → Leaves end (window ++ given) after.left → WritesAll end before.held after.held [] → IsEnd end budget []
     → ServesFrom asks rules window budget (around before desk x) (around after desk x) end
 Serves-edge {K} asks rules window budget desk x before after end given gives leaves writes ends = record {
-  turns = [];
+  responses = [];
   by_rules = tt;
   runs = refl;
   given = given;
@@ -75,27 +75,27 @@ Serves-wanting asks rules window behind desk x before after given error gives re
 
 -- ---- a refusal
 
-whole : (held held' : Option (List ℕ)) (turn : Turn) → Takes held held' (turn_text turn) → Takes held held' (replies_text (turn ∷ []))
-whole held held' turn takes = subst (Takes held held') (sym (append-nil (turn_text turn))) takes
+whole : (held held' : Option (List ℕ)) (response : Response) → Takes held held' (response_text response) → Takes held held' (replies_text (response ∷ []))
+whole held held' response takes = subst (Takes held held') (sym (append-nil (response_text response))) takes
 
-cuts : (held held' : Option (List ℕ)) (turn : Turn) → TakesFront held held' (turn_text turn) → CutsReply held held' (turn ∷ [])
-cuts held held' turn front = record {
+cuts : (held held' : Option (List ℕ)) (response : Response) → TakesFront held held' (response_text response) → CutsReply held held' (response ∷ [])
+cuts held held' response front = record {
   whole = [];
-  last = turn;
-  turns_are = refl;
+  last = response;
+  responses_are = refl;
   count = front.count;
   not_all = front.not_all;
   takes = front.takes;
 }
 
-behind-one : (budget : ℕ) (turn : Turn) (P : Turn → Type 0) → 0 < budget → P turn → EndsBehind budget (turn ∷ []) P
-behind-one budget turn P some p = record { before = []; last = turn; turns_are = refl; over = budget; goes_on = refl; some = some; ends = p }
+behind-one : (budget : ℕ) (response : Response) (P : Response → Type 0) → 0 < budget → P response → EndsBehind budget (response ∷ []) P
+behind-one budget response P some p = record { before = []; last = response; responses_are = refl; over = budget; goes_on = refl; some = some; ends = p }
 
-refused-turn : {K : Type 0} (asks : K → Command → Receipt → K → Type 0) (rules : Rules) (window : List ℕ) (budget : ℕ) (desk : K) (x : Outlook) (before after : Told) (end : SessionEnd) (error : HeadError) (given : List ℕ)
-    → Gives before.left after.left given → RefusedAt (window ++ given) after.left error → Leaves end (window ++ given) after.left → Writes end before.held after.held (refused error ∷ []) → IsEnd end budget (refused error ∷ [])
+refused-response : {K : Type 0} (asks : K → Command → Receipt → K → Type 0) (rules : Rules) (window : List ℕ) (budget : ℕ) (desk : K) (x : Outlook) (before after : Told) (end : SessionEnd) (error : HeadError) (given : List ℕ)
+    → Gives before.left after.left given → RefusedAt (window ++ given) after.left error → Leaves end (window ++ given) after.left → WritesAll end before.held after.held (refused error ∷ []) → IsEnd end budget (refused error ∷ [])
     → ServesFrom asks rules window budget (around before desk x) (around after desk x) end
-refused-turn {K} asks rules window budget desk x before after end error given gives refusal leaves writes ends = record {
-  turns = refused error ∷ [];
+refused-response {K} asks rules window budget desk x before after end error given gives refusal leaves writes ends = record {
+  responses = refused error ∷ [];
   by_rules = (tt, tt);
   runs = refl;
   given = given;
@@ -121,10 +121,10 @@ pub Serves-refused : {K : Type 0} (asks : K → Command → Receipt → K → Ty
     → (error ≡ H.ReadFault → ⊥) → (error ≡ H.NoMemory → ⊥) → Gives before.left after.left given → ReadsMessage (window ++ given) (Err error) behind after.left → Refuses before.held after.held error end → (budget : ℕ) → 0 < budget
     → ServesFrom asks rules window budget (around before desk x) (around after desk x) end
 Serves-refused asks rules window behind desk x before after given error Refused n m gives reads how budget some =
-    refused-turn asks rules window budget desk x before after Refused error given gives (refused-at _ _ after.left error n m reads) tt
+    refused-response asks rules window budget desk x before after Refused error given gives (refused-at _ _ after.left error n m reads) tt
     (whole before.held after.held (refused error) how) (behind-one budget (refused error) _ some refl)
 Serves-refused asks rules window behind desk x before after given error WriteFault n m gives reads how budget some =
-    refused-turn asks rules window budget desk x before after WriteFault error given gives (refused-at _ _ after.left error n m reads) tt
+    refused-response asks rules window budget desk x before after WriteFault error given gives (refused-at _ _ after.left error n m reads) tt
     (cuts before.held after.held (refused error) how) (behind-one budget (refused error) _ some tt)
 Serves-refused asks rules window behind desk x before after given error NoMemory n m gives reads how budget some =
     Serves-wanting asks rules window behind desk x before after given error gives reads how budget some
@@ -136,15 +136,15 @@ Serves-refused asks rules window behind desk x before after given error TooLong 
 
 -- ---- a message
 
-hands-one : (x y : Outlook) (exchange : Exchange) → HandsDrawn x y exchange.drawn → HandsTurns x y (met exchange ∷ [])
+hands-one : (x y : Outlook) (exchange : Exchange) → HandsDrawn x y exchange.drawn → HandsResponses x y (met exchange ∷ [])
 hands-one x y exchange hands = subst (HandsDrawn x y) (sym (append-nil exchange.drawn)) hands
 
-met-turn : {K : Type 0} (asks : K → Command → Receipt → K → Type 0) (rules : Rules) (window behind : List ℕ) (budget : ℕ) (desk desk' : K) (x y : Outlook) (before after : Told) (end : SessionEnd) (exchange : Exchange) (given : List ℕ)
+met-response : {K : Type 0} (asks : K → Command → Receipt → K → Type 0) (rules : Rules) (window behind : List ℕ) (budget : ℕ) (desk desk' : K) (x y : Outlook) (before after : Told) (end : SessionEnd) (exchange : Exchange) (given : List ℕ)
     → IsExchange rules exchange → StepsDesk asks desk exchange.asked desk' → Gives before.left after.left given → TakesMessage (window ++ given) exchange.message behind → HandsDrawn x y exchange.drawn
-    → Leaves end behind after.left → Writes end before.held after.held (met exchange ∷ []) → IsEnd end budget (met exchange ∷ [])
+    → Leaves end behind after.left → WritesAll end before.held after.held (met exchange ∷ []) → IsEnd end budget (met exchange ∷ [])
     → ServesFrom asks rules window budget (around before desk x) (around after desk' y) end
-met-turn {K} asks rules window behind budget desk desk' x y before after end exchange given is steps gives takes hands leaves writes ends = record {
-  turns = met exchange ∷ [];
+met-response {K} asks rules window behind budget desk desk' x y before after end exchange given is steps gives takes hands leaves writes ends = record {
+  responses = met exchange ∷ [];
   by_rules = (is, tt);
   runs = (desk', steps, refl);
   given = given;
@@ -163,13 +163,13 @@ closing_by stopped last end = if stopped then Some Stopped else (if last then So
 next-on : {K : Type 0} (asks : K → Command → Receipt → K → Type 0) (rules : Rules) (window behind : List ℕ) (desk desk' : K) (x y : Outlook) (before after : Told) (exchange : Exchange) (given : List ℕ) (stopped last : Bool)
     → says_stopped exchange.asked ≡ stopped → exchange.message.head.last ≡ last
     → IsExchange rules exchange → StepsDesk asks desk exchange.asked desk' → Gives before.left after.left given → TakesMessage (window ++ given) exchange.message behind → HandsDrawn x y exchange.drawn
-    → Takes before.held after.held (turn_text (met exchange))
-    → StepsOn asks rules window (around before desk x) behind (around after desk' y) (next_of stopped last (turn_bytes (met exchange)))
+    → Takes before.held after.held (response_text (met exchange))
+    → StepsOn asks rules window (around before desk x) behind (around after desk' y) (next_of stopped last (response_bytes (met exchange)))
 next-on asks rules window behind desk desk' x y before after exchange given true last s l is steps gives takes hands wrote = λ budget some.
-    met-turn asks rules window behind budget desk desk' x y before after Stopped exchange given is steps gives takes hands tt
+    met-response asks rules window behind budget desk desk' x y before after Stopped exchange given is steps gives takes hands tt
     (whole before.held after.held (met exchange) wrote) (behind-one budget (met exchange) _ some (rw s refl))
 next-on asks rules window behind desk desk' x y before after exchange given false true s l is steps gives takes hands wrote = λ budget some.
-    met-turn asks rules window behind budget desk desk' x y before after Closed exchange given is steps gives takes hands tt
+    met-response asks rules window behind budget desk desk' x y before after Closed exchange given is steps gives takes hands tt
     (whole before.held after.held (met exchange) wrote) (behind-one budget (met exchange) _ some (rw (s, l) refl))
 next-on asks rules window behind desk desk' x y before after exchange given false false s l is steps gives takes hands wrote = record {
   exchange = exchange;
@@ -193,7 +193,7 @@ written-on asks rules window behind desk desk' x y before after exchange given n
     (next-on asks rules window behind desk desk' x y before after exchange given _ _ refl refl is steps gives takes hands wrote)
 written-on asks rules window behind desk desk' x y before after exchange given next is steps gives takes hands (inr (front, by)) =
     subst (StepsOn asks rules window (around before desk x) behind (around after desk' y)) (sym by)
-    (λ budget some. met-turn asks rules window behind budget desk desk' x y before after WriteFault exchange given is steps gives takes hands tt
+    (λ budget some. met-response asks rules window behind budget desk desk' x y before after WriteFault exchange given is steps gives takes hands tt
     (cuts before.held after.held (met exchange) front) (behind-one budget (met exchange) _ some tt))
 
 -- a message that came whole was answered
@@ -244,9 +244,9 @@ TakesMessage-more text rest more message p =
       whole = p.whole;
     }
 
-hands-cons : (x y z : Outlook) (exchange : Exchange) (turns : List Turn) → HandsDrawn x y exchange.drawn → HandsTurns y z turns → HandsTurns x z (met exchange ∷ turns)
-hands-cons x y z exchange turns first later =
-    let more = flat_map drawn_for turns in
+hands-cons : (x y z : Outlook) (exchange : Exchange) (responses : List Response) → HandsDrawn x y exchange.drawn → HandsResponses y z responses → HandsResponses x z (met exchange ∷ responses)
+hands-cons x y z exchange responses first later =
+    let more = flat_map drawn_for responses in
     let drawn = exchange.drawn in
     let moment = λ (d : Drawn). d.moment in
     let throttle = λ (d : Drawn). d.throttle in
@@ -258,57 +258,57 @@ hands-cons x y z exchange turns first later =
       by_id = subst (HandsAll x.ids z.ids) (sym (map-append draw drawn more)) all.by_id;
     }
 
-writes-cons : (end : SessionEnd) (a b c : Option (List ℕ)) (turn : Turn) (turns : List Turn) → Takes a b (turn_text turn) → Writes end b c turns → Writes end a c (turn ∷ turns)
-writes-cons Ended a b c turn turns first later = Takes-append a b c (turn_text turn) (replies_text turns) first later
-writes-cons Closed a b c turn turns first later = Takes-append a b c (turn_text turn) (replies_text turns) first later
-writes-cons Stopped a b c turn turns first later = Takes-append a b c (turn_text turn) (replies_text turns) first later
-writes-cons Refused a b c turn turns first later = Takes-append a b c (turn_text turn) (replies_text turns) first later
-writes-cons ReadFault a b c turn turns first later = Takes-append a b c (turn_text turn) (replies_text turns) first later
-writes-cons TooLong a b c turn turns first later = Takes-append a b c (turn_text turn) (replies_text turns) first later
-writes-cons NoMemory a b c turn turns first later = Takes-append a b c (turn_text turn) (replies_text turns) first later
-writes-cons WriteFault a b c turn turns first later = record {
-  whole = turn ∷ later.whole;
+writes-cons : (end : SessionEnd) (a b c : Option (List ℕ)) (response : Response) (responses : List Response) → Takes a b (response_text response) → WritesAll end b c responses → WritesAll end a c (response ∷ responses)
+writes-cons Ended a b c response responses first later = Takes-append a b c (response_text response) (replies_text responses) first later
+writes-cons Closed a b c response responses first later = Takes-append a b c (response_text response) (replies_text responses) first later
+writes-cons Stopped a b c response responses first later = Takes-append a b c (response_text response) (replies_text responses) first later
+writes-cons Refused a b c response responses first later = Takes-append a b c (response_text response) (replies_text responses) first later
+writes-cons ReadFault a b c response responses first later = Takes-append a b c (response_text response) (replies_text responses) first later
+writes-cons TooLong a b c response responses first later = Takes-append a b c (response_text response) (replies_text responses) first later
+writes-cons NoMemory a b c response responses first later = Takes-append a b c (response_text response) (replies_text responses) first later
+writes-cons WriteFault a b c response responses first later = record {
+  whole = response ∷ later.whole;
   last = later.last;
-  turns_are = ap (λ ts. turn ∷ ts) later.turns_are;
+  responses_are = ap (λ ts. response ∷ ts) later.responses_are;
   count = later.count;
   not_all = later.not_all;
   takes =
-      subst (Takes a c) (sym (append_assoc (turn_text turn) (replies_text later.whole) (take later.count (turn_text later.last))))
-      (Takes-append a b c (turn_text turn) (replies_text later.whole ++ take later.count (turn_text later.last)) first later.takes);
+      subst (Takes a c) (sym (append_assoc (response_text response) (replies_text later.whole) (take later.count (response_text later.last))))
+      (Takes-append a b c (response_text response) (replies_text later.whole ++ take later.count (response_text later.last)) first later.takes);
 }
 
-behind-cons : (budget : ℕ) (turn : Turn) (turns : List Turn) (P : Turn → Type 0) → 0 < budget → closing_of turn ≡ None → EndsBehind (budget - turn_bytes turn) turns P → EndsBehind budget (turn ∷ turns) P
-behind-cons budget turn turns P some on e = record {
-  before = turn ∷ e.before;
+behind-cons : (budget : ℕ) (response : Response) (responses : List Response) (P : Response → Type 0) → 0 < budget → closing_of response ≡ None → EndsBehind (budget - response_bytes response) responses P → EndsBehind budget (response ∷ responses) P
+behind-cons budget response responses P some on e = record {
+  before = response ∷ e.before;
   last = e.last;
-  turns_are = ap (λ ts. turn ∷ ts) e.turns_are;
+  responses_are = ap (λ ts. response ∷ ts) e.responses_are;
   over = e.over;
   goes_on = (some, on, e.goes_on);
   some = e.some;
   ends = e.ends;
 }
 
-edge-cons : (budget : ℕ) (turn : Turn) (turns : List Turn) (P : ℕ → Type 0) → 0 < budget → closing_of turn ≡ None → EndsAtEdge (budget - turn_bytes turn) turns P → EndsAtEdge budget (turn ∷ turns) P
-edge-cons budget turn turns P some on e = record { over = e.over; goes_on = (some, on, e.goes_on); ends = e.ends }
+edge-cons : (budget : ℕ) (response : Response) (responses : List Response) (P : ℕ → Type 0) → 0 < budget → closing_of response ≡ None → EndsAtEdge (budget - response_bytes response) responses P → EndsAtEdge budget (response ∷ responses) P
+edge-cons budget response responses P some on e = record { over = e.over; goes_on = (some, on, e.goes_on); ends = e.ends }
 
-ends-cons : (end : SessionEnd) (budget : ℕ) (turn : Turn) (turns : List Turn) → 0 < budget → closing_of turn ≡ None → IsEnd end (budget - turn_bytes turn) turns → IsEnd end budget (turn ∷ turns)
-ends-cons Ended budget turn turns some on e = edge-cons budget turn turns _ some on e
-ends-cons ReadFault budget turn turns some on e = edge-cons budget turn turns _ some on e
-ends-cons NoMemory budget turn turns some on e = edge-cons budget turn turns _ some on e
-ends-cons TooLong budget turn turns some on e = edge-cons budget turn turns _ some on e
-ends-cons Closed budget turn turns some on e = behind-cons budget turn turns _ some on e
-ends-cons Stopped budget turn turns some on e = behind-cons budget turn turns _ some on e
-ends-cons Refused budget turn turns some on e = behind-cons budget turn turns _ some on e
-ends-cons WriteFault budget turn turns some on e = behind-cons budget turn turns _ some on e
+ends-cons : (end : SessionEnd) (budget : ℕ) (response : Response) (responses : List Response) → 0 < budget → closing_of response ≡ None → IsEnd end (budget - response_bytes response) responses → IsEnd end budget (response ∷ responses)
+ends-cons Ended budget response responses some on e = edge-cons budget response responses _ some on e
+ends-cons ReadFault budget response responses some on e = edge-cons budget response responses _ some on e
+ends-cons NoMemory budget response responses some on e = edge-cons budget response responses _ some on e
+ends-cons TooLong budget response responses some on e = edge-cons budget response responses _ some on e
+ends-cons Closed budget response responses some on e = behind-cons budget response responses _ some on e
+ends-cons Stopped budget response responses some on e = behind-cons budget response responses _ some on e
+ends-cons Refused budget response responses some on e = behind-cons budget response responses _ some on e
+ends-cons WriteFault budget response responses some on e = behind-cons budget response responses _ some on e
 
 pub Serves-cons : {K : Type 0} (asks : K → Command → Receipt → K → Type 0) (rules : Rules) (window behind : List ℕ) (budget bytes over : ℕ) (before middle after : Around K) (end : SessionEnd)
     → 0 < budget → Exchanges asks rules window before behind middle bytes → over ≡ budget - bytes → ServesFrom asks rules behind over middle after end
     → ServesFrom asks rules window budget before after end
 Serves-cons {K} asks rules window behind budget bytes over before middle after end some x is s =
-    let turn : Turn = met x.exchange in
-    let ends : IsEnd end (budget - turn_bytes turn) s.turns = subst (λ b. IsEnd end b s.turns) (is ∙ ap (λ b. budget - b) x.bytes_are) s.ends in
+    let response : Response = met x.exchange in
+    let ends : IsEnd end (budget - response_bytes response) s.responses = subst (λ b. IsEnd end b s.responses) (is ∙ ap (λ b. budget - b) x.bytes_are) s.ends in
     record {
-      turns = turn ∷ s.turns;
+      responses = response ∷ s.responses;
       by_rules = (x.is, s.by_rules);
       runs = (middle.desk, x.steps, s.runs);
       given = x.given ++ s.given;
@@ -316,9 +316,9 @@ Serves-cons {K} asks rules window behind budget bytes over before middle after e
       rest = s.rest;
       holds = (behind ++ s.given, subst (λ text. TakesMessage text x.exchange.message (behind ++ s.given)) (append_assoc window x.given s.given) (TakesMessage-more (window ++ x.given) behind s.given x.exchange.message x.takes), s.holds);
       leaves = s.leaves;
-      writes = writes-cons end before.held middle.held after.held turn s.turns x.writes s.writes;
-      hands = hands-cons before.outlook middle.outlook after.outlook x.exchange s.turns x.hands s.hands;
-      ends = ends-cons end budget turn s.turns some x.goes_on ends;
+      writes = writes-cons end before.held middle.held after.held response s.responses x.writes s.writes;
+      hands = hands-cons before.outlook middle.outlook after.outlook x.exchange s.responses x.hands s.hands;
+      ends = ends-cons end budget response s.responses some x.goes_on ends;
     }
 
 -- each message has some bytes
@@ -333,7 +333,7 @@ bytes-some {K} asks rules window behind before middle bytes x =
 -- the whole session
 pub Serves-of : {K : Type 0} (asks : K → Command → Receipt → K → Type 0) (rules : Rules) (before after : Around K) (end : SessionEnd) → ServesFrom asks rules [] rules.session_bytes before after end → Serves asks rules before after end
 Serves-of {K} asks rules before after end s = record {
-  turns = s.turns;
+  responses = s.responses;
   by_rules = s.by_rules;
   runs = s.runs;
   reads = record { given = s.given; gives = s.gives; rest = s.rest; holds = s.holds; leaves = s.leaves };
@@ -343,10 +343,10 @@ Serves-of {K} asks rules before after end s = record {
 }
 
 -- memory wanted before the first message, or the budget is used up
-pub Serves-nothing : {K : Type 0} (asks : K → Command → Receipt → K → Type 0) (rules : Rules) (window : List ℕ) (budget : ℕ) (here : Around K) (end : SessionEnd) → Leaves end window here.left → Writes end here.held here.held [] → IsEnd end budget []
+pub Serves-nothing : {K : Type 0} (asks : K → Command → Receipt → K → Type 0) (rules : Rules) (window : List ℕ) (budget : ℕ) (here : Around K) (end : SessionEnd) → Leaves end window here.left → WritesAll end here.held here.held [] → IsEnd end budget []
     → ServesFrom asks rules window budget here here end
 Serves-nothing {K} asks rules window budget here end leaves writes ends = record {
-  turns = [];
+  responses = [];
   by_rules = tt;
   runs = refl;
   given = [];
@@ -361,21 +361,21 @@ Serves-nothing {K} asks rules window budget here end leaves writes ends = record
 
 -- ---- the reply
 
-text-is : (exchange : Exchange) (message : Message) (incoming : Incoming) (outcome : Outcome) (last : Bool) → exchange.message ≡ message → message.head ≡ incoming.head → exchange.reply ≡ reply_of outcome.reply
-    → says_stopped exchange.asked ≡ outcome.stopped → last ≡ (outcome.stopped || incoming.head.last) → reply_text (closing last (reply_of outcome.reply)) ≡ turn_text (met exchange)
+text-is : (exchange : Exchange) (message : Message) (incoming : Incoming) (outcome : Handled) (last : Bool) → exchange.message ≡ message → message.head ≡ incoming.head → exchange.reply ≡ reply_of outcome.reply
+    → says_stopped exchange.asked ≡ outcome.stopped → last ≡ (outcome.stopped || incoming.head.last) → reply_text (closing last (reply_of outcome.reply)) ≡ response_text (met exchange)
 text-is exchange message incoming outcome last m h r s l =
     let head : exchange.message.head ≡ incoming.head = ap (λ (m : Message). m.head) m ∙ h in
     let lasts : last ≡ is_last exchange = l ∙ ap (λ b. b || incoming.head.last) (sym s) ∙ ap (λ (h : Head). says_stopped exchange.asked || h.last) (sym head) in
     ap (λ b. reply_text (closing b (reply_of outcome.reply))) lasts ∙ ap (λ (a : Answered). reply_text (closing (is_last exchange) a)) (sym r)
 
-next-is : (exchange : Exchange) (message : Message) (incoming : Incoming) (outcome : Outcome) (next : Next) → exchange.message ≡ message → message.head ≡ incoming.head → says_stopped exchange.asked ≡ outcome.stopped
-    → IsNext outcome.stopped incoming.head.last (incoming.head.bytes + incoming.head.length) next → IsNext (says_stopped exchange.asked) exchange.message.head.last (turn_bytes (met exchange)) next
+next-is : (exchange : Exchange) (message : Message) (incoming : Incoming) (outcome : Handled) (next : Next) → exchange.message ≡ message → message.head ≡ incoming.head → says_stopped exchange.asked ≡ outcome.stopped
+    → IsNext outcome.stopped incoming.head.last (incoming.head.bytes + incoming.head.length) next → IsNext (says_stopped exchange.asked) exchange.message.head.last (response_bytes (met exchange)) next
 next-is exchange message incoming outcome next m h s is =
     let head : incoming.head ≡ exchange.message.head = sym (ap (λ (m : Message). m.head) m ∙ h) in
     is ∙ ap (λ b. next_of b incoming.head.last (incoming.head.bytes + incoming.head.length)) (sym s)
     ∙ ap (λ (h : Head). next_of (says_stopped exchange.asked) h.last (h.bytes + h.length)) head
 
-pub Responds-written : {K : Type 0} (asks : K → Command → Receipt → K → Type 0) (rules : Rules) (incoming : Incoming) (desk after : K) (x y : Outlook) (held held' : Option (List ℕ)) (outcome : Outcome) (last : Bool) (next : Next)
+pub Responds-written : {K : Type 0} (asks : K → Command → Receipt → K → Type 0) (rules : Rules) (incoming : Incoming) (desk after : K) (x y : Outlook) (held held' : Option (List ℕ)) (outcome : Handled) (last : Bool) (next : Next)
     → ((message : Message) → IsMessage incoming message → Answers asks rules message desk after x y outcome) → last ≡ (outcome.stopped || incoming.head.last)
     → Takes held held' (reply_text (closing last (reply_of outcome.reply))) → IsNext outcome.stopped incoming.head.last (incoming.head.bytes + incoming.head.length) next
     → Responds asks rules incoming desk after x y held held' next
@@ -394,7 +394,7 @@ Responds-written {K} asks rules incoming desk after x y held held' outcome last 
       );
 }
 
-pub Responds-cut : {K : Type 0} (asks : K → Command → Receipt → K → Type 0) (rules : Rules) (incoming : Incoming) (desk after : K) (x y : Outlook) (held held' : Option (List ℕ)) (outcome : Outcome) (last : Bool)
+pub Responds-cut : {K : Type 0} (asks : K → Command → Receipt → K → Type 0) (rules : Rules) (incoming : Incoming) (desk after : K) (x y : Outlook) (held held' : Option (List ℕ)) (outcome : Handled) (last : Bool)
     → ((message : Message) → IsMessage incoming message → Answers asks rules message desk after x y outcome) → last ≡ (outcome.stopped || incoming.head.last)
     → TakesFront held held' (reply_text (closing last (reply_of outcome.reply))) → Responds asks rules incoming desk after x y held held' (Ends WriteFault)
 Responds-cut {K} asks rules incoming desk after x y held held' outcome last answers l front = record {

@@ -9,7 +9,7 @@ use Rattle.soc_session.specs.declared.tasks.Task.{Task}
 use Rattle.soc_session.specs.declared.tasks.Task.TheVariants.{Say, Ask}
 use Rattle.soc_session.specs.Plan.{Plan, says, shows, ShowsReport}
 use Rattle.soc_session.specs.Replies.{not_found}
-use Rattle.soc_session.specs.Tasks.{IsTask, IsTaskOf}
+use Rattle.soc_session.specs.inner.Tasks.{IsTask, IsTaskOf}
 
 not-found : (P : Plan → Type 0) (result : Result Task NoMemory) → P (says not_found) → IfOk result (λ task. task ≡ Say not_found) → IfOk result (IsTaskOf P)
 not-found P (Ok task) plan is = (says not_found, plan, subst (IsTask (says not_found)) (sym is) refl)

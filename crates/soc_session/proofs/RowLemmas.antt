@@ -15,12 +15,12 @@ use Rattle.serde_json.specs.declared.value.Value.{Value as Value'}
 use Rattle.serde_json.specs.declared.value.Value.TheVariants.{Object}
 use Rattle.serde_json.proofs.Views.{view-Object}
 use Rattle.soc_schema.specs.Rows.{cell}
-use Rattle.soc_session.specs.Rows.{HasCells}
+use Rattle.soc_session.specs.inner.Cells.{HasCells}
 use Rattle.soc_schema.specs.declared.value.Cell.{Cell}
 use Rattle.soc_schema.specs.declared.value.Value.{Value}
 use Rattle.soc_schema.specs.declared.value.Value.TheVariants.{Text, Number, Flag}
 use Rattle.soc_schema.specs.Fields.{name_of}
-use Rattle.soc_session.specs.Replies.{data_of, row_text, with_cells}
+use Rattle.soc_session.specs.Replies.{data_of, row_json, with_cells}
 use Rattle.soc_session.proofs.LineLemmas.{drop_at}
 
 both_false : (a b : Bool) → a ≡ false → b ≡ false → (a || b) ≡ false
@@ -80,7 +80,7 @@ cells_done members row i past left exact = record {
 
 -- the text of the object
 pub row-text : (m : BTreeMap (String Global) Value') (row : List Cell) (text : List ℕ) → HasCells row (members_view m.entries)
-    → (has_float (view (Object m)) ≡ false → text ≡ compact_text (view (Object m))) → text ≡ row_text row
-unfolding row_text
+    → (has_float (view (Object m)) ≡ false → text ≡ compact_text (view (Object m))) → text ≡ row_json row
+unfolding row_json
 row-text m row text cells is =
     is (ap has_float (view-Object m) ∙ cells.exact) ∙ ap compact_text (view-Object m ∙ ap object cells.are)

@@ -18,10 +18,10 @@ use Rattle.soc_book.specs.declared.desk.Command.TheVariants as C
 use Rattle.soc_session.specs.declared.rules.Rules.{Rules}
 use Rattle.soc_session.specs.declared.tasks.Task.{Task}
 use Rattle.soc_session.specs.declared.tasks.Task.TheVariants.{Say, Ask}
-use Rattle.soc_session.specs.Plan.{Drawn, IsDrawn, IsMalformed, Plan, says, drains, MayDrawFor, Plans, PlansAt, PlansFor, PlansRoute, PlansSubmission, ShowsReport, Submits, asker_of, plan_of}
+use Rattle.soc_session.specs.Plan.{Drawn, IsDrawn, IsMalformed, Plan, says, drains, MayDrawFor, Plans, PlansAt, PlansFor, PlansRoute, PlansSubmission, ShowsReport, HoldsSubmission, asker_of, plan_of}
 use Rattle.soc_session.specs.Lines.{first_value}
 use Rattle.soc_session.specs.Replies.{malformed, not_built}
-use Rattle.soc_session.specs.Tasks.{HandsDrawn, IsTask, IsTaskOf, Tasks}
+use Rattle.soc_session.specs.inner.Tasks.{HandsDrawn, IsTask, IsTaskOf, Tasks}
 
 -- nothing was drawn
 pub Tasks-undrawn : (P : List Drawn → Plan → Type 0) (x : Outlook) (result : Result Task NoMemory) → IfOk result (IsTaskOf (P [])) → Tasks P x x result
@@ -57,7 +57,7 @@ Tasks-map P Q x y (Err error) f found = record { drawn = found.drawn; hands = fo
 
 -- ---- submissions
 
-pub Tasks-drawn : (rules : Rules) (message : Message) (said : SubmissionText) (drawn : Drawn) (x y : Outlook) (result : Result Task NoMemory) → Submits message said
+pub Tasks-drawn : (rules : Rules) (message : Message) (said : SubmissionText) (drawn : Drawn) (x y : Outlook) (result : Result Task NoMemory) → HoldsSubmission message said
     → IsDrawn drawn → HandsDrawn x y (drawn ∷ []) → IfOk result (IsTask (plan_of rules.rules drawn said said.sent_id)) → Tasks (PlansSubmission rules message) x y result
 Tasks-drawn rules message said drawn x y (Ok task) submits range hands is =
     let plan = plan_of rules.rules drawn said said.sent_id in

@@ -1,4 +1,3 @@
-pub mod Arrivals
 pub mod Desk
 pub mod Lines
 pub mod Messages
@@ -6,5 +5,4 @@ pub mod Plan
 pub mod Replies
 pub mod Rows
 pub mod Session
-pub mod Steps
-pub mod Tasks
+pub mod inner

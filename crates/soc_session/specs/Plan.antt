@@ -35,11 +35,15 @@ pub record Drawn : Type 0 where
   pub throttle : ℕ
   pub draw : List ℕ
 
+-- how many bytes an id draw has
+abbrev pub draw_length : ℕ
+draw_length = 16
+
 -- a moment of the clock's range, and draws of their size
 pub record IsDrawn (drawn : Drawn) : Type 0 where
   pub moment : IsMoment drawn.moment
   pub throttle : drawn.throttle < 2 ^ 64
-  pub draw : length drawn.draw ≡ 16
+  pub draw : length drawn.draw ≡ draw_length
 
 -- what a message comes to
 pub data Plan : Type 0 where
@@ -94,8 +98,8 @@ abbrev pub kinds_in : Head → List (List ℕ × List ℕ)
 kinds_in head = lines_named (codes "content-type") head.lines
 
 -- the message says this
-abbrev pub Submits : Message → SubmissionText → Type 0
-Submits message said = SubmissionOf (encoding_in message.head) (kinds_in message.head) message.body said
+abbrev pub HoldsSubmission : Message → SubmissionText → Type 0
+HoldsSubmission message said = SubmissionOf (encoding_in message.head) (kinds_in message.head) message.body said
 
 -- the first reason why it says nothing
 abbrev pub IsMalformed : Message → Reason → Type 0
@@ -104,7 +108,7 @@ IsMalformed message reason = SubmissionFault (encoding_in message.head) (kinds_i
 abbrev pub PlansSubmission : Rules → Message → List Drawn → Plan → Type 0
 PlansSubmission rules message [] plan = (reason : Reason) × IsMalformed message reason × (plan ≡ says (malformed reason))
 PlansSubmission rules message (drawn ∷ []) plan =
-    (said : SubmissionText) × Submits message said × IsDrawn drawn × (plan ≡ plan_of rules.rules drawn said said.sent_id)
+    (said : SubmissionText) × HoldsSubmission message said × IsDrawn drawn × (plan ≡ plan_of rules.rules drawn said said.sent_id)
 PlansSubmission rules message (_ ∷ _ ∷ _) plan = ⊥
 
 -- ---- the other routes

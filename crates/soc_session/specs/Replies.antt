@@ -112,8 +112,8 @@ with_cells members [] = members
 with_cells members (cell ∷ cells) = with_cells (put (name_of cell.field) (data_of cell.value) members) cells
 
 -- an object of the row's names and values, in byte order of names
-unfoldable pub row_text : List Cell → List ℕ
-row_text cells = compact_text (object (with_cells no_members cells))
+unfoldable pub row_json : List Cell → List ℕ
+row_json cells = compact_text (object (with_cells no_members cells))
 
 abbrev pub processed_text : ℕ → List ℕ
 processed_text count = codes "{\"processed\":" ++ decimal count ++ codes "}"
@@ -122,6 +122,6 @@ processed_text count = codes "{\"processed\":" ++ decimal count ++ codes "}"
 abbrev pub desk_reply : Reply → Answered
 desk_reply (Stored id due) = kept id
 desk_reply (Repeated id) = kept id
-desk_reply (Row row) = json (row_text row)
+desk_reply (Row row) = json (row_json row)
 desk_reply (Drained count) = json (processed_text count)
 desk_reply (Refused refusal) = desk_refusal refusal

@@ -2,8 +2,8 @@
 ghost use Rattle.std.specs.Prelude.{◌≡◌, None, false};
 ghost use Rattle.soc_edge.specs.Ahead.{outlook};
 ghost use Rattle.soc_http.specs.Message.{Message};
-ghost use Rattle.soc_session.specs.Arrivals.{IsMessage, IsSized};
-ghost use Rattle.soc_session.specs.Tasks.{Answers, Carries};
+ghost use Rattle.soc_session.specs.inner.Arrivals.{IsMessage, IsSized};
+ghost use Rattle.soc_session.specs.inner.Tasks.{Answers, Carries};
 
 use crate::arrivals::Incoming;
 use crate::replies::Room;
@@ -17,7 +17,7 @@ use std::alloc::Global;
 
 /// What came of a message.
 #[derive(Drop)]
-pub(crate) struct Outcome {
+pub(crate) struct Handled {
     /// `None` where memory wanted.
     pub(crate) reply: Option<Answered>,
     /// Whether the desk has stopped.
@@ -33,39 +33,39 @@ pub(crate) fn answer<K: Desk, C: Clock, W: Draws>(
     incoming: &Incoming,
     clock: &mut C,
     draws: &mut W,
-) -> Outcome
+) -> Handled
     requires { IsSized incoming.now }
     ensures { (message : Message) → IsMessage incoming.now message → Answers K.Asks rules.now message desk.old desk.new
         (outlook (C.told clock.old) (W.told draws.old))
         (outlook (C.told clock.new) (W.told draws.new)) result }
 {
     let Some(body) = &incoming.body else {
-        return Outcome::wanting();
+        return Handled::wanting();
     };
     let body = body.as_slice();
     match task_of(alloc, rules, routes, &incoming.head, body, clock, draws) {
         Ok(task) => carry_out(alloc, desk, task),
-        Err(NoMemory) => Outcome::wanting(),
+        Err(NoMemory) => Handled::wanting(),
     }
 }
 
-impl Outcome {
+impl Handled {
     /// Memory wanted, before the desk was asked.
-    fn wanting() -> Outcome
+    fn wanting() -> Handled
         ensures { result ≡ record { reply = None; stopped = false } }
     {
-        Outcome {
+        Handled {
             reply: None,
             stopped: false,
         }
     }
 }
 
-fn carry_out<K: Desk>(alloc: Global, desk: &mut K, task: Task) -> Outcome
+fn carry_out<K: Desk>(alloc: Global, desk: &mut K, task: Task) -> Handled
     ensures { Carries K.Asks task desk.old desk.new result }
 {
     match task {
-        Task::Say(reply) => Outcome {
+        Task::Say(reply) => Handled {
             reply: Some(reply),
             stopped: false,
         },
@@ -74,14 +74,14 @@ fn carry_out<K: Desk>(alloc: Global, desk: &mut K, task: Task) -> Outcome
 }
 
 /// Asks the desk, once there is room for its reply.
-fn ask<K: Desk>(alloc: Global, desk: &mut K, command: Command) -> Outcome
+fn ask<K: Desk>(alloc: Global, desk: &mut K, command: Command) -> Handled
     ensures { Carries K.Asks (Task.Ask command) desk.old desk.new result }
 {
     let Ok(room) = Room::new(alloc) else {
-        return Outcome::wanting();
+        return Handled::wanting();
     };
     let receipt = desk.ask(command);
-    Outcome {
+    Handled {
         stopped: receipt.stopped,
         reply: room.desk_reply(alloc, receipt.reply).ok(),
     }

@@ -1,7 +1,7 @@
 //! Messages as they come from a link.
 ghost use Rattle.std.specs.Prelude.{◌≡◌, ◌≤◌, IfOk, IfErr, IfSome, length};
 ghost use Rattle.soc_edge.specs.Told.{ReadFailed};
-ghost use Rattle.soc_session.specs.Arrivals.{Arrives, IsSized};
+ghost use Rattle.soc_session.specs.inner.Arrivals.{Arrives, IsSized};
 
 use soc_edge::Source;
 use soc_http::{BodyError, Buffer, Head, HeadError, read_body, read_head};

@@ -3,11 +3,11 @@ ghost use Rattle.std.specs.Prelude.{◌≡◌, ◌≢◌, ◌≤◌, ◌||◌, [
 ghost use Rattle.soc_edge.specs.Ahead.{outlook};
 ghost use Rattle.soc_edge.specs.Told.{HasCause, NeverFall, OnlyWrites, WriteFailed, Writes, WritesFront};
 ghost use Rattle.soc_http.specs.Reply.{reply_text};
-ghost use Rattle.soc_session.specs.Arrivals.{Arrives, IsSized};
+ghost use Rattle.soc_session.specs.inner.Arrivals.{Arrives, IsSized};
 ghost use Rattle.soc_session.specs.Replies.{closing, no_memory};
 ghost use Rattle.soc_session.specs.Session.{Serves, around};
-ghost use Rattle.soc_session.specs.Steps.{Halts, IsNext, Refuses, Responds, StepsOn};
-ghost use Rattle.soc_session.specs.Tasks.{reply_of};
+ghost use Rattle.soc_session.specs.inner.Steps.{Halts, IsNext, Refuses, Responds, StepsOn};
+ghost use Rattle.soc_session.specs.inner.Tasks.{reply_of};
 
 use crate::answers::answer;
 use crate::arrivals::{Incoming, next_message};

@@ -1,9 +1,9 @@
 //! What messages are answered.
 ghost use Rattle.std.specs.Prelude.{◌≡◌, ◌+◌, ◌<◌, ◌≤◌, ◌++◌, [], length, codes, decimal, vec_capacity, IfOk, OnErr};
-ghost use Rattle.soc_session.specs.Replies.{closing, desk_refusal, desk_reply, head_refusal, kept, malformed, no_memory, permission_text, plain, processed_text, rejected, row_text, wrong_method, json};
+ghost use Rattle.soc_session.specs.Replies.{closing, desk_refusal, desk_reply, head_refusal, kept, malformed, no_memory, permission_text, plain, processed_text, rejected, row_json, wrong_method, json};
 ghost use Rattle.soc_session.specs.Rows.{IsRow};
 
-use crate::rows::row_text;
+use crate::rows::row_json;
 use soc_book::{Refusal, Reply};
 use soc_http::{Answered, HeadError, Kind, Verb};
 use soc_multipart::Reason;
@@ -146,7 +146,7 @@ impl Room {
             Reply::Stored { id, .. } => Ok(self.kept(id)),
             Reply::Repeated { id } => Ok(self.kept(id)),
             Reply::Row(row) => {
-                let body = row_text(alloc, &row)?;
+                let body = row_json(alloc, &row)?;
                 Ok(Answered {
                     status: 200,
                     kind: Kind::Json,

@@ -8,9 +8,9 @@ ghost use Rattle.soc_multipart.specs.Fits.{FitsCrash};
 ghost use Rattle.soc_multipart.specs.SubmissionViews.{submission_text};
 ghost use Rattle.soc_http.specs.Query.{query_pairs};
 ghost use Rattle.soc_session.specs.Lines.{first_value};
-ghost use Rattle.soc_session.specs.Plan.{IsDrawn, IsMalformed, Plans, PlansRoute, PlansSubmission, ShowsReport, Submits, crash_with, keeps, plan_by, plan_of};
+ghost use Rattle.soc_session.specs.Plan.{IsDrawn, IsMalformed, Plans, PlansRoute, PlansSubmission, ShowsReport, HoldsSubmission, crash_with, keeps, plan_by, plan_of};
 ghost use Rattle.soc_session.specs.Replies.{malformed, plain, wrong_method};
-ghost use Rattle.soc_session.specs.Tasks.{HandsDrawn, IsTask, IsTaskOf, Tasks, drawn_of};
+ghost use Rattle.soc_session.specs.inner.Tasks.{HandsDrawn, IsTask, IsTaskOf, Tasks, drawn_of};
 
 use crate::lines::{asker, encoding_in, first_value, kinds_in};
 use crate::replies::Room;
@@ -144,7 +144,7 @@ fn submission<C: Clock, W: Draws>(
         (outlook (C.told clock.old) (W.told draws.old))
         (outlook (C.told clock.new) (W.told draws.new)) result }
 {
-    match said_by(alloc, head, body) {
+    match submission_in(alloc, head, body) {
         Ok(said) => {
             let drawing = draw(clock, draws);
             decide(alloc, &rules.rules, said, drawing)
@@ -155,9 +155,9 @@ fn submission<C: Clock, W: Draws>(
 }
 
 /// What a submission says.
-fn said_by(alloc: Global, head: &Head, body: &[u8]) -> Result<Submission, FormError>
+fn submission_in(alloc: Global, head: &Head, body: &[u8]) -> Result<Submission, FormError>
     requires { length body.now ≤ 16777216 }
-    ensures says { IfOk result (λ said. Submits (record { head = head.now; body = body.now }) (submission_text said)) }
+    ensures says { IfOk result (λ said. HoldsSubmission (record { head = head.now; body = body.now }) (submission_text said)) }
     ensures fits { IfOk result (λ said. FitsCrash (submission_text said)) }
     ensures refused { IfErr result (λ error. (reason : Why) → error ≡ Malformed reason → IsMalformed (record { head = head.now; body = body.now }) reason) }
 {

@@ -1,4 +1,4 @@
-// Worked rows: what a session over a desk in memory writes, and how it ends.
+//! Worked rows: what a session over a desk in memory writes, and how it ends.
 mod worked;
 
 use self::worked::{AMPLE, ANSWERS, CUT_SHORT, ENDS, FETCH_SUBMIT, FIREFOX, STORED, WRONG_METHOD};

@@ -1,4 +1,4 @@
-// Runs of the program over objects in memory.
+//! Runs of the program over objects in memory.
 ghost use Rattle.std.specs.Prelude.{◌≡◌, map, string_bytes};
 ghost use Rattle.soc_edge.specs.Memory.{clock_told, draws_told, sink_told, source_told, tree_told};
 ghost use Rattle.soc_edge.specs.Told.{joined};

@@ -1,4 +1,4 @@
-// Runs over files and streams in memory.
+//! Runs over files and streams in memory.
 ghost use Rattle.std.specs.Prelude.{◌≡◌, IfOk};
 
 mod cases;

@@ -1,4 +1,4 @@
-// Which calls of a stand-in fail.
+//! Which calls of a stand-in fail.
 ghost use Rattle.std.specs.Prelude.{◌≡◌, ◌≤◌, []};
 ghost use Rattle.soc_edge.specs.Calls.{no_calls, is_due, passed, failed};
 ghost use Rattle.soc_edge.specs.Faults.{Rose};

@@ -1,4 +1,4 @@
-// A clock in memory.
+//! A clock in memory.
 ghost use Rattle.std.specs.Prelude.{◌≡◌, ◌<◌, length};
 ghost use Rattle.std.specs.List.{All};
 ghost use Rattle.soc_edge.specs.Memory.{clock_told};

@@ -1,8 +1,8 @@
-// A disk in memory.
+//! A disk in memory.
 ghost use Rattle.std.specs.Prelude.{◌≡◌, ◌≤◌, ◌<◌, ◌+◌, ◌↔◌, ℕ, List, Some, false, nat_lt, min, length, take, [], ◌∷◌, ◌++◌, vec_len, vec_capacity, IfSome, IfOk, OnOk, OnErr, IsErr, IsTrue};
 ghost use Rattle.soc_edge.specs.Calls.{no_calls, is_due, passed, failed, after_call};
 ghost use Rattle.soc_edge.specs.Disk.{ReadsAt, Looks, MayTear};
-ghost use Rattle.soc_edge.specs.DiskLaws.{IsDisk-told};
+ghost use Rattle.soc_edge.specs.inner.DiskLaws.{IsDisk-told};
 ghost use Rattle.soc_edge.specs.DiskLog.{Made, Wrote, Synced, content_of, IsImage, stopped, disk_told, bytes_written, refuses_sync, refuses_write};
 ghost use Rattle.soc_edge.specs.Faults.{Rose};
 
@@ -17,7 +17,7 @@ use std::marker::Model;
 
 // A write of so many bytes at a place, or a sync.
 #[derive(Clone, Copy, Debug)]
-pub enum Entry {
+pub enum DiskStep {
     Write { place: usize, count: usize },
     Sync,
 }
@@ -29,7 +29,7 @@ pub struct MemDisk {
     first: Vec<u8>,
     bytes: Vec<u8>,
     written: Vec<u8>,
-    log: Vec<Entry>,
+    log: Vec<DiskStep>,
     room: usize,
     limit: usize,
     calls: CallCount,
@@ -40,7 +40,7 @@ impl Model for MemDisk {
 
     ghost Value = { DiskState };
 
-    ghost use Rattle.soc_edge.specs.DiskState.{disk_state, IsSound};
+    ghost use Rattle.soc_edge.specs.inner.DiskState.{disk_state, IsSound};
 
     ghost view = { disk_state };
 
@@ -187,7 +187,7 @@ impl MemDisk {
         put(&mut self.bytes, place, bytes);
         append(&mut self.written, bytes);
         let count = bytes.len();
-        add(&mut self.log, Entry::Write { place, count });
+        add(&mut self.log, DiskStep::Write { place, count });
     }
 
     // Makes a sync.
@@ -195,7 +195,7 @@ impl MemDisk {
         requires { length self.old.log < self.old.limit }
         ensures { self.new ≡ record self.old { log = Synced ∷ self.old.log } }
     {
-        add(&mut self.log, Entry::Sync);
+        add(&mut self.log, DiskStep::Sync);
     }
 }
 
@@ -279,7 +279,7 @@ fn ends_past(room: usize, place: usize, count: usize) -> bool
 }
 
 // Adds an entry at the end.
-fn add(log: &mut Vec<Entry>, entry: Entry)
+fn add(log: &mut Vec<DiskStep>, entry: DiskStep)
     requires { vec_len log.old < vec_capacity log.old }
     ensures items { log.new.items ≡ log.old.items ++ entry ∷ [] }
     ensures len { vec_len log.new ≡ vec_len log.old + 1 }

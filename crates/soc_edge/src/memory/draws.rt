@@ -1,4 +1,4 @@
-// Draws in memory.
+//! Draws in memory.
 ghost use Rattle.std.specs.Prelude.{◌≡◌, ◌<◌, length};
 ghost use Rattle.soc_edge.specs.Memory.{draws_told};
 

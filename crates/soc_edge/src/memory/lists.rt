@@ -1,4 +1,4 @@
-// The lists that stand-ins are made of.
+//! The lists that stand-ins are made of.
 ghost use Rattle.std.specs.Prelude.{◌≡◌, []};
 
 use soc_raw::Bytes;

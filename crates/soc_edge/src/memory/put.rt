@@ -1,4 +1,4 @@
-// Writes at a place of bytes that have room for them.
+//! Writes at a place of bytes that have room for them.
 ghost use Rattle.std.specs.Prelude.{◌≡◌, ◌+◌, ◌-◌, ◌≤◌, ◌++◌, length, take, drop, replicate, vec_len, vec_capacity};
 ghost use Rattle.soc_edge.specs.Disk.{written};
 

@@ -1,4 +1,4 @@
-// A sink in memory.
+//! A sink in memory.
 ghost use Rattle.std.specs.Prelude.{◌≡◌, ◌≤◌, ◌<◌, ◌-◌, ◌↔◌, ◌⊎◌, min, length, take, [], IfOk, OnErr, IsErr, IsTrue};
 ghost use Rattle.soc_edge.specs.Calls.{no_calls, is_due, after_call};
 ghost use Rattle.soc_edge.specs.Memory.{sink_told};

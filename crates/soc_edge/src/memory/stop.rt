@@ -1,20 +1,20 @@
-// What a stop leaves of a disk in memory.
+//! What a stop leaves of a disk in memory.
 ghost use Rattle.std.specs.Prelude.{◌≡◌, ◌+◌, ◌-◌, ◌/◌, ◌%◌, ◌≤◌, [], ◌++◌, length, take, drop, map, vec_capacity, if◌then◌else◌};
 ghost use Rattle.soc_edge.specs.Disk.{written};
-ghost use Rattle.soc_edge.specs.DiskEntries.{bytes_of, syncs_of, AllEnd, log_of};
-ghost use Rattle.soc_edge.specs.DiskLog.{flipped, torn, stopped};
+ghost use Rattle.soc_edge.specs.inner.DiskEntries.{bytes_of, syncs_of, AllEnd, log_of};
+ghost use Rattle.soc_edge.specs.DiskLog.{flipped, torn, stopped, ways};
 
-use super::disk::Entry;
+use super::disk::DiskStep;
 use super::put::put;
 
 // How many syncs there are.
-fn count_syncs(log: &[Entry]) -> usize
+fn count_syncs(log: &[DiskStep]) -> usize
     ensures { result ≡ syncs_of log.now }
 {
     let mut syncs = 0;
     let mut rest = log;
     while let [entry, later @ ..] = rest {
-        if let Entry::Sync = entry {
+        if let DiskStep::Sync = entry {
             syncs += 1;
         }
         rest = later;
@@ -68,8 +68,8 @@ fn tear(image: &mut Vec<u8>, choice: u64, place: usize, piece: &[u8])
 // Plays a write: a settled one is made, and one that isn't takes a digit of the choice. It answers what is left of it.
 fn play_write(image: &mut Vec<u8>, is_settled: bool, choice: u64, place: usize, piece: &[u8]) -> u64
     requires { place + length piece.now ≤ vec_capacity image.old }
-    ensures image { image.new.items ≡ (if is_settled then written image.old.items place piece.now else torn (choice % 4) place piece.now image.old.items) }
-    ensures choice { result ≡ (if is_settled then choice else choice / 4) }
+    ensures image { image.new.items ≡ (if is_settled then written image.old.items place piece.now else torn (choice % ways) place piece.now image.old.items) }
+    ensures choice { result ≡ (if is_settled then choice else choice / ways) }
     ensures room { vec_capacity image.old ≤ vec_capacity image.new }
 {
     if is_settled {
@@ -81,7 +81,7 @@ fn play_write(image: &mut Vec<u8>, is_settled: bool, choice: u64, place: usize, 
 }
 
 /// Plays a log, whose bytes stand one after another, on the content that a disk began with, as a stop leaves it.
-pub fn play(image: &mut Vec<u8>, log: &[Entry], written: &[u8], first_choice: u64)
+pub fn play(image: &mut Vec<u8>, log: &[DiskStep], written: &[u8], first_choice: u64)
     requires ends { AllEnd (vec_capacity image.old) log.now }
     requires counted { bytes_of log.now ≤ length written.now }
     ensures image { image.new.items ≡ (stopped image.old.items (log_of [] log.now written.now) first_choice).image }
@@ -93,11 +93,11 @@ pub fn play(image: &mut Vec<u8>, log: &[Entry], written: &[u8], first_choice: u6
     let mut bytes = written;
     while let [entry, later @ ..] = rest {
         match entry {
-            Entry::Write { place, count } => {
+            DiskStep::Write { place, count } => {
                 choice = play_write(image, syncs > 0, choice, *place, &bytes[..*count]);
                 bytes = &bytes[*count..];
             }
-            Entry::Sync => syncs -= 1,
+            DiskStep::Sync => syncs -= 1,
         }
         rest = later;
     }

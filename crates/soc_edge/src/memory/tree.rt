@@ -1,4 +1,4 @@
-// A tree in memory.
+//! A tree in memory.
 ghost use Rattle.std.specs.Prelude.{◌≡◌, ◌↔◌, IfOk, IsErrOf, IsTrue, if◌then◌else◌};
 ghost use Rattle.soc_edge.specs.Calls.{no_calls, is_due, passed, failed};
 ghost use Rattle.soc_edge.specs.Memory.{tree_told};

@@ -1,3 +1,4 @@
+//! Worked rows of the settings.
 use crate::{Settings, SettingsError};
 use soc_raw::Texts;
 use soc_schema::Products;

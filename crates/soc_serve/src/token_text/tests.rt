@@ -1,3 +1,4 @@
+//! Worked rows of the tokens.
 use crate::{TokensError, read_tokens};
 use std::test::Fail;
 

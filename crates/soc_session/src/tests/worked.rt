@@ -1,4 +1,4 @@
-// Worked rows: messages, the replies that they are to have, and how their sessions end.
+//! Worked rows: messages, the replies that they are to have, and how their sessions end.
 use crate::SessionEnd;
 
 /// More bytes than any session here answers.

@@ -1,4 +1,4 @@
-// Whole runs, and what each of them answers.
+//! Whole runs, and what each of them answers.
 ghost use Rattle.soc_raw.specs.Day.{IsMoment};
 
 use super::replies::{

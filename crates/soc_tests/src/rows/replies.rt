@@ -1,4 +1,4 @@
-// What is answered.
+//! What is answered.
 
 /// A crash is kept, and is due.
 pub(super) const STORED: &str = "HTTP/1.1 200 OK\r\n\

@@ -1,4 +1,4 @@
-// What is sent.
+//! What is sent.
 
 /// A submission of one annotation, of 176 bytes, 75 of them its body.
 pub(super) const FIREFOX: &str = "POST /submit HTTP/1.1\r\n\

@@ -1,5 +1,5 @@
 use Rattle.std.proofs.Common.{◌-◌, ◌≤◌}
-use Rattle.soc_http.specs.Body.{Past}
+use Rattle.soc_http.specs.inner.Bodies.{Past}
 use Rattle.soc_http.proofs.body.pass.Given as goal
 
 abbrev pub invariant-loop-left : goal.invariant-loop-left

@@ -1,5 +1,5 @@
 use Rattle.std.proofs.Common.{◌-◌, length}
-use Rattle.soc_http.specs.Body.{IsFilledTo}
+use Rattle.soc_http.specs.inner.Bodies.{IsFilledTo}
 use Rattle.soc_http.proofs.body.read_into.Given as goal
 
 abbrev pub invariant-loop-at : goal.invariant-loop-at

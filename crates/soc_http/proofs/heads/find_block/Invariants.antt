@@ -1,6 +1,6 @@
 use Rattle.std.proofs.Common.{◌-◌, ◌≤◌, length, take}
 use Rattle.soc_http.specs.Block.{HasNoBlock}
-use Rattle.soc_http.specs.Reading.{Fills}
+use Rattle.soc_http.specs.inner.Windows.{Fills}
 use Rattle.soc_http.proofs.heads.find_block.Given as goal
 
 abbrev pub invariant-loop-end : goal.invariant-loop-end

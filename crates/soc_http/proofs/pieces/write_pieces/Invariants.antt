@@ -1,5 +1,5 @@
 use Rattle.std.proofs.Common.{take}
-use Rattle.soc_http.specs.Pieces.{pieces_text, IsSent}
+use Rattle.soc_http.specs.inner.Pieces.{pieces_text, IsSent}
 use Rattle.soc_http.proofs.pieces.write_pieces.Given as goal
 
 abbrev pub invariant-loop-piece : goal.invariant-loop-piece

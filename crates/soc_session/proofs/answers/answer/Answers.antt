@@ -1,6 +1,6 @@
 use Rattle.std.proofs.Common.{◌∙◌, sym, []}
 use Rattle.soc_edge.proofs.Ahead.{Hands-none}
-use Rattle.soc_session.specs.Tasks.{message_of}
+use Rattle.soc_session.specs.inner.Tasks.{message_of}
 use Rattle.soc_session.proofs.AnswerLemmas.{Answers-came, Answers-done, Answers-wanting}
 use Rattle.soc_session.proofs.answers.answer.Goals as goal
 

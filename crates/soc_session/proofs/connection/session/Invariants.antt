@@ -4,7 +4,7 @@ use Rattle.soc_edge.specs.Told.{NeverFall}
 use Rattle.soc_session.specs.declared.ending.SessionEnd.{SessionEnd}
 use Rattle.soc_session.specs.Replies.{closing, no_memory}
 use Rattle.soc_session.specs.Session.{Around, around}
-use Rattle.soc_session.specs.Steps.{ServesFrom}
+use Rattle.soc_session.specs.inner.Steps.{ServesFrom}
 use Rattle.soc_session.proofs.connection.session.Given as goal
 
 -- whatever is served from here on is served from the start

@@ -1,5 +1,5 @@
 use Rattle.std.proofs.Common.{refl}
-use Rattle.soc_session.specs.Tasks.{message_of}
+use Rattle.soc_session.specs.inner.Tasks.{message_of}
 use Rattle.soc_session.proofs.TaskLemmas.{Tasks-drain, Tasks-not_built, Tasks-report}
 use Rattle.soc_session.proofs.tasks.at_route.Goals as goal
 

@@ -1,5 +1,5 @@
 use Rattle.soc_multipart.specs.SubmissionViews.{submission_text}
-use Rattle.soc_session.specs.Tasks.{drawn_of, message_of}
+use Rattle.soc_session.specs.inner.Tasks.{drawn_of, message_of}
 use Rattle.soc_session.proofs.TaskLemmas.{Tasks-drawn, Tasks-malformed}
 use Rattle.soc_session.proofs.tasks.submission.Goals as goal
 

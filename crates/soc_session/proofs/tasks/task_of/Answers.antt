@@ -2,7 +2,7 @@ use Rattle.std.proofs.Common.{refl, sym, ap, ◌∙◌, None}
 use Rattle.soc_http.specs.Route.{route_of}
 use Rattle.soc_session.specs.Plan.{Plans}
 use Rattle.soc_session.specs.Replies.{no_route, wrong_method, unknown_token}
-use Rattle.soc_session.specs.Tasks.{message_of}
+use Rattle.soc_session.specs.inner.Tasks.{message_of}
 use Rattle.soc_session.proofs.TaskLemmas.{Plans-at, Plans-for, Tasks-said, Tasks-route}
 use Rattle.soc_session.proofs.tasks.task_of.Goals as goal
 

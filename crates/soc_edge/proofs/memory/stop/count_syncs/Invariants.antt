@@ -1,5 +1,5 @@
 use Rattle.std.proofs.Common.{◌≡◌, ◌+◌, ◌≤◌, length}
-use Rattle.soc_edge.specs.DiskEntries.{syncs_of}
+use Rattle.soc_edge.specs.inner.DiskEntries.{syncs_of}
 use Rattle.soc_edge.proofs.memory.stop.count_syncs.Given as goal
 
 abbrev pub invariant-loop-rest : goal.invariant-loop-rest

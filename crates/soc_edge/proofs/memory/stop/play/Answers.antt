@@ -1,5 +1,5 @@
 use Rattle.std.proofs.Common.{[], vec_capacity, arith}
-use Rattle.soc_edge.specs.DiskEntries.{log_of}
+use Rattle.soc_edge.specs.inner.DiskEntries.{log_of}
 use Rattle.soc_edge.specs.DiskLog.{stopped}
 use Rattle.soc_edge.proofs.DiskStop.{Playing-write, Playing-sync}
 use Rattle.soc_edge.proofs.memory.stop.play.Goals as goal

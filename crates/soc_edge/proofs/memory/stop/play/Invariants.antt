@@ -1,5 +1,5 @@
 use Rattle.std.proofs.Common.{◌≤◌, [], length, vec_capacity}
-use Rattle.soc_edge.specs.DiskEntries.{log_of}
+use Rattle.soc_edge.specs.inner.DiskEntries.{log_of}
 use Rattle.soc_edge.specs.DiskLog.{stopped}
 use Rattle.soc_edge.proofs.DiskStop.{Playing}
 use Rattle.soc_edge.proofs.memory.stop.play.Given as goal

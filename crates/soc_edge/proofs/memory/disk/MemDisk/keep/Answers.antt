@@ -1,7 +1,7 @@
 use Rattle.std.proofs.Common.{◌≡◌, ◌≤◌, ◌+◌, ℕ, List, [], ◌∷◌, length, ap, sym, ◌∙◌, arith}
-use Rattle.soc_edge.specs.DiskEntries.{bytes_of}
+use Rattle.soc_edge.specs.inner.DiskEntries.{bytes_of}
 use Rattle.soc_edge.specs.DiskLog.{DiskState, Made, Wrote, bytes_written, reads_as}
-use Rattle.soc_edge.specs.DiskState.{disk_state}
+use Rattle.soc_edge.specs.inner.DiskState.{disk_state}
 use Rattle.soc_edge.specs.Disk.{written}
 use Rattle.soc_edge.proofs.DiskKept.{length-log_of, bytes_written-log_of, log_of-kept, AllEnd-kept, bytes_of-kept, length-written-le}
 use Rattle.soc_edge.proofs.memory.disk.MemDisk.keep.Goals as goal

@@ -1,6 +1,6 @@
 use Rattle.std.proofs.Common.{List, [], ◌∷◌, length, ap, sym, ◌∙◌, arith}
 use Rattle.soc_edge.specs.DiskLog.{DiskState, Made, Synced}
-use Rattle.soc_edge.specs.DiskState.{disk_state}
+use Rattle.soc_edge.specs.inner.DiskState.{disk_state}
 use Rattle.soc_edge.proofs.DiskKept.{length-log_of, log_of-settled, reads_as-settled, AllEnd-settled, bytes_of-settled}
 use Rattle.soc_edge.proofs.memory.disk.MemDisk.settle.Goals as goal
 

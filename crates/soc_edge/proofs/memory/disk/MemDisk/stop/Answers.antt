@@ -1,6 +1,6 @@
 use Rattle.std.proofs.Common.{◌≡◌, ◌≤◌, ℕ, List, [], ◌++◌, length, vec_capacity, ap, sym, subst, ◌∙◌, arith}
-use Rattle.soc_edge.specs.declared.memory.disk.Entry.{Entry}
-use Rattle.soc_edge.specs.DiskEntries.{AllEnd, bytes_of, log_of}
+use Rattle.soc_edge.specs.declared.memory.disk.DiskStep.{DiskStep}
+use Rattle.soc_edge.specs.inner.DiskEntries.{AllEnd, bytes_of, log_of}
 use Rattle.soc_edge.specs.DiskLog.{DiskState, Made, IsImage, reads_as, stopped}
 use Rattle.soc_edge.proofs.DiskStop.{AllEnd-wider, IsImage-stopped, stopped-fits}
 use Rattle.soc_edge.proofs.memory.disk.MemDisk.stop.Goals as goal
@@ -8,7 +8,7 @@ use Rattle.soc_edge.proofs.memory.disk.MemDisk.stop.Goals as goal
 pub play-requires-clause-ends : goal.play-requires-clause-ends
 play-requires-clause-ends c =
     let disk = c.self.inside in
-    let P : List Entry → Type 0 = λ entries. AllEnd (vec_capacity disk.first) entries in
+    let P : List DiskStep → Type 0 = λ entries. AllEnd (vec_capacity disk.first) entries in
     subst P (sym c.deref.ensures.value) (AllEnd-wider disk.room (vec_capacity disk.first) disk.log.items c.self.invariant.first_room c.self.invariant.ends)
 
 pub append-requires : goal.append-requires
@@ -31,10 +31,10 @@ invariant_of-result c =
     c.append.ensures.items ∙ (ap (λ (x : List ℕ). x ++ c.deref-3.result.now) c.clear.ensures.items ∙ c.deref-3.ensures.value) in
     let no_entries = c.clear-3.ensures.items in
     let length_same = ap (λ (x : List ℕ). length x) same in
-    let End : List Entry → Type 0 = λ entries. AllEnd disk.room entries in
+    let End : List DiskStep → Type 0 = λ entries. AllEnd disk.room entries in
     record {
-      reads = same ∙ ap (λ (entries : List Entry). reads_as c.play.new.image.items (log_of [] entries c.clear-2.new.self.items)) (sym no_entries);
-      counted = c.clear-2.ensures.len ∙ ap (λ (entries : List Entry). bytes_of entries) (sym no_entries);
+      reads = same ∙ ap (λ (entries : List DiskStep). reads_as c.play.new.image.items (log_of [] entries c.clear-2.new.self.items)) (sym no_entries);
+      counted = c.clear-2.ensures.len ∙ ap (λ (entries : List DiskStep). bytes_of entries) (sym no_entries);
       ends = subst End (sym no_entries) tt;
       first_fits = omega (arith, fits, c.play.new.image.ok);
       bytes_fit = omega (arith, fits, length_same, c.append.new.bytes.ok);
@@ -51,7 +51,7 @@ returns-clause-image c =
     let first : c.self.inside.first.items ≡ c.args.self.first = ap (λ (s : DiskState). s.first) c.self.view_is in
     let log : log_of [] c.self.inside.log.items c.self.inside.written.items ≡ c.args.self.log = ap (λ (s : DiskState). s.log) c.self.view_is in
     let here : log_of [] c.deref.result.now c.deref-2.result.now ≡ c.args.self.log =
-    ap (λ (x : List Entry). log_of [] x c.deref-2.result.now) c.deref.ensures.value
+    ap (λ (x : List DiskStep). log_of [] x c.deref-2.result.now) c.deref.ensures.value
     ∙ (ap (λ (x : List ℕ). log_of [] c.self.inside.log.items x) c.deref-2.ensures.value ∙ log) in
     let is : c.play.new.image.items ≡ (stopped c.args.self.first c.args.self.log c.args.choice).image =
     c.play.ensures.image

@@ -1,5 +1,5 @@
 use Rattle.std.proofs.Common.{◌≤◌, [], length, arith}
-use Rattle.soc_edge.specs.DiskEntries.{bytes_of}
+use Rattle.soc_edge.specs.inner.DiskEntries.{bytes_of}
 use Rattle.soc_edge.proofs.DiskKept.{bytes_written-log_of}
 use Rattle.soc_edge.proofs.memory.disk.MemDisk.written.Goals as goal
 

@@ -11,27 +11,27 @@ use Rattle.soc_book.specs.declared.desk.Receipt.{Receipt}
 use Rattle.soc_session.specs.declared.ending.SessionEnd.{SessionEnd}
 use Rattle.soc_session.specs.declared.ending.SessionEnd.TheVariants.{Ended, Closed, Stopped, Refused, ReadFault, WriteFault, TooLong, NoMemory}
 use Rattle.soc_session.specs.declared.arrivals.Incoming.{Incoming}
-use Rattle.soc_session.specs.Arrivals.{IsMessage}
+use Rattle.soc_session.specs.inner.Arrivals.{IsMessage}
 use Rattle.soc_session.specs.declared.rules.Rules.{Rules}
 use Rattle.soc_session.specs.declared.connection.Next.{Next}
 use Rattle.soc_session.specs.declared.connection.Next.TheVariants.{GoesOn as Goes, Ends}
 use Rattle.soc_session.specs.Desk.{Exchange, IsExchange, StepsDesk, says_stopped}
-use Rattle.soc_session.specs.Session.{Around, HandsTurns, HoldsTurns, IsEnd, IsTurn, Leaves, RunsDesk, Turn, Writes, met, refused, turn_bytes, turn_text, closing_of}
-use Rattle.soc_session.specs.Tasks.{HandsDrawn}
+use Rattle.soc_session.specs.Session.{Around, HandsResponses, HoldsResponses, IsEnd, IsResponse, Leaves, RunsDesk, Response, WritesAll, met, refused, response_bytes, response_text, closing_of}
+use Rattle.soc_session.specs.inner.Tasks.{HandsDrawn}
 
 -- what is left of a session: bytes that stand unread in the window come before those that the link gives
 pub record ServesFrom {K : Type 0} (asks : K → Command → Receipt → K → Type 0) (rules : Rules) (window : List ℕ) (budget : ℕ) (before after : Around K) (end : SessionEnd) : Type 0 where
-  pub turns : List Turn
-  pub by_rules : AllByRecursion (IsTurn rules) turns
-  pub runs : RunsDesk asks before.desk turns after.desk
+  pub responses : List Response
+  pub by_rules : AllByRecursion (IsResponse rules) responses
+  pub runs : RunsDesk asks before.desk responses after.desk
   pub given : List ℕ
   pub gives : Gives before.left after.left given
   pub rest : List ℕ
-  pub holds : HoldsTurns (window ++ given) turns rest after.left
+  pub holds : HoldsResponses (window ++ given) responses rest after.left
   pub leaves : Leaves end rest after.left
-  pub writes : Writes end before.held after.held turns
-  pub hands : HandsTurns before.outlook after.outlook turns
-  pub ends : IsEnd end budget turns
+  pub writes : WritesAll end before.held after.held responses
+  pub hands : HandsResponses before.outlook after.outlook responses
+  pub ends : IsEnd end budget responses
 
 -- one message was answered, and the session goes on
 pub record Exchanges {K : Type 0} (asks : K → Command → Receipt → K → Type 0) (rules : Rules) (window : List ℕ) (before : Around K) (behind : List ℕ) (after : Around K) (bytes : ℕ) : Type 0 where
@@ -41,12 +41,12 @@ pub record Exchanges {K : Type 0} (asks : K → Command → Receipt → K → Ty
   pub given : List ℕ
   pub gives : Gives before.left after.left given
   pub takes : TakesMessage (window ++ given) exchange.message behind
-  pub writes : Takes before.held after.held (turn_text (met exchange))
+  pub writes : Takes before.held after.held (response_text (met exchange))
   pub hands : HandsDrawn before.outlook after.outlook exchange.drawn
   pub goes_on : closing_of (met exchange) ≡ None
-  pub bytes_are : bytes ≡ turn_bytes (met exchange)
+  pub bytes_are : bytes ≡ response_bytes (met exchange)
 
--- what came of one turn of the loop, whatever is left of the budget
+-- what came of one response of the loop, whatever is left of the budget
 abbrev pub StepsOn : {K : Type 0} → (K → Command → Receipt → K → Type 0) → Rules → List ℕ → Around K → List ℕ → Around K → Next → Type 0
 StepsOn asks rules window before behind after (Goes bytes) = Exchanges asks rules window before behind after bytes
 StepsOn asks rules window before behind after (Ends end) = (budget : ℕ) → 0 < budget → ServesFrom asks rules window budget before after end
@@ -62,8 +62,8 @@ IsNext stopped last bytes next = next ≡ next_of stopped last bytes
 
 -- a refusal was answered, or it wasn't for want of memory
 abbrev pub Refuses : Option (List ℕ) → Option (List ℕ) → HeadError → SessionEnd → Type 0
-Refuses before after error Refused = Takes before after (turn_text (refused error))
-Refuses before after error WriteFault = TakesFront before after (turn_text (refused error))
+Refuses before after error Refused = Takes before after (response_text (refused error))
+Refuses before after error WriteFault = TakesFront before after (response_text (refused error))
 Refuses before after error NoMemory = after ≡ before
 Refuses before after error Ended = ⊥
 Refuses before after error Closed = ⊥
@@ -81,8 +81,8 @@ Halts before after error end =
 -- the reply was written whole and the session goes on or ends by it, or it was cut short by a fault
 abbrev pub WritesNext : Option (List ℕ) → Option (List ℕ) → Exchange → Next → Type 0
 WritesNext before after exchange next =
-    (Takes before after (turn_text (met exchange)) × IsNext (says_stopped exchange.asked) exchange.message.head.last (turn_bytes (met exchange)) next)
-    ⊎ (TakesFront before after (turn_text (met exchange)) × (next ≡ Ends WriteFault))
+    (Takes before after (response_text (met exchange)) × IsNext (says_stopped exchange.asked) exchange.message.head.last (response_bytes (met exchange)) next)
+    ⊎ (TakesFront before after (response_text (met exchange)) × (next ≡ Ends WriteFault))
 
 -- a message that came is answered
 pub record Responds {K : Type 0} (asks : K → Command → Receipt → K → Type 0) (rules : Rules) (incoming : Incoming) (desk after : K) (ahead behind : Outlook)

@@ -1,7 +1,7 @@
 -- A disk in memory by its fields, and what is true of them.
 use Rattle.std.specs.Prelude.{◌≡◌, ◌≤◌, [], vec_len, vec_capacity}
 use Rattle.soc_edge.specs.declared.memory.disk.MemDisk.TheInside.{Inside}
-use Rattle.soc_edge.specs.DiskEntries.{bytes_of, AllEnd, log_of}
+use Rattle.soc_edge.specs.inner.DiskEntries.{bytes_of, AllEnd, log_of}
 use Rattle.soc_edge.specs.DiskLog.{DiskState, reads_as}
 
 abbrev pub disk_state : Inside → DiskState

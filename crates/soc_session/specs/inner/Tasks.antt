@@ -10,7 +10,7 @@ use Rattle.soc_book.specs.Kinds.{IsReplyTo}
 use Rattle.soc_session.specs.declared.tasks.Drawing.{Drawing}
 use Rattle.soc_session.specs.declared.tasks.Task.{Task}
 use Rattle.soc_session.specs.declared.tasks.Task.TheVariants.{Say, Ask}
-use Rattle.soc_session.specs.declared.answers.Outcome.{Outcome}
+use Rattle.soc_session.specs.declared.answers.Handled.{Handled}
 use Rattle.soc_session.specs.declared.rules.Rules.{Rules}
 use Rattle.soc_http.specs.Message.{Message}
 use Rattle.soc_session.specs.Desk.{Asking, Exchange, IsExchange, StepsDesk, says_stopped}
@@ -62,7 +62,7 @@ AnswersTask (Ask command) (Some asking) (Some reply) =
 AnswersTask (Ask command) (Some asking) None = (asking.command ≡ command) × IsReplyTo command asking.receipt.reply × IsRow asking.receipt.reply
 
 -- a task is carried out
-pub record Carries {K : Type 0} (asks : K → Command → Receipt → K → Type 0) (task : Task) (before after : K) (outcome : Outcome) : Type 0 where
+pub record Carries {K : Type 0} (asks : K → Command → Receipt → K → Type 0) (task : Task) (before after : K) (outcome : Handled) : Type 0 where
   pub asked : Option Asking
   pub steps : StepsDesk asks before asked after
   pub answers : AnswersTask task asked outcome.reply
@@ -74,7 +74,7 @@ reply_of None = no_memory
 reply_of (Some reply) = reply
 
 -- a message is answered
-pub record Answers {K : Type 0} (asks : K → Command → Receipt → K → Type 0) (rules : Rules) (message : Message) (before after : K) (ahead behind : Outlook) (outcome : Outcome) : Type 0 where
+pub record Answers {K : Type 0} (asks : K → Command → Receipt → K → Type 0) (rules : Rules) (message : Message) (before after : K) (ahead behind : Outlook) (outcome : Handled) : Type 0 where
   pub exchange : Exchange
   pub is : IsExchange rules exchange
   pub message_is : exchange.message ≡ message
