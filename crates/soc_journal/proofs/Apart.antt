@@ -5,7 +5,7 @@ use Rattle.soc_edge.proofs.Disks.{take-Tears, Tears-written, length-written}
 use Rattle.soc_edge.specs.Disk.{Tears}
 use Rattle.soc_journal.specs.Bodies.{StandsBefore, IsApart}
 use Rattle.soc_journal.specs.Entries.{Entry, first_gate, entry_text}
-use Rattle.soc_journal.specs.Text.{version_of, StandsAt}
+use Rattle.soc_journal.specs.Text.{version_of}
 
 entry_stays : (bytes after : List ℕ) (place gate count : ℕ) (entry : Entry) → Tears gate count bytes after → StandsBefore bytes place gate entry → StandsBefore after place gate entry
 entry_stays bytes after place gate count entry tears before =

@@ -7,12 +7,12 @@ use Rattle.std.proofs.lemmas.Bool.Decides.{nat_tests}
 use Rattle.std.proofs.lemmas.List.{take_all, length-drop}
 use Rattle.soc_edge.proofs.Disks.{LeavesOnly-append, LeavesOnly-weaker}
 use Rattle.soc_edge.specs.Disk.{written, Tears, WhereTold, Follows, Only, DiskTold, LeavesOnly, IsTorn, MayTear}
-use Rattle.soc_journal.specs.Entries.{Entry, IsEntryOf, has_kind, open_gate, closed_gate, first_version, second_version, entry_text, gate_place, sealed}
+use Rattle.soc_journal.specs.Entries.{Entry, IsEntryOf, has_kind, open_gate, closed_gate, first_version, second_version, entry_text, place_behind, sealed}
 use Rattle.soc_journal.specs.declared.error.AppendError.{AppendError}
 use Rattle.soc_journal.specs.declared.error.AppendError.TheVariants.{StoreFault, JournalFull}
 use Rattle.soc_journal.specs.States.{JournalState, AtRest, InDoubt}
 use Rattle.soc_journal.specs.Text.{version_of, JournalText, EitherText}
-use Rattle.soc_journal.proofs.Texts.{behind_gate, sealed_behind, front_of, length-front_of, front_of-push, version_of-front, begins_front, front_begins, AllByRecursion-push, gate_place-push}
+use Rattle.soc_journal.proofs.Texts.{behind_gate, sealed_behind, front_of, length-front_of, front_of-push, version_of-front, begins_front, front_begins, AllByRecursion-push, place_behind-push}
 use Rattle.soc_journal.proofs.Ranges.{Tears-wider, Tears-append, WhereTold-map, WhereTold-append, MayTear-wider, MayTear-append, opened_told}
 use Rattle.soc_journal.proofs.Torn.{torn_behind, written_behind, torn_byte, written_byte}
 
@@ -63,7 +63,7 @@ pub record Staged (journal : JournalState) (entries : List Entry) (entry : Entry
   pub legal : AllByRecursion (IsEntryOf version) entries
   pub one : IsEntryOf version entry
   pub current : version ≢ first_version
-  pub gate_stands : journal.gate ≡ gate_place entries
+  pub gate_stands : journal.gate ≡ place_behind entries
   pub only : Only bytes images
 
 module _ (journal : JournalState) (place : ℕ) (at : journal.gate ≡ place) (entries : List Entry) (bytes : List ℕ) (images : List ℕ → Type 0) (rests : AtRest journal entries bytes images) where
@@ -136,7 +136,7 @@ module _ (journal : JournalState) (place : ℕ) (at : journal.gate ≡ place) (e
       record {
         text = stands_after staged_so.version entries entry staged_so.rest now whole staged_so.legal staged_so.one;
         current = λ old. staged_so.current (sym (version_of-front staged_so.version entries (open_gate ∷ (behind_gate entry ++ staged_so.rest)) now whole) ∙ old);
-        gate_stands = omega (arith, moved, staged_so.gate_stands, gate_place-push entries entry);
+        gate_stands = omega (arith, moved, staged_so.gate_stands, place_behind-push entries entry);
         no_doubt = no_doubt;
         only = only;
       }

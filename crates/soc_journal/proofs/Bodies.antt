@@ -5,14 +5,14 @@ use Rattle.std.proofs.lemmas.List.{take_at, drop_at, length-take, length-drop}
 use Rattle.std.proofs.lemmas.Option.{IfSome_then}
 use Rattle.soc_journal.specs.Bodies.{StandsBefore, GivesBody}
 use Rattle.soc_journal.specs.Entries.{Entry, second_version, max_body, open_gate, entry_text}
-use Rattle.soc_journal.specs.Found.{entry_head, IsFront, IsHead, IsFound}
+use Rattle.soc_journal.specs.inner.Gates.{entry_head, IsFront, IsHead, IsAtGate}
 use Rattle.soc_journal.specs.Text.{StandsAt}
 use Rattle.soc_journal.specs.declared.error.ReadError.{ReadError}
 use Rattle.soc_journal.specs.declared.error.ReadError.TheVariants.{StoreFault, Altered, NoMemory}
-use Rattle.soc_journal.specs.declared.found.Front.TheVariants.{Shut}
-use Rattle.soc_journal.specs.declared.found.Found.{Found}
-use Rattle.soc_journal.specs.declared.found.Found.TheVariants.{Entry as an_entry, Closed}
-use Rattle.soc_journal.proofs.Founds.{heads_same}
+use Rattle.soc_journal.specs.declared.gate.Front.TheVariants.{Shut}
+use Rattle.soc_journal.specs.declared.gate.AtGate.{AtGate}
+use Rattle.soc_journal.specs.declared.gate.AtGate.TheVariants.{Open, Closed}
+use Rattle.soc_journal.proofs.Gates.{heads_same}
 use Rattle.soc_journal.proofs.Nexts.{entry_whole}
 use Rattle.soc_journal.proofs.Options.{IfSome_both}
 use Rattle.soc_journal.proofs.Texts.{length-entry_text, text_behind, entry_text-behind}
@@ -84,24 +84,24 @@ shut_out bytes place entry stands (gate, more, is, closed) =
     let same : gate ≡ open_gate = cc in
     closed same
 
-module _ (told : Option (List ℕ)) (place gate end : ℕ) (at : end ≡ gate) (found : Found) (finds : IfSome told (λ bytes. IsFound second_version place end (drop place bytes) found)) where
-  at_found : (other : Found) → found ≡ other → IfSome told (λ bytes. IsFound second_version place gate (drop place bytes) other)
+module _ (told : Option (List ℕ)) (place gate end : ℕ) (at : end ≡ gate) (found : AtGate) (finds : IfSome told (λ bytes. IsAtGate second_version place end (drop place bytes) found)) where
+  at_found : (other : AtGate) → found ≡ other → IfSome told (λ bytes. IsAtGate second_version place gate (drop place bytes) other)
   at_found other is =
-      let P : Found → Type 0 = λ f. IfSome told (λ bytes. IsFound second_version place gate (drop place bytes) f) in
-      let Q : ℕ → Type 0 = λ n. IfSome told (λ bytes. IsFound second_version place n (drop place bytes) found) in
+      let P : AtGate → Type 0 = λ f. IfSome told (λ bytes. IsAtGate second_version place gate (drop place bytes) f) in
+      let Q : ℕ → Type 0 = λ n. IfSome told (λ bytes. IsAtGate second_version place n (drop place bytes) found) in
       subst P is (subst Q at finds)
 
-  pub read_body : (kind count : ℕ) (answer : Result (List ℕ) ReadError) (then_told : Option (List ℕ)) → found ≡ an_entry kind count → then_told ≡ told → IfSome then_told (λ bytes. GivesBody bytes (place + 6) count answer)
+  pub read_body : (kind count : ℕ) (answer : Result (List ℕ) ReadError) (then_told : Option (List ℕ)) → found ≡ Open kind count → then_told ≡ told → IfSome then_told (λ bytes. GivesBody bytes (place + 6) count answer)
       → IfSome told (λ bytes. (entry : Entry) → StandsBefore bytes place gate entry → MatchResult answer (λ body. body ≡ entry.body) (λ error. error ≢ Altered))
-  read_body kind count answer then_told is same_told gives = IfSome_both told (at_found (an_entry kind count) is) (subst (λ (o : Option (List ℕ)). IfSome o (λ bytes. GivesBody bytes (place + 6) count answer)) same_told gives) (λ bytes head given entry before.
+  read_body kind count answer then_told is same_told gives = IfSome_both told (at_found (Open kind count) is) (subst (λ (o : Option (List ℕ)). IfSome o (λ bytes. GivesBody bytes (place + 6) count answer)) same_told gives) (λ bytes head given entry before.
       let short : length entry.body ≤ max_body = before.legal.short in
       let low : count ≤ max_body = head.counts.short in
       let same = heads_same kind count entry head.more before.stands.rest (omega arith) (omega arith) (sym head.whole ∙ stands_rest bytes place entry before.stands) in
       gives_all bytes place entry before.stands count answer same.1 given)
 
-  pub read_found : (kind count : ℕ) (answer : Result (List ℕ) ReadError) (then_told : Option (List ℕ)) → found ≡ an_entry kind count → then_told ≡ told → IfSome then_told (λ bytes. GivesBody bytes (place + 6) count answer)
+  pub read_found : (kind count : ℕ) (answer : Result (List ℕ) ReadError) (then_told : Option (List ℕ)) → found ≡ Open kind count → then_told ≡ told → IfSome then_told (λ bytes. GivesBody bytes (place + 6) count answer)
       → OnOk answer (IfSome told (λ bytes. (entry : Entry) × StandsBefore bytes place gate entry))
-  read_found kind count (Ok body) then_told is same_told gives = IfSome_both told (at_found (an_entry kind count) is) (subst (λ (o : Option (List ℕ)). IfSome o (λ bytes. GivesBody bytes (place + 6) count (Ok body))) same_told gives) (λ bytes head given. found_entry bytes place gate kind count head given.0)
+  read_found kind count (Ok body) then_told is same_told gives = IfSome_both told (at_found (Open kind count) is) (subst (λ (o : Option (List ℕ)). IfSome o (λ bytes. GivesBody bytes (place + 6) count (Ok body))) same_told gives) (λ bytes head given. found_entry bytes place gate kind count head given.0)
   read_found kind count (Err error) then_told is same_told gives = tt
 
   -- where a closed gate or nothing good stands, no entry does

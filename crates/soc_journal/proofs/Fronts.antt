@@ -4,7 +4,7 @@ use Rattle.std.specs.Int.{from_le_bytes, to_le_bytes, w32}
 use Rattle.std.proofs.lemmas.Nat.{le_bytes_4}
 use Rattle.std.proofs.lemmas.List.{take_all, length-drop}
 use Rattle.soc_journal.specs.Entries.{open_gate}
-use Rattle.soc_journal.specs.Found.{entry_head}
+use Rattle.soc_journal.specs.inner.Gates.{entry_head}
 
 four : (a b c d : ℕ) → a < 256 → b < 256 → c < 256 → d < 256 → (i : ℕ) → get_or (a ∷ b ∷ c ∷ d ∷ []) i 0 < 256
 four a b c d p q r s zero = p

@@ -2,8 +2,8 @@ pub mod Apart
 pub mod Appends
 pub mod Bodies
 pub mod Finishes
-pub mod Founds
 pub mod Fronts
+pub mod Gates
 pub mod Headers
 pub mod Mends
 pub mod Nexts

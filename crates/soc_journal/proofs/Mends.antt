@@ -1,32 +1,32 @@
 -- What the journal holds once a doubt is settled.
 use Rattle.std.proofs.Common.{◌≡◌, inl, inr, ℕ, ◌+◌, Bool, true, false, IsTrue, ◌↔◌, List, [], ◌∷◌, ◌++◌, length, Option, Some, None, IfSome, slice_get, refl, sym, ◌∙◌, ap, subst, arith}
 use Rattle.soc_edge.specs.Disk.{Only}
-use Rattle.soc_journal.specs.Entries.{Entry, open_gate, entry_text, gate_place}
+use Rattle.soc_journal.specs.Entries.{Entry, open_gate, entry_text, place_behind}
 use Rattle.soc_journal.specs.States.{JournalState, AtRest, InDoubt, ReadsOpen}
 use Rattle.soc_journal.specs.Text.{version_of, JournalText}
 use Rattle.soc_journal.proofs.Options.{IfSome_both}
-use Rattle.soc_journal.proofs.Texts.{front_of, length-front_of, front_of-push, begins_front, gate_place-push, text_behind, entry_text-behind}
+use Rattle.soc_journal.proofs.Texts.{front_of, length-front_of, front_of-push, begins_front, place_behind-push, text_behind, entry_text-behind}
 
 slice_get_seam : (front : List ℕ) (byte : ℕ) (rest : List ℕ) → slice_get (front ++ byte ∷ rest) (length front) ≡ Some byte
 slice_get_seam [] byte rest = refl
 slice_get_seam (first ∷ front) byte rest = slice_get_seam front byte rest
 
 -- the byte behind the header and some entries
-byte_at_gate : (version : ℕ) (entries : List Entry) (byte : ℕ) (rest bytes : List ℕ) → bytes ≡ front_of version entries ++ byte ∷ rest → slice_get bytes (gate_place entries) ≡ Some byte
+byte_at_gate : (version : ℕ) (entries : List Entry) (byte : ℕ) (rest bytes : List ℕ) → bytes ≡ front_of version entries ++ byte ∷ rest → slice_get bytes (place_behind entries) ≡ Some byte
 byte_at_gate version entries byte rest bytes whole =
-    ap (λ (x : List ℕ). slice_get x (gate_place entries)) whole
+    ap (λ (x : List ℕ). slice_get x (place_behind entries)) whole
     ∙ (ap (λ (n : ℕ). slice_get (front_of version entries ++ byte ∷ rest) n) (sym (length-front_of version entries))
     ∙ slice_get_seam (front_of version entries) byte rest)
 
 -- a journal's gate doesn't read open
-closed_reads : (entries : List Entry) (bytes : List ℕ) → JournalText entries bytes → ReadsOpen bytes (gate_place entries) → ⊥
+closed_reads : (entries : List Entry) (bytes : List ℕ) → JournalText entries bytes → ReadsOpen bytes (place_behind entries) → ⊥
 closed_reads entries bytes text reads =
     let byte = byte_at_gate (version_of bytes) entries text.gate text.rest bytes (begins_front entries (text.gate ∷ text.rest) bytes text.begins) in
     let is : text.gate ≡ open_gate = cc in
     text.closed is
 
 -- the gate before an entry of a journal does
-open_reads : (entries : List Entry) (entry : Entry) (bytes : List ℕ) → JournalText (entries ++ entry ∷ []) bytes → ReadsOpen bytes (gate_place entries)
+open_reads : (entries : List Entry) (entry : Entry) (bytes : List ℕ) → JournalText (entries ++ entry ∷ []) bytes → ReadsOpen bytes (place_behind entries)
 open_reads entries entry bytes text =
     byte_at_gate (version_of bytes) entries open_gate (text_behind entry (text.gate ∷ text.rest)) bytes
     (begins_front (entries ++ entry ∷ []) (text.gate ∷ text.rest) bytes text.begins
@@ -41,7 +41,7 @@ module _ (journal after : JournalState) (entries : List Entry) (entry : Entry) (
       | inr with_it ↦ with_it
     ];
     current = doubts.current;
-    gate_stands = omega (arith, moved, doubts.gate_stands, gate_place-push entries entry);
+    gate_stands = omega (arith, moved, doubts.gate_stands, place_behind-push entries entry);
     no_doubt = no_doubt;
     only = only;
   }

@@ -5,14 +5,14 @@ use Rattle.std.proofs.lemmas.List.{drop_at, length-take}
 use Rattle.std.proofs.lemmas.Option.{IfSome_then}
 use Rattle.soc_edge.specs.Disk.{NoMore}
 use Rattle.soc_journal.specs.Entries.{Entry, IsEntryOf, open_gate, entry_text}
-use Rattle.soc_journal.specs.Found.{entry_head, IsFront, IsHead, IsBad, IsFound}
+use Rattle.soc_journal.specs.inner.Gates.{entry_head, IsFront, IsHead, IsBad, IsAtGate}
 use Rattle.soc_journal.specs.Openings.{OpeningState, HasRead, HasReadAll, HasReadMore}
 use Rattle.soc_journal.specs.Text.{version_of, FirstBad}
-use Rattle.soc_journal.specs.declared.found.Front.TheVariants.{Shut}
-use Rattle.soc_journal.specs.declared.found.Found.{Found}
-use Rattle.soc_journal.specs.declared.found.Found.TheVariants.{Entry as an_entry, Closed, Bad}
+use Rattle.soc_journal.specs.declared.gate.Front.TheVariants.{Shut}
+use Rattle.soc_journal.specs.declared.gate.AtGate.{AtGate}
+use Rattle.soc_journal.specs.declared.gate.AtGate.TheVariants.{Open, Closed, Bad}
 use Rattle.soc_journal.specs.declared.mark.Mark.{Mark}
-use Rattle.soc_journal.proofs.Texts.{front_of, length-front_of, front_of-push, begins_front, front_begins, AllByRecursion-push, gate_place-push, length-entry_text}
+use Rattle.soc_journal.proofs.Texts.{front_of, length-front_of, front_of-push, begins_front, front_begins, AllByRecursion-push, place_behind-push, length-entry_text}
 
 -- an entry of this body, from its head and what follows it
 pub entry_whole : (kind count : ℕ) (more : List ℕ) → count ≤ length more → entry_head kind count ++ more ≡ entry_text (record { kind = kind; body = take count more }) ++ drop count more
@@ -98,7 +98,7 @@ module _ (opening : OpeningState) (entries : List Entry) (bytes : List ℕ) (ima
           begins = front_begins (version_of bytes) (entries ++ entry ∷ []) (drop mark.length head.more) bytes
               (stands ∙ front_of-push (version_of bytes) entries entry (drop mark.length head.more))
               (AllByRecursion-push (IsEntryOf (version_of bytes)) entries entry has.begins.legal legal);
-          behind = omega (arith, moved, has.behind, gate_place-push entries entry, length-entry_text entry, count);
+          behind = omega (arith, moved, has.behind, place_behind-push entries entry, length-entry_text entry, count);
           size = same_length ∙ has.size;
           same_version = same_version ∙ has.same_version;
           only = λ image left. has.only image (no_more image left);
@@ -106,15 +106,15 @@ module _ (opening : OpeningState) (entries : List Entry) (bytes : List ℕ) (ima
       }
 
 module _ (told : Option (List ℕ)) (images now_images : List ℕ → Type 0) (no_more : NoMore images now_images) (opening seen after : OpeningState) (view : opening ≡ seen) (same_length : after.length ≡ opening.length) (same_version : after.version ≡ opening.version)
-    (found : Found) (finds : IfSome told (λ bytes. IsFound opening.version opening.place opening.length (drop opening.place bytes) found)) where
-  at_found : (other : Found) → found ≡ other → IfSome told (λ bytes. IsFound opening.version opening.place opening.length (drop opening.place bytes) other)
+    (found : AtGate) (finds : IfSome told (λ bytes. IsAtGate opening.version opening.place opening.length (drop opening.place bytes) found)) where
+  at_found : (other : AtGate) → found ≡ other → IfSome told (λ bytes. IsAtGate opening.version opening.place opening.length (drop opening.place bytes) other)
   at_found other is =
-      let P : Found → Type 0 = λ f. IfSome told (λ bytes. IsFound opening.version opening.place opening.length (drop opening.place bytes) f) in
+      let P : AtGate → Type 0 = λ f. IfSome told (λ bytes. IsAtGate opening.version opening.place opening.length (drop opening.place bytes) f) in
       subst P is finds
 
-  pub entry_told : (mark : Mark) → mark.place ≡ opening.place → after.place ≡ opening.place + 6 + mark.length → found ≡ an_entry mark.kind mark.length
+  pub entry_told : (mark : Mark) → mark.place ≡ opening.place → after.place ≡ opening.place + 6 + mark.length → found ≡ Open mark.kind mark.length
       → IfSome told (λ bytes. (entries : List Entry) → HasRead seen entries bytes images → HasReadMore after entries mark bytes now_images)
-  entry_told mark at moved is = IfSome_then told (at_found (an_entry mark.kind mark.length) is) (λ bytes head entries has_seen.
+  entry_told mark at moved is = IfSome_then told (at_found (Open mark.kind mark.length) is) (λ bytes head entries has_seen.
       let Seen : OpeningState → Type 0 = λ o. HasRead o entries bytes images in
       let has = subst Seen (sym view) has_seen in
       let P : List ℕ → Type 0 = λ x. IsHead opening.version opening.place opening.length mark.kind mark.length x in

@@ -4,11 +4,11 @@ use Rattle.std.specs.Int.{to_le_bytes, w32}
 use Rattle.std.specs.List.{AllByRecursion}
 use Rattle.std.proofs.lemmas.Grind.{flat_map-append}
 use Rattle.std.proofs.lemmas.List.{take_at, drop_at}
-use Rattle.soc_journal.specs.Entries.{Entry, IsEntryOf, max_body, open_gate, header, entry_text, entries_text, gate_place}
-use Rattle.soc_journal.specs.Found.{entry_head}
+use Rattle.soc_journal.specs.Entries.{Entry, IsEntryOf, max_body, open_gate, header, entry_text, entries_text, place_behind}
+use Rattle.soc_journal.specs.inner.Gates.{entry_head}
 use Rattle.soc_journal.specs.Text.{version_of, Begins, IsOneText, IsOneFault, IsOneEntry}
 use Rattle.soc_journal.proofs.Bodies.{stands_rest}
-use Rattle.soc_journal.proofs.Founds.{heads_same}
+use Rattle.soc_journal.proofs.Gates.{heads_same}
 use Rattle.soc_journal.proofs.Texts.{text_behind, entry_text-behind, front_of, length-front_of, begins_front}
 
 head_body : (entry : Entry) (more : List ℕ) → entry_text entry ++ more ≡ entry_head entry.kind (length entry.body) ++ (entry.body ++ more)
@@ -79,7 +79,7 @@ fault_once = record {
       bad.no_gate text.gate text.rest text.closed same.1;
   one = λ bytes place other bad bad_too.
       let same = begins_once bytes bad.entries bad_too.entries bad.rest bad_too.rest bad.begins bad_too.begins bad.no_entry bad_too.no_entry in
-      bad.behind ∙ (ap gate_place same.0 ∙ sym bad_too.behind);
+      bad.behind ∙ (ap place_behind same.0 ∙ sym bad_too.behind);
 }
 
 pub entries_stand : IsOneEntry

@@ -73,8 +73,8 @@ MayTear-append place count before middle after first then = record {
   any_moment = LeavesOnly-append before middle after (IsTorn before.images place count) first.goes_on then.goes_on first.any_moment
       (LeavesOnly-weaker middle after (IsTorn middle.images place count) (IsTorn before.images place count)
       (λ image torn.
-          let was = first.images torn.earlier torn.was in
-          record { earlier = was.0; was = was.1; tears = Tears-append place count was.0 torn.earlier image was.2 torn.tears }) then.any_moment);
+      let was = first.images torn.earlier torn.was in
+      record { earlier = was.0; was = was.1; tears = Tears-append place count was.0 torn.earlier image was.2 torn.tears }) then.any_moment);
   goes_on = GoesOn-append before middle after first.goes_on then.goes_on;
 }
 
@@ -108,6 +108,7 @@ one_less content place = elim (side (length content - place)) [
       ∙ (ap (λ (x : List ℕ). content ++ x) (take-replicate (place - length content) (place + 1 - length content) 0 (omega arith))
       ∙ ap (λ (x : List ℕ). x ++ replicate (place - length content) 0) (sym (take_all place content past)))))
 ]
+
 pub written-opened : (content : List ℕ) (place byte : ℕ) (piece : List ℕ) → written (written content (place + 1) piece) place (byte ∷ []) ≡ written content place (byte ∷ piece)
 written-opened content place byte [] = refl
 written-opened content place byte (first ∷ more) =

@@ -3,7 +3,7 @@ use Rattle.std.proofs.Common.{◌≡◌, ℕ, ◌-◌, List, [], ◌∷◌, ◌+
 use Rattle.std.specs.Int.{to_le_bytes, w32}
 use Rattle.std.proofs.lemmas.List.{take_at}
 use Rattle.soc_journal.specs.Entries.{Entry, IsEntryOf, open_gate, closed_gate, second_version, entry_text, sealed}
-use Rattle.soc_journal.specs.Views.{entry_in, IsSealed}
+use Rattle.soc_journal.specs.inner.Sealed.{entry_in, IsSealed}
 use Rattle.soc_journal.proofs.Texts.{length-sealed}
 
 -- the parts of the text, one behind the other

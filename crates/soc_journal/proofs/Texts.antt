@@ -3,7 +3,7 @@ use Rattle.std.proofs.Common.{◌≡◌, ℕ, ◌+◌, List, [], ◌∷◌, ◌+
 use Rattle.std.specs.Int.{to_le_bytes, w32}
 use Rattle.std.specs.List.{AllByRecursion}
 use Rattle.std.proofs.lemmas.List.{append-nil}
-use Rattle.soc_journal.specs.Entries.{Entry, IsEntryOf, open_gate, closed_gate, header, entry_text, entries_text, gate_place, sealed}
+use Rattle.soc_journal.specs.Entries.{Entry, IsEntryOf, open_gate, closed_gate, header, entry_text, entries_text, place_behind, sealed}
 use Rattle.soc_journal.specs.Text.{version_of, Begins}
 
 -- how many bytes an entry has
@@ -37,8 +37,8 @@ entries_text-push (first ∷ entries) entry rest =
     ∙ (ap (λ (x : List ℕ). entry_text first ++ x) (entries_text-push entries entry rest)
     ∙ sym (append_assoc (entry_text first) (entries_text entries) (entry_text entry ++ rest)))
 
-pub gate_place-push : (entries : List Entry) (entry : Entry) → gate_place (entries ++ entry ∷ []) ≡ gate_place entries + length (entry_text entry)
-gate_place-push entries entry =
+pub place_behind-push : (entries : List Entry) (entry : Entry) → place_behind (entries ++ entry ∷ []) ≡ place_behind entries + length (entry_text entry)
+place_behind-push entries entry =
     let whole : entries_text (entries ++ entry ∷ []) ≡ entries_text entries ++ entry_text entry =
     sym (append-nil (entries_text (entries ++ entry ∷ [])))
     ∙ (entries_text-push entries entry []
@@ -53,7 +53,7 @@ AllByRecursion-push P (y ∷ xs) x all one = (all.0, AllByRecursion-push P xs x 
 abbrev pub front_of : ℕ → List Entry → List ℕ
 front_of version entries = header version ++ entries_text entries
 
-pub length-front_of : (version : ℕ) (entries : List Entry) → length (front_of version entries) ≡ gate_place entries
+pub length-front_of : (version : ℕ) (entries : List Entry) → length (front_of version entries) ≡ place_behind entries
 length-front_of version entries = omega (arith, length-append (header version) (entries_text entries))
 
 pub front_of-push : (version : ℕ) (entries : List Entry) (entry : Entry) (rest : List ℕ) → front_of version entries ++ (entry_text entry ++ rest) ≡ front_of version (entries ++ entry ∷ []) ++ rest

@@ -78,8 +78,8 @@ abbrev pub header : ℕ → List ℕ
 header version = codes "SOCJ000" ++ version ∷ []
 
 -- where the gate stands behind the header and these entries
-abbrev pub gate_place : List Entry → ℕ
-gate_place entries = first_gate + length (entries_text entries)
+abbrev pub place_behind : List Entry → ℕ
+place_behind entries = first_gate + length (entries_text entries)
 
 -- an entry as it is written: with the closed gate behind it
 abbrev pub sealed : Entry → List ℕ

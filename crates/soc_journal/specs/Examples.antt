@@ -1,6 +1,6 @@
 -- Journals and entries as they are written, by computation.
 use Rattle.std.specs.Prelude.{◌≡◌, true, false, [], ◌∷◌, ◌++◌, codes, refl}
-use Rattle.soc_journal.specs.Entries.{Entry, has_kind, first_version, second_version, accept_kind, ask_kind, withdraw_kind, report_kind, entry_text, header, sealed, gate_place}
+use Rattle.soc_journal.specs.Entries.{Entry, has_kind, first_version, second_version, accept_kind, ask_kind, withdraw_kind, report_kind, entry_text, header, sealed, place_behind}
 use Rattle.soc_journal.specs.Text.{version_of, empty_journal}
 
 -- a journal without entries
@@ -16,7 +16,7 @@ unfolding entry_text
 one_entry = refl
 
 -- the gate behind two of them
-two_entries : gate_place (asked ∷ asked ∷ []) ≡ 24
+two_entries : place_behind (asked ∷ asked ∷ []) ≡ 24
 unfolding entry_text
 two_entries = refl
 

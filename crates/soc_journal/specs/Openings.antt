@@ -1,11 +1,17 @@
 -- An opening as contracts see it, and what it has read of a disk.
-use Rattle.std.specs.Prelude.{◌≡◌, ℕ, Bool, Option, Some, None, Result, Ok, Err, List, [], ◌∷◌, ◌++◌, length, ⊤}
+use Rattle.std.specs.Prelude.{◌≡◌, ℕ, ◌+◌, ◌≤◌, Bool, IsTrue, Option, Some, None, Result, Ok, Err, List, [], ◌∷◌, ◌++◌, length, ⊤}
 use Rattle.soc_edge.specs.Disk.{Only}
-use Rattle.soc_journal.specs.Entries.{Entry, gate_place}
+use Rattle.soc_journal.specs.Entries.{Entry, has_kind, max_body, head_size, place_behind}
 use Rattle.soc_journal.specs.Text.{version_of, Begins, JournalText, FirstBad, StandsAt}
 use Rattle.soc_journal.specs.declared.mark.Mark.{Mark}
 use Rattle.soc_journal.specs.declared.error.OpenError.{OpenError}
 use Rattle.soc_journal.specs.declared.error.OpenError.TheVariants.{NotOurs, StoreFault, BadEntry, NoMemory}
+
+-- a head of this kind and length is that of an entry, of a kind that the version has, which ends at or before the end
+pub record Counts (version kind count place end : ℕ) : Type 0 where
+  pub known : IsTrue (has_kind version kind)
+  pub short : count ≤ max_body
+  pub fits : place + head_size + count ≤ end
 
 -- an opening: the place of the next gate, how many bytes the disk has, the version byte, the journal's limit, and
 -- whether the closed gate was found
@@ -20,7 +26,7 @@ pub record OpeningState : Type 0 where
 pub record HasRead (opening : OpeningState) (entries : List Entry) (bytes : List ℕ) (images : List ℕ → Type 0) : Type 0 where
   pub rest : List ℕ
   pub begins : Begins entries rest bytes
-  pub behind : opening.place ≡ gate_place entries
+  pub behind : opening.place ≡ place_behind entries
   pub size : opening.length ≡ length bytes
   pub same_version : opening.version ≡ version_of bytes
   pub only : Only bytes images
@@ -39,8 +45,8 @@ pub record HasReadAll (opening : OpeningState) (entries : List Entry) (bytes : L
 -- one more entry stands behind these, and this is its mark
 pub record HasReadMore (opening : OpeningState) (entries : List Entry) (mark : Mark) (bytes : List ℕ) (images : List ℕ → Type 0) : Type 0 where
   pub entry : Entry
-  pub marks : Marks mark (gate_place entries) entry
-  pub stands : StandsAt bytes (gate_place entries) entry
+  pub marks : Marks mark (place_behind entries) entry
+  pub stands : StandsAt bytes (place_behind entries) entry
   pub reads : HasRead opening (entries ++ entry ∷ []) bytes images
 
 -- what an opening that has read some entries finds behind them

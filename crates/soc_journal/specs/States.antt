@@ -2,7 +2,7 @@
 use Rattle.std.specs.Prelude.{◌≡◌, ◌≢◌, ℕ, ◌+◌, Option, Some, None, Result, Ok, Err, List, [], ◌∷◌, ◌++◌, length, slice_get, unwrap_or, ⊤}
 use Rattle.soc_edge.specs.Disk.{Only}
 use Rattle.soc_edge.specs.declared.failed.Failed.{Failed}
-use Rattle.soc_journal.specs.Entries.{Entry, open_gate, first_version, entry_text, gate_place}
+use Rattle.soc_journal.specs.Entries.{Entry, open_gate, first_version, entry_text, place_behind}
 use Rattle.soc_journal.specs.Text.{version_of, JournalText, EitherText}
 use Rattle.soc_journal.specs.declared.settled.Settled.{Settled}
 use Rattle.soc_journal.specs.declared.settled.Settled.TheVariants.{Clean, Kept, Dropped}
@@ -18,7 +18,7 @@ pub record JournalState : Type 0 where
 pub record AtRest (journal : JournalState) (entries : List Entry) (bytes : List ℕ) (images : List ℕ → Type 0) : Type 0 where
   pub text : JournalText entries bytes
   pub current : version_of bytes ≢ first_version
-  pub gate_stands : journal.gate ≡ gate_place entries
+  pub gate_stands : journal.gate ≡ place_behind entries
   pub no_doubt : journal.doubt ≡ None
   pub only : Only bytes images
 
@@ -26,7 +26,7 @@ pub record AtRest (journal : JournalState) (entries : List Entry) (bytes : List 
 pub record InDoubt (journal : JournalState) (entries : List Entry) (entry : Entry) (bytes : List ℕ) (images : List ℕ → Type 0) : Type 0 where
   pub text : EitherText entries entry bytes
   pub current : version_of bytes ≢ first_version
-  pub gate_stands : journal.gate ≡ gate_place entries
+  pub gate_stands : journal.gate ≡ place_behind entries
   pub in_doubt : journal.doubt ≡ Some (length (entry_text entry))
   pub each : (image : List ℕ) → images image → EitherText entries entry image
 

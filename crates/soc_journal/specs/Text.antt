@@ -2,7 +2,7 @@
 -- profile.
 use Rattle.std.specs.Prelude.{◌≡◌, ◌≢◌, ℕ, ◌⊎◌, List, [], ◌∷◌, ◌++◌, length, slice_index}
 use Rattle.std.specs.List.{AllByRecursion}
-use Rattle.soc_journal.specs.Entries.{Entry, IsEntryOf, open_gate, closed_gate, second_version, version_place, header, entry_text, entries_text, gate_place}
+use Rattle.soc_journal.specs.Entries.{Entry, IsEntryOf, open_gate, closed_gate, second_version, version_place, header, entry_text, entries_text, place_behind}
 
 -- the byte behind `SOCJ000`
 abbrev pub version_of : List ℕ → ℕ
@@ -25,7 +25,7 @@ pub record FirstBad (bytes : List ℕ) (place : ℕ) : Type 0 where
   pub entries : List Entry
   pub rest : List ℕ
   pub begins : Begins entries rest bytes
-  pub behind : place ≡ gate_place entries
+  pub behind : place ≡ place_behind entries
   pub no_entry : (entry : Entry) (more : List ℕ) → IsEntryOf (version_of bytes) entry → rest ≢ entry_text entry ++ more
   pub no_gate : (gate : ℕ) (more : List ℕ) → gate ≢ open_gate → rest ≢ gate ∷ more
 
@@ -63,6 +63,6 @@ pub record IsOneFault : Type 0 where
 -- an entry of a journal stands behind those before it, and no other entry stands there
 pub record IsOneEntry : Type 0 where
   pub stands : (bytes : List ℕ) (front back : List Entry) (entry : Entry)
-      → JournalText (front ++ entry ∷ back) bytes → StandsAt bytes (gate_place front) entry
+      → JournalText (front ++ entry ∷ back) bytes → StandsAt bytes (place_behind front) entry
   pub one : (bytes : List ℕ) (version place : ℕ) (entry other : Entry)
       → IsEntryOf version entry → IsEntryOf version other → StandsAt bytes place entry → StandsAt bytes place other → entry ≡ other

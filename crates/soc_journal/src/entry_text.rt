@@ -1,4 +1,4 @@
-// An entry as it is written.
+//! An entry as it is written.
 ghost use Rattle.std.specs.Prelude.{◌≡◌, ◌≤◌, length, IsTrue, IfOk};
 ghost use Rattle.soc_journal.specs.Entries.{IsEntryOf, has_kind, second_version, max_body, sealed};
 
@@ -16,7 +16,7 @@ pub struct EntryText {
 
 impl Model for EntryText {
     ghost use Rattle.soc_journal.specs.Entries.{Entry};
-    ghost use Rattle.soc_journal.specs.Views.{entry_in, IsSealed};
+    ghost use Rattle.soc_journal.specs.inner.Sealed.{entry_in, IsSealed};
 
     ghost Value = { Entry };
 

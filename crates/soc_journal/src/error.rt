@@ -1,4 +1,4 @@
-// Why a call on a journal is refused.
+//! Why a call on a journal is refused.
 use soc_edge::Failed;
 use soc_raw::NoMemory;
 use std::alloc::AllocError;

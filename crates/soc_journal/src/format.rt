@@ -1,4 +1,4 @@
-// The bytes of a journal that have a meaning of their own.
+//! The bytes of a journal that have a meaning of their own.
 ghost use Rattle.std.specs.Prelude.{◌≡◌};
 ghost use Rattle.soc_journal.specs.Entries.{has_kind};
 

@@ -1,4 +1,4 @@
-// A journal that entries are appended to.
+//! A journal that entries are appended to.
 ghost use Rattle.std.specs.Prelude.{◌≡◌, ◌+◌, ◌<◌, ◌≤◌, ◌↔◌, List, Some, None, [], ◌∷◌, ◌++◌, length, IfSome, IsSome, IsSomeAnd, IfOk, OnOk, OnErr, Ok, IsErrOf, IsTrue};
 ghost use Rattle.std.specs.Option.{option_map};
 ghost use Rattle.soc_edge.specs.Disk.{written, Tears, WhereTold, Only, LeavesOnly, Looks, MayTear, DiskFailed};

@@ -1,4 +1,4 @@
-// Laws about the text of a journal, for those who build on it.
+//! Laws about the text of a journal, for those who build on it.
 ghost use Rattle.soc_journal.specs.Bodies.{IsApart};
 ghost use Rattle.soc_journal.specs.Text.{IsOneText, IsOneFault, IsOneEntry};
 

@@ -8,7 +8,7 @@
 mod entry_text;
 mod error;
 mod format;
-mod found;
+mod gate;
 mod journal;
 mod laws;
 mod mark;

@@ -1,4 +1,4 @@
-// What stands of an entry before its body.
+//! What stands of an entry before its body.
 
 /// An entry that an opening has found. Its body stands behind its first six bytes.
 #[derive(Clone, Copy, Debug, PartialEq, Eq)]

@@ -1,17 +1,16 @@
-// Opening a journal: its entries in order, and then the journal itself.
+//! Opening a journal: its entries in order, and then the journal itself.
 ghost use Rattle.std.specs.Prelude.{◌≡◌, ◌≢◌, ◌+◌, ◌≤◌, ◌⊎◌, List, Some, None, [], ◌∷◌, length, IfSome, IsSomeAnd, IfOk, OnOk, OnErr, IfErr, IsErrOf, IsTrue, is_none, MatchOption};
 ghost use Rattle.std.specs.Option.{option_map};
 ghost use Rattle.soc_edge.specs.Disk.{written, Tears, WhereTold, Only, LeavesOnly, Looks, MayTear, DiskFailed};
 ghost use Rattle.soc_journal.specs.Entries.{Entry, first_version, second_version, version_place, first_gate, head_size, header};
 ghost use Rattle.soc_journal.specs.Text.{HasHeader, version_of, empty_journal, JournalText, StandsAt};
 ghost use Rattle.soc_journal.specs.States.{AtRest};
-ghost use Rattle.soc_journal.specs.Openings.{HasRead, HasReadAll, Finds};
+ghost use Rattle.soc_journal.specs.Openings.{Counts, HasRead, HasReadAll, Finds};
 ghost use Rattle.soc_journal.specs.Bodies.{GivesBody};
-ghost use Rattle.soc_journal.specs.Found.{Counts};
 
 use crate::error::{OpenError, ReadError};
 use crate::format::{ENTRY_HEAD, FIRST_GATE, FIRST_VERSION, MAGIC, SECOND_VERSION, VERSION_PLACE};
-use crate::found::{Found, found_at};
+use crate::gate::{AtGate, at_gate};
 use crate::journal::Journal;
 use crate::mark::Mark;
 use crate::reading::body_at;
@@ -118,8 +117,8 @@ impl Opening {
         ensures cause { IsErrOf result OpenError.StoreFault → DiskFailed (D.state disk.old) (D.state disk.new) }
     {
         let place = self.place;
-        match found_at(disk, self.version, place, self.length)? {
-            Found::Entry { kind, length } => {
+        match at_gate(disk, self.version, place, self.length)? {
+            AtGate::Open { kind, length } => {
                 self.place = place + ENTRY_HEAD as u64 + length as u64;
                 self.ended = false;
                 Ok(Some(Mark {
@@ -128,11 +127,11 @@ impl Opening {
                     length,
                 }))
             }
-            Found::Closed => {
+            AtGate::Closed => {
                 self.ended = true;
                 Ok(None)
             }
-            Found::Bad => Err(OpenError::BadEntry { place }),
+            AtGate::Bad => Err(OpenError::BadEntry { place }),
         }
     }
 

@@ -1,4 +1,4 @@
-// Reading what a journal holds.
+//! Reading what a journal holds.
 ghost use Rattle.std.specs.Prelude.{◌≡◌, ◌≢◌, ◌+◌, ◌<◌, ◌≤◌, ◌^◌, ◌↔◌, length, IfSome, IfOk, OnOk, OnErr, IsErrOf, IsTrue, MatchResult, vec_len};
 ghost use Rattle.std.specs.Int.{div_ceil};
 ghost use Rattle.soc_edge.specs.Disk.{Looks, DiskFailed};
@@ -7,7 +7,7 @@ ghost use Rattle.soc_journal.specs.Bodies.{StandsBefore, ReadsFrom, GivesBody, p
 
 use crate::error::ReadError;
 use crate::format::{ENTRY_HEAD, SECOND_VERSION};
-use crate::found::{Found, found_at};
+use crate::gate::{AtGate, at_gate};
 use crate::journal::Journal;
 use soc_edge::{Disk, Failed};
 use soc_raw::Bytes;
@@ -29,10 +29,10 @@ impl Journal {
         ensures calls { (D.state disk.new).calls ≤ (D.state disk.old).calls + 2 }
         ensures cause { IsErrOf result ReadError.StoreFault → DiskFailed (D.state disk.old) (D.state disk.new) }
     {
-        match found_at(disk, SECOND_VERSION, place, self.gate())? {
-            Found::Entry { length, .. } => body_at(alloc, disk, place + ENTRY_HEAD as u64, length),
-            Found::Closed => Err(ReadError::Altered),
-            Found::Bad => Err(ReadError::Altered),
+        match at_gate(disk, SECOND_VERSION, place, self.gate())? {
+            AtGate::Open { length, .. } => body_at(alloc, disk, place + ENTRY_HEAD as u64, length),
+            AtGate::Closed => Err(ReadError::Altered),
+            AtGate::Bad => Err(ReadError::Altered),
         }
     }
 

@@ -1,4 +1,4 @@
-// How a doubt ends.
+//! How a doubt ends.
 
 /// What became of the entry whose append had failed.
 #[derive(Clone, Copy, Debug, PartialEq, Eq)]

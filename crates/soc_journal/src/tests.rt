@@ -1,12 +1,16 @@
-// Journals as they are written, refused and stopped.
-ghost use Rattle.std.specs.Prelude.{◌≡◌, [], IfOk};
+//! Journals as they are written, refused and stopped.
+ghost use Rattle.std.specs.Prelude.{◌≡◌, ◌≤◌, [], length, vec_len, IfOk};
+ghost use Rattle.soc_journal.specs.Entries.{max_body};
 ghost use Rattle.soc_edge.specs.DiskLog.{content_of};
 
+mod torn;
+
 use crate::{
-    ACCEPT, ASK, AppendError, EntryText, Journal, OpenError, REPORT, ReadError, Settled, WITHDRAW,
+    ACCEPT, ASK, AppendError, EntryText, Journal, MAX_BODY, OpenError, REPORT, ReadError, Settled,
+    WITHDRAW,
 };
 use soc_edge::{Disk, Failed, MemDisk, Numbers};
-use std::alloc::Global;
+use std::alloc::{AllocError, Global};
 use std::test::Fail;
 
 const LIMIT: u64 = 1000;
@@ -28,7 +32,7 @@ fn disk_with(alloc: Global, bytes: &[u8], fails: &[u64]) -> Result<MemDisk, Fail
 }
 
 // How many entries a journal has before its closed gate, of 9 at most.
-fn entries_on(disk: &mut MemDisk) -> Result<usize, OpenError> {
+fn entries_on<D: Disk>(disk: &mut D) -> Result<usize, OpenError> {
     let mut opening = Journal::open(disk, LIMIT)?;
     for count in 0..9 {
         if opening.next(disk)?.is_none() {
@@ -85,6 +89,42 @@ fn entries_are_read_back(rt: HostRuntime) -> Result<(), Fail> {
     ] {
         assert_eq!(rt; journal.holds(&mut disk, place, text)?, wanted);
     }
+    Ok(())
+}
+
+// So many bytes.
+fn filled(alloc: Global, count: u32) -> Result<Vec<u8>, AllocError>
+    ensures { IfOk result (λ bytes. vec_len bytes ≡ count) }
+{
+    vec![in alloc; b'x'; count as usize]
+}
+
+// A journal of one entry of this body, with no room for another, and its disk.
+fn one_entry(alloc: Global, body: &[u8], limit: u64) -> Result<(MemDisk, Journal), Fail>
+    requires { length body.now ≤ max_body }
+{
+    let entry = EntryText::new(alloc, REPORT, body)?;
+    let room = body.len() as u64 + 100;
+    let mut disk = MemDisk::new(alloc, room, 7, Numbers::new([].to_vec(alloc)?))?;
+    let mut journal = Journal::create(&mut disk, limit)?;
+    journal.append(&mut disk, &entry)?;
+    Ok((disk, journal))
+}
+
+#[test]
+fn an_entry_of_the_greatest_length_is_kept(rt: HostRuntime) -> Result<(), Fail> {
+    let alloc = rt.alloc();
+    let body = filled(alloc, MAX_BODY)?;
+    let limit = 8 + 7 + MAX_BODY as u64;
+    let (mut disk, journal) = one_entry(alloc, &body, limit)?;
+    assert_eq!(rt; disk.len(), Ok(limit));
+    assert_eq!(rt; journal.holds(&mut disk, 14, &body), Ok(true));
+    let read = journal.read(alloc, &mut disk, 8)?;
+    assert!(rt; read.as_slice() == body.as_slice());
+    let mut opening = Journal::open(&mut disk, limit)?;
+    let mark = opening.next(&mut disk)?.ok_or("no entry")?;
+    assert_eq!(rt; (mark.place, mark.kind, mark.length), (8, REPORT, MAX_BODY));
+    assert!(rt; opening.next(&mut disk)?.is_none());
     Ok(())
 }
 

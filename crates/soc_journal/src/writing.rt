@@ -1,4 +1,4 @@
-// Writing to a disk, so that a stop can't take it back.
+//! Writing to a disk, so that a stop can't take it back.
 ghost use Rattle.std.specs.Prelude.{◌≡◌, ◌+◌, ◌≤◌, length, IfSome, OnOk, OnErr};
 ghost use Rattle.std.specs.Option.{option_map};
 ghost use Rattle.soc_edge.specs.Disk.{written, Tears, WhereTold, Only, MayTear, DiskFailed};

@@ -6,9 +6,10 @@ use Rattle.std.proofs.lemmas.List.{take_all, length-drop, length-take}
 use Rattle.std.proofs.lemmas.Option.{IfSome_then}
 use Rattle.soc_edge.specs.Disk.{ReadsAt}
 use Rattle.soc_journal.specs.Entries.{Entry, has_kind, max_body, open_gate, entry_text}
-use Rattle.soc_journal.specs.Found.{entry_head, HasNoGate, IsFront, Counts, IsBad}
-use Rattle.soc_journal.specs.declared.found.Front.{Front}
-use Rattle.soc_journal.specs.declared.found.Front.TheVariants.{Shut, Cut, Opened}
+use Rattle.soc_journal.specs.Openings.{Counts}
+use Rattle.soc_journal.specs.inner.Gates.{entry_head, HasNoGate, IsFront, IsBad}
+use Rattle.soc_journal.specs.declared.gate.Front.{Front}
+use Rattle.soc_journal.specs.declared.gate.Front.TheVariants.{Shut, Cut, Head}
 use Rattle.soc_journal.proofs.Texts.{length-entry_text}
 
 -- the front of the rest is the front of what was read of it
@@ -27,7 +28,7 @@ module _ (rest head : List ℕ) (count : ℕ) (fills : count ≡ min 6 (length r
   front_reads Cut (short, shut) =
       let whole = front_whole short in
       (omega (arith, short, ap (λ (x : List ℕ). length x) whole), λ gate more closed is. shut gate more closed (whole ∙ is))
-  front_reads (Opened kind length) (low, (more, is)) =
+  front_reads (Head kind length) (low, (more, is)) =
       (low, (more ++ drop count rest, splits ∙ (ap (λ (x : List ℕ). x ++ drop count rest) is ∙ append_assoc (entry_head kind length) more (drop count rest))))
 
 pub front_told : (told : Option (List ℕ)) (place count : ℕ) (head : List ℕ) (front : Front) → length head ≡ 6 → IfSome told (λ bytes. ReadsAt bytes place count head)
@@ -62,7 +63,7 @@ heads_same kind count entry more others low low_too is =
 
 module _ (version place end : ℕ) (bytes : List ℕ) (kind count : ℕ) where
   -- a head that is no entry's
-  bad_head : IsFront bytes (Opened kind count) → (Counts version kind count place end → ⊥) → IsBad version place end bytes
+  bad_head : IsFront bytes (Head kind count) → (Counts version kind count place end → ⊥) → IsBad version place end bytes
   bad_head (low, (more, opened)) never = record {
     no_entry = λ entry others legal ends is.
         let short : length entry.body ≤ max_body = legal.short in
@@ -82,8 +83,8 @@ module _ (version place end : ℕ) (told : Option (List ℕ)) (front : Front) (r
   pub found_cut : front ≡ Cut → IfSome told (λ bytes. IsBad version place end (drop place bytes))
   found_cut is = IfSome_then told (at_front Cut is) (λ bytes cut. bad_cut version place end (drop place bytes) cut.0 cut.1)
 
-  pub found_bad : (kind count : ℕ) → front ≡ Opened kind count → (Counts version kind count place end → IsTrue false)
+  pub found_bad : (kind count : ℕ) → front ≡ Head kind count → (Counts version kind count place end → IsTrue false)
       → IfSome told (λ bytes. IsBad version place end (drop place bytes))
   found_bad kind count is never =
       let no_count : Counts version kind count place end → ⊥ = λ counts. let false_is_true = never counts in cc in
-      IfSome_then told (at_front (Opened kind count) is) (λ bytes head. bad_head version place end (drop place bytes) kind count head no_count)
+      IfSome_then told (at_front (Head kind count) is) (λ bytes head. bad_head version place end (drop place bytes) kind count head no_count)

@@ -1,7 +1,8 @@
-// What stands on a disk where a gate is wanted.
+//! What stands on a disk where a gate is wanted.
 ghost use Rattle.std.specs.Prelude.{◌≤◌, ◌+◌, drop, IfSome, IfOk, OnErr, IsTrue, ◌↔◌};
 ghost use Rattle.soc_edge.specs.Disk.{Looks, DiskFailed};
-ghost use Rattle.soc_journal.specs.Found.{Counts, IsFront, IsFound, FoundCounts};
+ghost use Rattle.soc_journal.specs.Openings.{Counts};
+ghost use Rattle.soc_journal.specs.inner.Gates.{IsFront, IsAtGate, OpenCounts};
 
 use crate::format::{ENTRY_HEAD, MAX_BODY, OPEN_GATE, has_kind};
 use soc_edge::{Disk, Failed};
@@ -14,14 +15,14 @@ pub enum Front {
     /// No closed gate, and fewer bytes than an entry has before its body.
     Cut,
     /// The bytes of an entry before its body.
-    Opened { kind: u8, length: u32 },
+    Head { kind: u8, length: u32 },
 }
 
 /// What stands at a gate's place.
 #[derive(Clone, Copy, Debug)]
-pub enum Found {
-    /// An entry of a kind that the version has.
-    Entry { kind: u8, length: u32 },
+pub enum AtGate {
+    /// The open gate of an entry of a kind that the version has.
+    Open { kind: u8, length: u32 },
     /// A closed gate.
     Closed,
     /// Neither.
@@ -39,7 +40,7 @@ fn front_of(bytes: &[u8]) -> Front
         return Front::Shut;
     }
     match behind {
-        [kind, a, b, c, d, ..] => Front::Opened {
+        [kind, a, b, c, d, ..] => Front::Head {
             kind: *kind,
             length: u32::from_le_bytes([*a, *b, *c, *d]),
         },
@@ -70,21 +71,21 @@ fn counts(version: u8, kind: u8, length: u32, place: u64, end: u64) -> bool
 }
 
 /// What stands at a place, where an entry counts only if it ends at or before the end.
-pub fn found_at<D: Disk>(disk: &mut D, version: u8, place: u64, end: u64) -> Result<Found, Failed>
-    ensures found { IfOk result (λ found. IfSome (D.state disk.old).content (λ bytes. IsFound version place end (drop place bytes) found)) }
-    ensures counts { IfOk result (λ found. FoundCounts version place end found) }
+pub fn at_gate<D: Disk>(disk: &mut D, version: u8, place: u64, end: u64) -> Result<AtGate, Failed>
+    ensures found { IfOk result (λ found. IfSome (D.state disk.old).content (λ bytes. IsAtGate version place end (drop place bytes) found)) }
+    ensures counts { IfOk result (λ found. OpenCounts version place end found) }
     ensures disk_stays { Looks (D.state disk.old) (D.state disk.new) }
     ensures calls { (D.state disk.new).calls ≤ (D.state disk.old).calls + 1 }
     ensures cause { OnErr result (DiskFailed (D.state disk.old) (D.state disk.new)) }
 {
     Ok(match front_at(disk, place)? {
-        Front::Shut => Found::Closed,
-        Front::Cut => Found::Bad,
-        Front::Opened { kind, length } => {
+        Front::Shut => AtGate::Closed,
+        Front::Cut => AtGate::Bad,
+        Front::Head { kind, length } => {
             if counts(version, kind, length, place, end) {
-                Found::Entry { kind, length }
+                AtGate::Open { kind, length }
             } else {
-                Found::Bad
+                AtGate::Bad
             }
         }
     })
