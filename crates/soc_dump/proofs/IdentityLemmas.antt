@@ -1,7 +1,8 @@
 -- What stands for a module's debug file, by the kind of its record.
 use Rattle.std.proofs.Common.{◌≡◌, ℕ, true, false, List, [], refl}
 use Rattle.soc_dump.specs.Entries.{ModuleEntry}
-use Rattle.soc_dump.specs.Identity.{is_pdb, is_build_id, pdb_id_of, build_id_of, pdb_path_of, debug_id_of, debug_file_of, base_name_of}
+use Rattle.soc_dump.specs.Identity.{is_pdb, is_build_id, pdb_id_of, build_id_of, pdb_path_of, debug_id_of, debug_file_of}
+use Rattle.soc_text.specs.Paths.{base_name_of}
 
 module _ (bytes : List ℕ) where
   pub debug_id_of-pdb : is_pdb bytes ≡ true → debug_id_of bytes ≡ pdb_id_of bytes

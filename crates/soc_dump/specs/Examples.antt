@@ -1,7 +1,6 @@
 -- Small dumps, read by computation.
 use Rattle.std.specs.Prelude.{◌≡◌, ℕ, List, [], ◌∷◌, ◌++◌, None, Some, replicate, refl}
 use Rattle.byteorder.specs.Endian.{little_bytes}
-use Rattle.soc_dump.specs.declared.error.DumpError.{DumpError}
 use Rattle.soc_dump.specs.declared.error.DumpError.TheVariants.{OutOfFile, TwoStreams}
 use Rattle.soc_dump.specs.Layout.{signature, version}
 use Rattle.soc_dump.specs.Checks.{first_refusal}

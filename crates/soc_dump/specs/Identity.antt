@@ -1,9 +1,10 @@
 -- How a module names its debug file: a code view record of a PDB file (`RSDS`), or an ELF build id.
-use Rattle.std.specs.Prelude.{ℕ, ◌==◌, ◌&&◌, ◌||◌, nat_le, Bool, if◌then◌else◌, List, [], ◌∷◌, ◌++◌, length, drop, map, slice_index, codes, true}
-use Rattle.std.specs.List.{before_first, after_last}
+use Rattle.std.specs.Prelude.{ℕ, ◌==◌, ◌&&◌, nat_le, Bool, if◌then◌else◌, List, [], ◌∷◌, ◌++◌, length, drop, map, slice_index, codes, true}
+use Rattle.std.specs.List.{before_first}
 use Rattle.std.specs.Str.Lossy.{utf8_lossy}
 use Rattle.std.specs.Fmt.{digits}
 use Rattle.hex.specs.Hex.{encode_upper}
+use Rattle.soc_text.specs.Paths.{base_name_of}
 use Rattle.soc_dump.specs.Layout.{code_view_kind, code_view_id, pdb_kind, pdb_age, pdb_file, build_id_kind}
 use Rattle.soc_dump.specs.Number.{number_of}
 use Rattle.soc_dump.specs.Entries.{ModuleEntry}
@@ -36,13 +37,6 @@ build_id_of bytes = guid_text (drop code_view_id bytes) ++ codes "0"
 -- nothing for any other record
 unfoldable pub debug_id_of : List ℕ → List ℕ
 debug_id_of bytes = if is_pdb bytes then pdb_id_of bytes else if is_build_id bytes then build_id_of bytes else []
-
-abbrev pub is_separator : ℕ → Bool
-is_separator byte = (byte == slice_index (codes "/") 0) || (byte == slice_index (codes "\\") 0)
-
--- what follows the last `/` or `\`, or all where there is none
-abbrev pub base_name_of : List ℕ → List ℕ
-base_name_of path = after_last is_separator path
 
 -- the file name of the record of a PDB file, up to a NUL or the end
 abbrev pub pdb_path_of : List ℕ → List ℕ

@@ -4,11 +4,11 @@ ghost use Rattle.std.specs.List.{before_first, position_or_len};
 ghost use Rattle.soc_dump.specs.Identity.{is_pdb, is_build_id, guid_text, pdb_id_of, build_id_of, pdb_path_of, debug_id_of, debug_file_of};
 ghost use Rattle.soc_dump.specs.Views.{module_entry};
 
-use crate::base_name::base_name;
 use crate::field::narrow;
 use crate::layout::*;
 use crate::modules::Module;
 use soc_raw::{NoMemory, Text};
+use soc_text::base_name;
 use std::alloc::Global;
 
 // The places of a GUID's bytes in the order in which they are printed.

@@ -1,7 +1,6 @@
 // Minidumps: what a crashed process left of its memory, read without trust in one byte of it.
 #![tactic(auto)]
 
-mod base_name;
 mod directory;
 mod dump;
 mod error;

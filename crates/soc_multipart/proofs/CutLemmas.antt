@@ -9,7 +9,9 @@ use Rattle.soc_multipart.specs.declared.parts.PartsError.{PartsError}
 use Rattle.soc_multipart.specs.declared.parts.PartsError.TheVariants.{BadBoundary, NoFirst, BadPartHead, NoClose, TooManyParts, NoMemory}
 use Rattle.soc_multipart.specs.declared.parts.Part.{Part}
 use Rattle.soc_multipart.specs.Chains.{Chain, HasNoStep}
-use Rattle.soc_multipart.specs.Delimiters.{line_end, is_blank, IsBoundary, mark_of, EndsOpening, EndsClosing, Opens, Closes, IsAt, IsAtDelimiter, HasNoDelimiter, Reaches, MeetsFirst}
+use Rattle.soc_multipart.specs.Delimiters.{IsBoundary, mark_of, EndsOpening, EndsClosing, Opens, Closes, IsAt, IsAtDelimiter, HasNoDelimiter, Reaches, MeetsFirst}
+use Rattle.soc_text.specs.Lines.{crlf}
+use Rattle.soc_text.specs.Blanks.{is_blank}
 use Rattle.soc_multipart.specs.Parts.{parts_limit, PartText, IsPart, MayBePart, ReadsPart, HoldsParts, Cut, OpensAfter, BeginsBadPart, PartFault, CutFault, IsOneFault}
 use Rattle.soc_multipart.specs.PartViews.{part_text, part_texts, MeetsPart}
 use Rattle.soc_multipart.proofs.Basics.{Stops, stops_cons, run_once}
@@ -48,13 +50,13 @@ none_and_some mark t f n none a at =
     none (length f) (subst (IsAtDelimiter mark) (sym (ap (drop (length f)) a.whole ∙ drop_at f n (length f) refl)) at)
 
 -- a delimiter opens one rest, or closes
-line_stops : (rest : List ℕ) → Stops is_blank (line_end ++ rest)
+line_stops : (rest : List ℕ) → Stops is_blank (crlf ++ rest)
 line_stops rest = stops_cons is_blank 13 (10 ∷ rest) refl
 
 opening_once : (after r s : List ℕ) → EndsOpening after r → EndsOpening after s → r ≡ s
 opening_once after r s a b =
-    append_cancel_left line_end r s
-    (run_once is_blank a.pad b.pad (line_end ++ r) (line_end ++ s) (sym a.whole ∙ b.whole) a.blanks b.blanks (line_stops r) (line_stops s)).1
+    append_cancel_left crlf r s
+    (run_once is_blank a.pad b.pad (crlf ++ r) (crlf ++ s) (sym a.whole ∙ b.whole) a.blanks b.blanks (line_stops r) (line_stops s)).1
 
 pub opens_once : (mark t r s : List ℕ) → Opens mark t r → Opens mark t s → r ≡ s
 opens_once mark t r s a b =
@@ -67,10 +69,10 @@ dash_not_return n e f = absurd (omega arith)
 dash_no_blank : (n : ℕ) → n ≡ 45 → is_blank n ≡ false
 dash_no_blank n e = ap is_blank e
 
-no_dash : (pad rest more : List ℕ) → ((k d : ℕ) → k < length pad → is_blank (get_or pad k d) ≡ true) → ¬ (pad ++ (line_end ++ rest) ≡ 45 ∷ more)
+no_dash : (pad rest more : List ℕ) → ((k d : ℕ) → k < length pad → is_blank (get_or pad k d) ≡ true) → ¬ (pad ++ (crlf ++ rest) ≡ 45 ∷ more)
 no_dash [] rest more h e = dash_not_return 13 refl (heads 13 45 (10 ∷ rest) more e).0
 no_dash (x ∷ pad) rest more h e =
-    not_both (is_blank x) (h 0 0 (omega arith)) (dash_no_blank x (heads x 45 (pad ++ (line_end ++ rest)) more e).0)
+    not_both (is_blank x) (h 0 0 (omega arith)) (dash_no_blank x (heads x 45 (pad ++ (crlf ++ rest)) more e).0)
 
 opening_or_closing : (after r : List ℕ) → EndsOpening after r → ¬ (EndsClosing after)
 opening_or_closing after r a b = no_dash a.pad r (45 ∷ (b.pad ++ b.tail)) (λ k d l. a.blanks k d l) (sym a.whole ∙ b.whole)
@@ -108,7 +110,7 @@ open_stuck mark t rest o none p n a =
 
 first_once : (b body : List ℕ) (xs ys : List PartText) (n m : List ℕ) → (h : HoldsParts b body xs n) → (k : HoldsParts b body ys m) → h.first ≡ k.first
 first_once b body xs ys n m h k =
-    (reaches_once (mark_of b) (line_end ++ body) h.preamble h.first k.preamble k.first h.reaches h.stands k.reaches k.stands).1
+    (reaches_once (mark_of b) (crlf ++ body) h.preamble h.first k.preamble k.first h.reaches h.stands k.reaches k.stands).1
 
 pub held_once : (b body : List ℕ) (xs ys : List PartText) (n m : List ℕ) → HoldsParts b body xs n → HasNoStep (ReadsPart (mark_of b)) n
     → HoldsParts b body ys m → HasNoStep (ReadsPart (mark_of b)) m → (xs ≡ ys) × (n ≡ m)
@@ -140,8 +142,8 @@ many_not_cut b body parts rest c o = go (held_goes_on b body o.parts parts o.las
     go ([], e, f) = opens_or_closes (mark_of b) c.last rest (subst (λ (x : List ℕ). Opens (mark_of b) x rest) f o.opens) c.closes
     go (z ∷ zs, e, f) = absurd (omega (arith, c.few, o.counted, ap length e, length-append o.parts (z ∷ zs)))
 
-none_not_held : (b body : List ℕ) (parts : List PartText) (next : List ℕ) → HasNoDelimiter (mark_of b) (line_end ++ body) → ¬ (HoldsParts b body parts next)
-none_not_held b body parts next none h = none_and_some (mark_of b) (line_end ++ body) h.preamble h.first none h.reaches h.stands
+none_not_held : (b body : List ℕ) (parts : List PartText) (next : List ℕ) → HasNoDelimiter (mark_of b) (crlf ++ body) → ¬ (HoldsParts b body parts next)
+none_not_held b body parts next none h = none_and_some (mark_of b) (crlf ++ body) h.preamble h.first none h.reaches h.stands
 
 pub fault_not_cut : (b body : List ℕ) (parts : List PartText) (fault : PartsError) → Cut b body parts → ¬ (CutFault b body fault)
 fault_not_cut b body parts BadBoundary c f = f c.good

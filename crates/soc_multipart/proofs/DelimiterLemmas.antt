@@ -6,10 +6,12 @@ use Rattle.std.proofs.lemmas.Bool.{cases_lt}
 use Rattle.memchr.specs.Find.{OccursAt, IsFirst, NoneBefore}
 use Rattle.soc_multipart.specs.declared.delimiters.Ending.{Ending}
 use Rattle.soc_multipart.specs.declared.delimiters.Ending.TheVariants.{Opening, Closing}
-use Rattle.soc_multipart.specs.Delimiters.{PartsRun, line_end, is_blank, EndsOpening, EndsClosing, EndsLine, EndsNowise, EndsAs, IsAt, BeginsAt, mark_of, IsAtDelimiter, MeetsFirst, HasNoDelimiter}
+use Rattle.soc_multipart.specs.Delimiters.{PartsRun, EndsOpening, EndsClosing, EndsLine, EndsNowise, EndsAs, IsAt, BeginsAt, mark_of, IsAtDelimiter, MeetsFirst, HasNoDelimiter}
+use Rattle.soc_text.specs.Lines.{crlf}
+use Rattle.soc_text.specs.Blanks.{is_blank}
 use Rattle.soc_multipart.proofs.Basics.{Stops, stops_nil, stops_cons, parts_once}
 
-line_stops : (rest : List ℕ) → Stops is_blank (line_end ++ rest)
+line_stops : (rest : List ℕ) → Stops is_blank (crlf ++ rest)
 line_stops rest = stops_cons is_blank 13 (10 ∷ rest) refl
 
 ends_line_stops : (text : List ℕ) → EndsLine text → Stops is_blank text
@@ -17,12 +19,12 @@ ends_line_stops text (inl e) = subst (Stops is_blank) (sym e) (stops_nil is_blan
 ends_line_stops text (inr (more, e)) = subst (Stops is_blank) (sym e) (line_stops more)
 
 -- the end of an opening delimiter, by where its blanks end
-pub opening_by_parts : (t pad tail rest : List ℕ) → PartsRun is_blank t pad tail → tail ≡ line_end ++ rest → EndsOpening t rest
+pub opening_by_parts : (t pad tail rest : List ℕ) → PartsRun is_blank t pad tail → tail ≡ crlf ++ rest → EndsOpening t rest
 opening_by_parts t pad tail rest p e = record { pad = pad; blanks = p.passes; whole = p.whole ∙ ap (λ x. pad ++ x) e }
 
-pub no_opening : (t pad tail : List ℕ) → PartsRun is_blank t pad tail → ((rest : List ℕ) → ¬ (tail ≡ line_end ++ rest)) → (rest : List ℕ) → ¬ (EndsOpening t rest)
+pub no_opening : (t pad tail : List ℕ) → PartsRun is_blank t pad tail → ((rest : List ℕ) → ¬ (tail ≡ crlf ++ rest)) → (rest : List ℕ) → ¬ (EndsOpening t rest)
 no_opening t pad tail p h rest o =
-    h rest (parts_once is_blank t pad tail o.pad (line_end ++ rest) p o.whole o.blanks (line_stops rest)).1
+    h rest (parts_once is_blank t pad tail o.pad (crlf ++ rest) p o.whole o.blanks (line_stops rest)).1
 
 -- the end of a closing delimiter, by where its blanks end
 pub closing_by_parts : (t rest pad tail : List ℕ) (r : Bool) → t ≡ codes "--" ++ rest → PartsRun is_blank rest pad tail → (IsTrue r ↔ EndsLine tail) → IsTrue r ↔ EndsClosing t
@@ -147,19 +149,19 @@ pub found_inside : (mark text : List ℕ) (from k : ℕ) → from ≤ length tex
 found_inside mark text from k in' some found = omega (arith, found.1.fits, length-drop from text)
 
 -- the body with a line end before it, and the delimiter that may stand at its start
-pub start_no_dashes : (b body : List ℕ) → ((r : List ℕ) → ¬ (body ≡ codes "--" ++ r)) → ¬ (IsAtDelimiter (mark_of b) (line_end ++ body))
+pub start_no_dashes : (b body : List ℕ) → ((r : List ℕ) → ¬ (body ≡ codes "--" ++ r)) → ¬ (IsAtDelimiter (mark_of b) (crlf ++ body))
 start_no_dashes b body h at =
-    let marked : (after : List ℕ) × (line_end ++ body ≡ mark_of b ++ after) = at_has_mark (mark_of b) (line_end ++ body) at in
-    h (b ++ marked.0) (append_cancel_left line_end body (codes "--" ++ (b ++ marked.0)) marked.1)
+    let marked : (after : List ℕ) × (crlf ++ body ≡ mark_of b ++ after) = at_has_mark (mark_of b) (crlf ++ body) at in
+    h (b ++ marked.0) (append_cancel_left crlf body (codes "--" ++ (b ++ marked.0)) marked.1)
 
-pub start_no_boundary : (b body r : List ℕ) → body ≡ codes "--" ++ r → ((s : List ℕ) → ¬ (r ≡ b ++ s)) → ¬ (IsAtDelimiter (mark_of b) (line_end ++ body))
+pub start_no_boundary : (b body r : List ℕ) → body ≡ codes "--" ++ r → ((s : List ℕ) → ¬ (r ≡ b ++ s)) → ¬ (IsAtDelimiter (mark_of b) (crlf ++ body))
 start_no_boundary b body r e h at =
-    let marked : (after : List ℕ) × (line_end ++ body ≡ mark_of b ++ after) = at_has_mark (mark_of b) (line_end ++ body) at in
-    let tail : body ≡ codes "--" ++ (b ++ marked.0) = append_cancel_left line_end body (codes "--" ++ (b ++ marked.0)) marked.1 in
+    let marked : (after : List ℕ) × (crlf ++ body ≡ mark_of b ++ after) = at_has_mark (mark_of b) (crlf ++ body) at in
+    let tail : body ≡ codes "--" ++ (b ++ marked.0) = append_cancel_left crlf body (codes "--" ++ (b ++ marked.0)) marked.1 in
     h marked.0 (append_cancel_left (codes "--") r (b ++ marked.0) (sym e ∙ tail))
 
-pub start_marked : (b body r s : List ℕ) → body ≡ codes "--" ++ r → r ≡ b ++ s → line_end ++ body ≡ mark_of b ++ s
-start_marked b body r s e f = ap (λ (x : List ℕ). line_end ++ x) (e ∙ ap (λ (x : List ℕ). codes "--" ++ x) f)
+pub start_marked : (b body r s : List ℕ) → body ≡ codes "--" ++ r → r ≡ b ++ s → crlf ++ body ≡ mark_of b ++ s
+start_marked b body r s e f = ap (λ (x : List ℕ). crlf ++ x) (e ∙ ap (λ (x : List ℕ). codes "--" ++ x) f)
 
 -- behind the line end a delimiter stands only where it does in the body
 heads_same : (x y : ℕ) (xs ys : List ℕ) → x ∷ xs ≡ y ∷ ys → x ≡ y
@@ -173,24 +175,24 @@ second_not_at b body at =
     let marked : (after : List ℕ) × (10 ∷ body ≡ mark_of b ++ after) = at_has_mark (mark_of b) (10 ∷ body) at in
     ten_not_13 10 refl (heads_same 10 13 body (10 ∷ 45 ∷ 45 ∷ (b ++ marked.0)) marked.1)
 
-pub none_behind : (b body : List ℕ) → ¬ (IsAtDelimiter (mark_of b) (line_end ++ body)) → HasNoDelimiter (mark_of b) body → HasNoDelimiter (mark_of b) (line_end ++ body)
+pub none_behind : (b body : List ℕ) → ¬ (IsAtDelimiter (mark_of b) (crlf ++ body)) → HasNoDelimiter (mark_of b) body → HasNoDelimiter (mark_of b) (crlf ++ body)
 none_behind b body h none zero at = h at
 none_behind b body h none (suc zero) at = second_not_at b body at
 none_behind b body h none (suc (suc i)) at = none i at
 
-clear_behind : (b body front : List ℕ) → ¬ (IsAtDelimiter (mark_of b) (line_end ++ body)) → ((i : ℕ) → i < length front → ¬ (IsAtDelimiter (mark_of b) (drop i body)))
-    → (i : ℕ) → i < length (line_end ++ front) → ¬ (IsAtDelimiter (mark_of b) (drop i (line_end ++ body)))
+clear_behind : (b body front : List ℕ) → ¬ (IsAtDelimiter (mark_of b) (crlf ++ body)) → ((i : ℕ) → i < length front → ¬ (IsAtDelimiter (mark_of b) (drop i body)))
+    → (i : ℕ) → i < length (crlf ++ front) → ¬ (IsAtDelimiter (mark_of b) (drop i (crlf ++ body)))
 clear_behind b body front h clear zero l at = h at
 clear_behind b body front h clear (suc zero) l at = second_not_at b body at
 clear_behind b body front h clear (suc (suc i)) l at = clear i (omega arith) at
 
-pub begins_behind : (b body front : List ℕ) (end : Ending) → ¬ (IsAtDelimiter (mark_of b) (line_end ++ body)) → MeetsFirst (mark_of b) body front end → BeginsAt (mark_of b) (line_end ++ body) end
+pub begins_behind : (b body front : List ℕ) (end : Ending) → ¬ (IsAtDelimiter (mark_of b) (crlf ++ body)) → MeetsFirst (mark_of b) body front end → BeginsAt (mark_of b) (crlf ++ body) end
 begins_behind b body front end h m = (
-  line_end ++ front,
+  crlf ++ front,
   record {
     next = m.next;
     reached = record {
-      whole = ap (λ (x : List ℕ). line_end ++ x) m.reached.whole;
+      whole = ap (λ (x : List ℕ). crlf ++ x) m.reached.whole;
       clear = clear_behind b body front h m.reached.clear;
     };
     stands = m.stands;
@@ -207,11 +209,11 @@ begins_here mark text end h = (
   },
 )
 
-pub start_not_at : (b body r s : List ℕ) → body ≡ codes "--" ++ r → r ≡ b ++ s → EndsNowise s → ¬ (IsAtDelimiter (mark_of b) (line_end ++ body))
-start_not_at b body r s e f h = not_at (mark_of b) (line_end ++ body) s (start_marked b body r s e f) h
+pub start_not_at : (b body r s : List ℕ) → body ≡ codes "--" ++ r → r ≡ b ++ s → EndsNowise s → ¬ (IsAtDelimiter (mark_of b) (crlf ++ body))
+start_not_at b body r s e f h = not_at (mark_of b) (crlf ++ body) s (start_marked b body r s e f) h
 
-pub start_is_at : (b body r s : List ℕ) (end : Ending) → body ≡ codes "--" ++ r → r ≡ b ++ s → EndsAs s end → IsAt (mark_of b) (line_end ++ body) end
-start_is_at b body r s end e f h = at_by_end (mark_of b) (line_end ++ body) s end (start_marked b body r s e f) h
+pub start_is_at : (b body r s : List ℕ) (end : Ending) → body ≡ codes "--" ++ r → r ≡ b ++ s → EndsAs s end → IsAt (mark_of b) (crlf ++ body) end
+start_is_at b body r s end e f h = at_by_end (mark_of b) (crlf ++ body) s end (start_marked b body r s e f) h
 
 pub meets_mark : (mark mark' text front : List ℕ) (end : Ending) → mark ≡ mark' → MeetsFirst mark text front end → MeetsFirst mark' text front end
 meets_mark mark mark' text front end e h = subst (λ (m : List ℕ). MeetsFirst m text front end) e h

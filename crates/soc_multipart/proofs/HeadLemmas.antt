@@ -10,9 +10,12 @@ use Rattle.soc_multipart.specs.declared.heads.Line.{Line}
 use Rattle.soc_multipart.specs.declared.heads.Named.{Named}
 use Rattle.soc_multipart.specs.declared.heads.Named.TheVariants.{Often}
 use Rattle.soc_multipart.specs.Chains.{Chain, HasNoStep}
-use Rattle.soc_multipart.specs.Delimiters.{PartsRun, line_end}
-use Rattle.soc_multipart.specs.Params.{is_token_byte, IsToken, lower}
-use Rattle.soc_multipart.specs.Heads.{head_limit, LineText, is_line_byte, ReadsLine, trimmed, values_of, EndsInContent, IsHeadEnd}
+use Rattle.soc_multipart.specs.Delimiters.{PartsRun}
+use Rattle.soc_text.specs.Lines.{crlf}
+use Rattle.soc_multipart.specs.Params.{lower}
+use Rattle.soc_text.specs.Tokens.{is_token_byte, IsToken}
+use Rattle.soc_multipart.specs.Heads.{head_limit, LineText, is_line_byte, ReadsLine, values_of, EndsInContent, IsHeadEnd}
+use Rattle.soc_text.specs.Blanks.{trimmed}
 use Rattle.soc_multipart.specs.Views.{line_text, line_texts, HasValues, EndsSo}
 use Rattle.soc_multipart.proofs.Basics.{Stops, stops_cons, parts_once}
 use Rattle.soc_multipart.proofs.ChainLemmas.{chain_once, chain_end}
@@ -38,27 +41,27 @@ return_no_token = refl
 colon_stops : (rest : List ℕ) → Stops is_token_byte (58 ∷ rest)
 colon_stops rest = stops_cons is_token_byte 58 rest colon_no_token
 
-return_stops : (rest : List ℕ) → Stops is_line_byte (line_end ++ rest)
+return_stops : (rest : List ℕ) → Stops is_line_byte (crlf ++ rest)
 return_stops rest = stops_cons is_line_byte 13 (10 ∷ rest) refl
 
 -- the parts of a line
 pub line_name : (t name tail : List ℕ) (l : LineText) (r : List ℕ) → PartsRun is_token_byte t name tail → ReadsLine t l r
-    → (name ≡ l.name) × (tail ≡ 58 ∷ (l.raw ++ (line_end ++ r)))
+    → (name ≡ l.name) × (tail ≡ 58 ∷ (l.raw ++ (crlf ++ r)))
 line_name t name tail l r p a =
-    parts_once is_token_byte t name tail l.name (58 ∷ (l.raw ++ (line_end ++ r))) p a.whole a.token.passes (colon_stops (l.raw ++ (line_end ++ r)))
+    parts_once is_token_byte t name tail l.name (58 ∷ (l.raw ++ (crlf ++ r))) p a.whole a.token.passes (colon_stops (l.raw ++ (crlf ++ r)))
 
 pub line_raw : (t name tail tail2 raw tail3 : List ℕ) (l : LineText) (r : List ℕ) → PartsRun is_token_byte t name tail → tail ≡ 58 ∷ tail2
-    → PartsRun is_line_byte tail2 raw tail3 → ReadsLine t l r → (raw ≡ l.raw) × (tail3 ≡ line_end ++ r)
+    → PartsRun is_line_byte tail2 raw tail3 → ReadsLine t l r → (raw ≡ l.raw) × (tail3 ≡ crlf ++ r)
 line_raw t name tail tail2 raw tail3 l r p e q a =
-    let behind : tail2 ≡ l.raw ++ (line_end ++ r) =
-    (heads 58 58 tail2 (l.raw ++ (line_end ++ r)) (sym e ∙ (line_name t name tail l r p a).1)).1 in
-    parts_once is_line_byte tail2 raw tail3 l.raw (line_end ++ r) q behind a.passes (return_stops r)
+    let behind : tail2 ≡ l.raw ++ (crlf ++ r) =
+    (heads 58 58 tail2 (l.raw ++ (crlf ++ r)) (sym e ∙ (line_name t name tail l r p a).1)).1 in
+    parts_once is_line_byte tail2 raw tail3 l.raw (crlf ++ r) q behind a.passes (return_stops r)
 
 pub no_colon : (t name tail : List ℕ) → PartsRun is_token_byte t name tail → ((r : List ℕ) → ¬ (tail ≡ 58 ∷ r)) → HasNoStep ReadsLine t
-no_colon t name tail p h l r a = h (l.raw ++ (line_end ++ r)) (line_name t name tail l r p a).1
+no_colon t name tail p h l r a = h (l.raw ++ (crlf ++ r)) (line_name t name tail l r p a).1
 
 pub no_line_end : (t name tail tail2 raw tail3 : List ℕ) → PartsRun is_token_byte t name tail → tail ≡ 58 ∷ tail2
-    → PartsRun is_line_byte tail2 raw tail3 → ((r : List ℕ) → ¬ (tail3 ≡ line_end ++ r)) → HasNoStep ReadsLine t
+    → PartsRun is_line_byte tail2 raw tail3 → ((r : List ℕ) → ¬ (tail3 ≡ crlf ++ r)) → HasNoStep ReadsLine t
 no_line_end t name tail tail2 raw tail3 p e q h l r a = h r (line_raw t name tail tail2 raw tail3 l r p e q a).1
 
 line_same : (l m : LineText) → l.name ≡ m.name → l.raw ≡ m.raw → l ≡ m
@@ -68,14 +71,14 @@ line_same l m e f =
 
 pub line_once : (t : List ℕ) (l m : LineText) (r s : List ℕ) → ReadsLine t l r → ReadsLine t m s → (l ≡ m) × (r ≡ s)
 line_once t l m r s a b =
-    let p : PartsRun is_token_byte t l.name (58 ∷ (l.raw ++ (line_end ++ r))) =
-    record { whole = a.whole; passes = a.token.passes; stops = colon_stops (l.raw ++ (line_end ++ r)) } in
-    let q : PartsRun is_line_byte (l.raw ++ (line_end ++ r)) l.raw (line_end ++ r) =
+    let p : PartsRun is_token_byte t l.name (58 ∷ (l.raw ++ (crlf ++ r))) =
+    record { whole = a.whole; passes = a.token.passes; stops = colon_stops (l.raw ++ (crlf ++ r)) } in
+    let q : PartsRun is_line_byte (l.raw ++ (crlf ++ r)) l.raw (crlf ++ r) =
     record { whole = refl; passes = a.passes; stops = return_stops r } in
-    let names : l.name ≡ m.name = (line_name t l.name (58 ∷ (l.raw ++ (line_end ++ r))) m s p b).0 in
-    let raws : (l.raw ≡ m.raw) × (line_end ++ r ≡ line_end ++ s) =
-    line_raw t l.name (58 ∷ (l.raw ++ (line_end ++ r))) (l.raw ++ (line_end ++ r)) l.raw (line_end ++ r) m s p refl q b in
-    (line_same l m names raws.0, append_cancel_left line_end r s raws.1)
+    let names : l.name ≡ m.name = (line_name t l.name (58 ∷ (l.raw ++ (crlf ++ r))) m s p b).0 in
+    let raws : (l.raw ≡ m.raw) × (crlf ++ r ≡ crlf ++ s) =
+    line_raw t l.name (58 ∷ (l.raw ++ (crlf ++ r))) (l.raw ++ (crlf ++ r)) l.raw (crlf ++ r) m s p refl q b in
+    (line_same l m names raws.0, append_cancel_left crlf r s raws.1)
 
 -- no line begins with a line end, or with nothing
 token_no_return : (name rest more : List ℕ) → IsToken name → ¬ (13 ∷ more ≡ name ++ rest)
@@ -84,16 +87,16 @@ token_no_return (x ∷ name) rest more t e =
     not_both (is_token_byte x) (All-head (λ y. is_token_byte y ≡ true) x name t.passes)
     (ap is_token_byte (sym (heads 13 x more (name ++ rest) e).0) ∙ return_no_token)
 
-pub line_end_stuck : (rest : List ℕ) → HasNoStep ReadsLine (line_end ++ rest)
-line_end_stuck rest l r a = token_no_return l.name (58 ∷ (l.raw ++ (line_end ++ r))) (10 ∷ rest) a.token a.whole
+pub line_end_stuck : (rest : List ℕ) → HasNoStep ReadsLine (crlf ++ rest)
+line_end_stuck rest l r a = token_no_return l.name (58 ∷ (l.raw ++ (crlf ++ r))) (10 ∷ rest) a.token a.whole
 
 pub nothing_stuck : HasNoStep ReadsLine []
 nothing_stuck l r a =
-    absurd (omega (arith, a.token.some, ap length a.whole, length-append l.name (58 ∷ (l.raw ++ (line_end ++ r)))))
+    absurd (omega (arith, a.token.some, ap length a.whole, length-append l.name (58 ∷ (l.raw ++ (crlf ++ r)))))
 
 pub line_shorter : (t : List ℕ) (l : LineText) (r : List ℕ) → ReadsLine t l r → length r < length t
 line_shorter t l r a =
-    omega (arith, ap length a.whole, length-append l.name (58 ∷ (l.raw ++ (line_end ++ r))), length-append l.raw (line_end ++ r))
+    omega (arith, ap length a.whole, length-append l.name (58 ∷ (l.raw ++ (crlf ++ r))), length-append l.raw (crlf ++ r))
 
 -- lines in a text that goes on
 line_longer : (t : List ℕ) (l : LineText) (r more : List ℕ) → ReadsLine t l r → ReadsLine (t ++ more) l (r ++ more)
@@ -102,8 +105,8 @@ line_longer t l r more a = record {
   passes = a.passes;
   whole =
       ap (λ (x : List ℕ). x ++ more) a.whole
-      ∙ (append_assoc l.name (58 ∷ (l.raw ++ (line_end ++ r))) more
-      ∙ ap (λ (x : List ℕ). l.name ++ (58 ∷ x)) (append_assoc l.raw (line_end ++ r) more));
+      ∙ (append_assoc l.name (58 ∷ (l.raw ++ (crlf ++ r))) more
+      ∙ ap (λ (x : List ℕ). l.name ++ (58 ∷ x)) (append_assoc l.raw (crlf ++ r) more));
 }
 
 pub lines_longer : (t : List ℕ) (ls : List LineText) (r more : List ℕ) → Chain ReadsLine t ls r → Chain ReadsLine (t ++ more) ls (r ++ more)
@@ -115,12 +118,12 @@ pub lines_front : (t : List ℕ) (ls : List LineText) (r : List ℕ) → Chain R
 lines_front t [] r e = ([], e)
 lines_front t (l ∷ ls) r (later, first, rest) =
     let inner : (front : List ℕ) × (later ≡ front ++ r) = lines_front later ls r rest in
-    let spelled : List ℕ = l.name ++ (58 ∷ (l.raw ++ (line_end ++ inner.0))) in (
+    let spelled : List ℕ = l.name ++ (58 ∷ (l.raw ++ (crlf ++ inner.0))) in (
       spelled,
       first.whole
-          ∙ (ap (λ (x : List ℕ). l.name ++ (58 ∷ (l.raw ++ (line_end ++ x)))) inner.1
-          ∙ sym (append_assoc l.name (58 ∷ (l.raw ++ (line_end ++ inner.0))) r
-          ∙ ap (λ (x : List ℕ). l.name ++ (58 ∷ x)) (append_assoc l.raw (line_end ++ inner.0) r))),
+          ∙ (ap (λ (x : List ℕ). l.name ++ (58 ∷ (l.raw ++ (crlf ++ x)))) inner.1
+          ∙ sym (append_assoc l.name (58 ∷ (l.raw ++ (crlf ++ inner.0))) r
+          ∙ ap (λ (x : List ℕ). l.name ++ (58 ∷ x)) (append_assoc l.raw (crlf ++ inner.0) r))),
     )
 
 -- lines in the front of a text, where what they leave holds the rest of it
@@ -129,12 +132,12 @@ lines_shorter t [] r more e = append_cancel_right t r more e
 lines_shorter t (l ∷ ls) r more (later, first, rest) =
     let inner : (front : List ℕ) × (later ≡ front ++ (r ++ more)) = lines_front later ls (r ++ more) rest in
     let cut : later ≡ (inner.0 ++ r) ++ more = inner.1 ∙ sym (append_assoc inner.0 r more) in
-    let spelled : List ℕ = l.name ++ (58 ∷ (l.raw ++ (line_end ++ (inner.0 ++ r)))) in
+    let spelled : List ℕ = l.name ++ (58 ∷ (l.raw ++ (crlf ++ (inner.0 ++ r)))) in
     let whole : t ++ more ≡ spelled ++ more =
     first.whole
-    ∙ (ap (λ (x : List ℕ). l.name ++ (58 ∷ (l.raw ++ (line_end ++ x)))) cut
-    ∙ sym (append_assoc l.name (58 ∷ (l.raw ++ (line_end ++ (inner.0 ++ r)))) more
-    ∙ ap (λ (x : List ℕ). l.name ++ (58 ∷ x)) (append_assoc l.raw (line_end ++ (inner.0 ++ r)) more))) in (
+    ∙ (ap (λ (x : List ℕ). l.name ++ (58 ∷ (l.raw ++ (crlf ++ x)))) cut
+    ∙ sym (append_assoc l.name (58 ∷ (l.raw ++ (crlf ++ (inner.0 ++ r)))) more
+    ∙ ap (λ (x : List ℕ). l.name ++ (58 ∷ x)) (append_assoc l.raw (crlf ++ (inner.0 ++ r)) more))) in (
       inner.0 ++ r,
       record { token = first.token; passes = first.passes; whole = append_cancel_right t spelled more whole },
       lines_shorter (inner.0 ++ r) ls r more (subst (λ (x : List ℕ). Chain ReadsLine x ls (r ++ more)) cut rest),
@@ -167,29 +170,29 @@ window_fits piece w ls rest e h =
 
 -- the lines of a piece that an empty line ends within the limit stand in its first bytes
 content_in_window : (piece w rest : List ℕ) (ls : List LineText) → w ≡ take head_limit piece → Chain ReadsLine w ls rest → HasNoStep ReadsLine rest
-    → (ls' : List LineText) (content : List ℕ) → EndsInContent piece ls' content → (c : List ℕ) × (rest ≡ line_end ++ c)
+    → (ls' : List LineText) (content : List ℕ) → EndsInContent piece ls' content → (c : List ℕ) × (rest ≡ crlf ++ c)
 content_in_window piece w rest ls e h stuck ls' content k =
     let more : List ℕ = drop head_limit piece in
     let whole : w ++ more ≡ piece = ap (λ (x : List ℕ). x ++ more) e ∙ take-append-drop head_limit piece in
-    let f : (front : List ℕ) × (piece ≡ front ++ (line_end ++ content)) = lines_front piece ls' (line_end ++ content) k.in_order in
-    let cut : w ++ more ≡ (f.0 ++ line_end) ++ content = whole ∙ (f.1 ∙ sym (append_assoc f.0 line_end content)) in
+    let f : (front : List ℕ) × (piece ≡ front ++ (crlf ++ content)) = lines_front piece ls' (crlf ++ content) k.in_order in
+    let cut : w ++ more ≡ (f.0 ++ crlf) ++ content = whole ∙ (f.1 ∙ sym (append_assoc f.0 crlf content)) in
     let sizes : length (w ++ more) ≡ length piece = ap length whole in
-    let fits : length (f.0 ++ line_end) ≤ length w =
+    let fits : length (f.0 ++ crlf) ≤ length w =
     omega (
       arith,
       k.short,
       ap length e,
       length-take head_limit piece,
       ap length f.1,
-      length-append f.0 (line_end ++ content),
-      length-append f.0 line_end,
+      length-append f.0 (crlf ++ content),
+      length-append f.0 crlf,
     ) in
-    let p : (c : List ℕ) × (w ≡ (f.0 ++ line_end) ++ c) × (content ≡ c ++ more) = parted w more (f.0 ++ line_end) content cut fits in
-    let longer : Chain ReadsLine (w ++ more) ls' ((line_end ++ p.0) ++ more) =
-    subst (λ (x : List ℕ). Chain ReadsLine x ls' ((line_end ++ p.0) ++ more)) (sym whole)
-    (chain_end ReadsLine piece ls' (line_end ++ content) ((line_end ++ p.0) ++ more) (ap (λ (x : List ℕ). line_end ++ x) p.2) k.in_order) in
-    let inner : Chain ReadsLine w ls' (line_end ++ p.0) = lines_shorter w ls' (line_end ++ p.0) more longer in
-    (p.0, (chain_once ReadsLine line_once w ls ls' rest (line_end ++ p.0) h stuck inner (line_end_stuck p.0)).1)
+    let p : (c : List ℕ) × (w ≡ (f.0 ++ crlf) ++ c) × (content ≡ c ++ more) = parted w more (f.0 ++ crlf) content cut fits in
+    let longer : Chain ReadsLine (w ++ more) ls' ((crlf ++ p.0) ++ more) =
+    subst (λ (x : List ℕ). Chain ReadsLine x ls' ((crlf ++ p.0) ++ more)) (sym whole)
+    (chain_end ReadsLine piece ls' (crlf ++ content) ((crlf ++ p.0) ++ more) (ap (λ (x : List ℕ). crlf ++ x) p.2) k.in_order) in
+    let inner : Chain ReadsLine w ls' (crlf ++ p.0) = lines_shorter w ls' (crlf ++ p.0) more longer in
+    (p.0, (chain_once ReadsLine line_once w ls ls' rest (crlf ++ p.0) h stuck inner (line_end_stuck p.0)).1)
 
 pub head_end_is : (piece w rest tail : List ℕ) (ls : List LineText) (end : HeadEnd) → w ≡ take head_limit piece → Chain ReadsLine w ls rest → HasNoStep ReadsLine rest
     → tail ≡ rest ++ drop head_limit piece → EndsSo rest tail end → IsHeadEnd piece ls end
@@ -198,7 +201,7 @@ head_end_is piece w rest tail ls (Content content) e h stuck t (f, (front, g)) =
     let longer : Chain ReadsLine piece ls (rest ++ drop head_limit piece) =
     subst (λ (x : List ℕ). Chain ReadsLine x ls (rest ++ drop head_limit piece)) whole (lines_longer w ls rest (drop head_limit piece) h) in
     record {
-      in_order = chain_end ReadsLine piece ls (rest ++ drop head_limit piece) (line_end ++ content.now) (sym t ∙ f) longer;
+      in_order = chain_end ReadsLine piece ls (rest ++ drop head_limit piece) (crlf ++ content.now) (sym t ∙ f) longer;
       short =
           omega (
             arith,
@@ -214,7 +217,7 @@ head_end_is piece w rest tail ls (Open open') e h stuck t (f, none) =
     subst (λ (x : List ℕ). Chain ReadsLine x ls (rest ++ drop head_limit piece)) whole (lines_longer w ls rest (drop head_limit piece) h) in (
       chain_end ReadsLine piece ls (rest ++ drop head_limit piece) open'.now (sym t ∙ sym f) longer,
       λ ls' content k.
-          let c : (c : List ℕ) × (rest ≡ line_end ++ c) = content_in_window piece w rest ls e h stuck ls' content k in none c.0 c.1,
+          let c : (c : List ℕ) × (rest ≡ crlf ++ c) = content_in_window piece w rest ls e h stuck ls' content k in none c.0 c.1,
       λ short.
           let all : open'.now ≡ rest = f ∙ (t ∙ (ap (λ (x : List ℕ). rest ++ x) (drop_all head_limit piece short) ∙ append-nil rest)) in
           subst (λ (x : List ℕ). HasNoStep ReadsLine x) (sym all) stuck,

@@ -8,8 +8,10 @@ use Rattle.std.proofs.lemmas.Slice.Eq.{bytes_eq-Decides}
 use Rattle.std.proofs.lemmas.List.Elements.{All-head}
 use Rattle.std.proofs.lemmas.List.Quantifiers.{all_pairs_push}
 use Rattle.soc_multipart.specs.Chains.{Chain, HasNoStep}
-use Rattle.soc_multipart.specs.Delimiters.{PartsRun, is_blank}
-use Rattle.soc_multipart.specs.Params.{is_token_byte, IsToken, quote, backslash, SpellsByte, EndsQuoted, EndsToken, BeginsWithValue, ReadsValue, SkipsGap, ReadsName, ParamText, ReadsParam, AreParams, AreDistinct, lower, value_of}
+use Rattle.soc_multipart.specs.Delimiters.{PartsRun}
+use Rattle.soc_text.specs.Blanks.{is_blank}
+use Rattle.soc_multipart.specs.Params.{quote, backslash, SpellsByte, EndsQuoted, EndsToken, BeginsWithValue, ReadsValue, SkipsGap, ReadsName, ParamText, ReadsParam, AreParams, AreDistinct, lower, value_of}
+use Rattle.soc_text.specs.Tokens.{is_token_byte, IsToken}
 use Rattle.soc_multipart.proofs.Basics.{Stops, stops_cons, parts_once, run_once}
 use Rattle.soc_multipart.proofs.ChainLemmas.{chain_once, chain_goes_on, chain_end}
 

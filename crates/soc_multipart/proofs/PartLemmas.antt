@@ -8,7 +8,7 @@ use Rattle.soc_multipart.specs.Views.{line_texts}
 use Rattle.soc_multipart.specs.declared.heads.HeadEnd.{HeadEnd}
 use Rattle.soc_multipart.specs.declared.heads.HeadEnd.TheVariants.{Content, Open}
 use Rattle.soc_multipart.specs.Chains.{Chain, HasNoStep}
-use Rattle.soc_multipart.specs.Delimiters.{line_end}
+use Rattle.soc_text.specs.Lines.{crlf}
 use Rattle.soc_multipart.specs.Heads.{head_limit, LineText, ReadsLine, IsHead, MayBeHead, EndsInContent, HasNoContent, IsHeadEnd}
 use Rattle.soc_multipart.specs.Parts.{PartText, EndsHead, HoldsHead, IsPart, HasNoLineEnd, CutsHead, MayBePart}
 use Rattle.soc_multipart.proofs.ChainLemmas.{chain_once}
@@ -21,14 +21,14 @@ ends_stuck : (tail content : List ℕ) → EndsHead tail content → HasNoStep R
 ends_stuck tail content (inl (e, f)) = subst (HasNoStep ReadsLine) (sym e) nothing_stuck
 ends_stuck tail content (inr e) = subst (HasNoStep ReadsLine) (sym e) (line_end_stuck content)
 
-nil_not_line_end : (rest : List ℕ) → ¬ ([] ≡ line_end ++ rest)
+nil_not_line_end : (rest : List ℕ) → ¬ ([] ≡ crlf ++ rest)
 nil_not_line_end rest e = cc
 
 ends_once : (tail c d : List ℕ) → EndsHead tail c → EndsHead tail d → c ≡ d
 ends_once tail c d (inl (e, f)) (inl (g, h)) = f ∙ sym h
 ends_once tail c d (inl (e, f)) (inr g) = absurd (nil_not_line_end d (sym e ∙ g))
 ends_once tail c d (inr e) (inl (g, h)) = absurd (nil_not_line_end c (sym g ∙ e))
-ends_once tail c d (inr e) (inr g) = append_cancel_left line_end c d (sym e ∙ g)
+ends_once tail c d (inr e) (inr g) = append_cancel_left crlf c d (sym e ∙ g)
 
 pub holds_once : (piece : List ℕ) (ls ms : List LineText) (c d : List ℕ) → HoldsHead piece ls c → HoldsHead piece ms d → (ls ≡ ms) × (c ≡ d)
 holds_once piece ls ms c d a b =
@@ -82,23 +82,23 @@ part_once piece p q a b =
     part_same p q heads.0 heads.1 heads.2 both.1
 
 -- a line end in a text
-pub no_line_end_found : (text : List ℕ) → IsFirst (OccursAt text line_end) 0 (length text + 1) None → HasNoLineEnd text
+pub no_line_end_found : (text : List ℕ) → IsFirst (OccursAt text crlf) 0 (length text + 1) None → HasNoLineEnd text
 no_line_end_found text none front back e =
-    let at : drop (0 + length front) text ≡ line_end ++ back =
-    ap (λ (n : ℕ). drop n text) (omega arith) ∙ (ap (drop (length front)) e ∙ drop_at front (line_end ++ back) (length front) refl) in
-    let o : OccursAt text line_end (length front) = occurs_from_at line_end text 0 (length front) back (omega arith) at in
+    let at : drop (0 + length front) text ≡ crlf ++ back =
+    ap (λ (n : ℕ). drop n text) (omega arith) ∙ (ap (drop (length front)) e ∙ drop_at front (crlf ++ back) (length front) refl) in
+    let o : OccursAt text crlf (length front) = occurs_from_at crlf text 0 (length front) back (omega arith) at in
     none (length front) (omega arith) (omega (arith, o.fits)) o
 
-pub line_end_found : (text : List ℕ) (k : ℕ) → OccursAt text line_end k → ¬ (HasNoLineEnd text)
+pub line_end_found : (text : List ℕ) (k : ℕ) → OccursAt text crlf k → ¬ (HasNoLineEnd text)
 line_end_found text k o h =
-    let at : drop (0 + k) text ≡ line_end ++ drop (0 + k + length line_end) text = at_from_occurs line_end text 0 k o in
-    h (take (0 + k) text) (drop (0 + k + length line_end) text)
+    let at : drop (0 + k) text ≡ crlf ++ drop (0 + k + length crlf) text = at_from_occurs crlf text 0 k o in
+    h (take (0 + k) text) (drop (0 + k + length crlf) text)
     (sym (take-append-drop (0 + k) text) ∙ ap (λ (x : List ℕ). take (0 + k) text ++ x) at)
 
 -- pieces that the body's end cuts off
 open_line_stuck : (tail : List ℕ) → HasNoLineEnd tail → HasNoStep ReadsLine tail
 open_line_stuck tail h l r a =
-    h (l.name ++ (58 ∷ l.raw)) r (a.whole ∙ sym (append_assoc l.name (58 ∷ l.raw) (line_end ++ r)))
+    h (l.name ++ (58 ∷ l.raw)) r (a.whole ∙ sym (append_assoc l.name (58 ∷ l.raw) (crlf ++ r)))
 
 pub may_content : {X : Type 0} (piece c : List ℕ) (ls : List LineText) (head : Option X) (r : Bool) (name : X → List ℕ) (file : X → Option (List ℕ)) (kind : X → List ℕ)
     → EndsInContent piece ls c
@@ -114,11 +114,11 @@ may_content piece c ls head r name file kind a h e = (forth head r h e, back hea
     back (Some x) r h e m = e
     back None r h e (inl k) =
         let same : ls ≡ k.lines =
-        (chain_once ReadsLine line_once piece ls k.lines (line_end ++ c) (line_end ++ k.content) a.in_order (line_end_stuck c) k.ends.in_order (line_end_stuck k.content)).0 in
+        (chain_once ReadsLine line_once piece ls k.lines (crlf ++ c) (crlf ++ k.content) a.in_order (line_end_stuck c) k.ends.in_order (line_end_stuck k.content)).0 in
         absurd (h k.name k.kind k.file (subst (λ (x : List LineText). IsHead x k.name k.file k.kind) (sym same) k.says))
     back None r h e (inr k) =
-        let tails : line_end ++ c ≡ k.tail =
-        (chain_once ReadsLine line_once piece ls k.lines (line_end ++ c) k.tail a.in_order (line_end_stuck c) k.in_order (open_line_stuck k.tail k.open_line)).1 in
+        let tails : crlf ++ c ≡ k.tail =
+        (chain_once ReadsLine line_once piece ls k.lines (crlf ++ c) k.tail a.in_order (line_end_stuck c) k.in_order (open_line_stuck k.tail k.open_line)).1 in
         absurd (k.open_line [] c (sym tails))
 
 pub long_open : (piece tail : List ℕ) (ls : List LineText) → Chain ReadsLine piece ls tail × HasNoContent piece × (length piece ≤ head_limit → HasNoStep ReadsLine tail)
@@ -163,7 +163,7 @@ pub ends_open : (piece : List ℕ) (ls : List LineText) (end : HeadEnd) (tail : 
     → Chain ReadsLine piece ls tail.now × HasNoContent piece × (length piece ≤ head_limit → HasNoStep ReadsLine tail.now)
 ends_open piece ls end tail e h = subst (λ (x : HeadEnd). IsHeadEnd piece ls x) e h
 
-pub line_end_test : (text : List ℕ) (found : Option ℕ) (r : Bool) → FindsNeedle text line_end 0 found → r ≡ is_some found → MatchBool r (¬ (HasNoLineEnd text)) (HasNoLineEnd text)
+pub line_end_test : (text : List ℕ) (found : Option ℕ) (r : Bool) → FindsNeedle text crlf 0 found → r ≡ is_some found → MatchBool r (¬ (HasNoLineEnd text)) (HasNoLineEnd text)
 line_end_test text None r h e = subst (λ (x : Bool). MatchBool x (¬ (HasNoLineEnd text)) (HasNoLineEnd text)) (sym e) (no_line_end_found text h)
 line_end_test text (Some k) r h e = subst (λ (x : Bool). MatchBool x (¬ (HasNoLineEnd text)) (HasNoLineEnd text)) (sym e) (line_end_found text k h.1)
 

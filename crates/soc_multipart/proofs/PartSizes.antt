@@ -10,8 +10,11 @@ use Rattle.std.proofs.lemmas.Bool.{eqb-false}
 use Rattle.std.proofs.lemmas.List.Sums.{sum_by-cons}
 use Rattle.std.proofs.lemmas.Str.{utf8_valid_len_le}
 use Rattle.soc_multipart.specs.Chains.{Chain}
-use Rattle.soc_multipart.specs.Delimiters.{is_blank, line_end, mark_of}
-use Rattle.soc_multipart.specs.Heads.{LineText, ReadsLine, trimmed, values_of, IsDisposition}
+use Rattle.soc_multipart.specs.Delimiters.{mark_of}
+use Rattle.soc_text.specs.Blanks.{is_blank}
+use Rattle.soc_text.specs.Lines.{crlf}
+use Rattle.soc_multipart.specs.Heads.{LineText, ReadsLine, values_of, IsDisposition}
+use Rattle.soc_text.specs.Blanks.{trimmed}
 use Rattle.soc_multipart.specs.Params.{ParamText, SpellsByte, BeginsWithValue, ReadsParam, lower, value_of}
 use Rattle.soc_multipart.specs.Parts.{PartText, EndsHead, IsPart, ReadsPart, Cut}
 
@@ -109,9 +112,9 @@ line_short text line rest h =
     omega (
       arith,
       ap length h.whole,
-      length-append line.name (58 ∷ (line.raw ++ (line_end ++ rest))),
-      length-append line.raw (line_end ++ rest),
-      length-append line_end rest,
+      length-append line.name (58 ∷ (line.raw ++ (crlf ++ rest))),
+      length-append line.raw (crlf ++ rest),
+      length-append crlf rest,
     )
 
 lines_short : (text : List ℕ) (lines : List LineText) (rest : List ℕ) → Chain ReadsLine text lines rest → length rest ≤ length text
@@ -157,7 +160,7 @@ part_size p = length p.name + 3 * length p.content
 
 content_short : (tail content : List ℕ) → EndsHead tail content → length content ≤ length tail
 content_short tail content (inl h) = omega (arith, ap length h.1)
-content_short tail content (inr e) = omega (arith, ap length e, length-append line_end content)
+content_short tail content (inr e) = omega (arith, ap length e, length-append crlf content)
 
 piece_short : (piece : List ℕ) (p : PartText) → IsPart piece p → part_size p ≤ 3 * length piece
 piece_short piece p h =
@@ -182,8 +185,8 @@ part_short mark text p next h =
       ap length opens.whole,
       length-append mark opens.after,
       ap length ends.whole,
-      length-append ends.pad (line_end ++ h.rest),
-      length-append line_end h.rest,
+      length-append ends.pad (crlf ++ h.rest),
+      length-append crlf h.rest,
     )
 
 parts_short : (mark text : List ℕ) (parts : List PartText) (next : List ℕ) → Chain (ReadsPart mark) text parts next → sum_by part_size parts ≤ 3 * length text
@@ -200,5 +203,5 @@ body_short boundary body parts cut =
       parts_short (mark_of boundary) holds.first parts cut.last holds.in_order,
       ap length holds.reaches.whole,
       length-append holds.preamble holds.first,
-      length-append line_end body,
+      length-append crlf body,
     )

@@ -3,16 +3,10 @@
 use Rattle.std.specs.Prelude.{◌≡◌, ◌≢◌, ℕ, ◌<◌, ◌≤◌, ◌⊎◌, Bool, false, ◌||◌, ◌==◌, List, [], ◌∷◌, ◌++◌, length, drop, codes}
 use Rattle.std.specs.List.{AllPass, list_any}
 use Rattle.std.specs.Char.{is_ascii_alphanumeric}
+use Rattle.soc_text.specs.Blanks.{is_blank}
+use Rattle.soc_text.specs.Lines.{crlf}
 use Rattle.soc_multipart.specs.declared.delimiters.Ending.{Ending}
 use Rattle.soc_multipart.specs.declared.delimiters.Ending.TheVariants.{Opening, Closing}
-
--- carriage return and line feed
-abbrev pub line_end : List ℕ
-line_end = codes "\r\n"
-
--- a space or a tab
-abbrev pub is_blank : ℕ → Bool
-is_blank byte = byte == 32 || byte == 9
 
 -- a byte of a boundary
 abbrev pub is_boundary_byte : ℕ → Bool
@@ -33,11 +27,11 @@ mark_of boundary = codes "\r\n--" ++ boundary
 pub record EndsOpening (after rest : List ℕ) : Type 0 where
   pub pad : List ℕ
   pub blanks : AllPass is_blank pad
-  pub whole : after ≡ pad ++ (line_end ++ rest)
+  pub whole : after ≡ pad ++ (crlf ++ rest)
 
 -- the text is empty or begins with a line end
 abbrev pub EndsLine : List ℕ → Type 0
-EndsLine text = (text ≡ []) ⊎ ((more : List ℕ) × (text ≡ line_end ++ more))
+EndsLine text = (text ≡ []) ⊎ ((more : List ℕ) × (text ≡ crlf ++ more))
 
 -- behind the mark of a closing delimiter: two dashes and blanks, and then a line end or nothing
 pub record EndsClosing (after : List ℕ) : Type 0 where

@@ -5,7 +5,7 @@ use Rattle.std.specs.List.{position_or_len}
 use Rattle.soc_multipart.specs.declared.reasons.Reason.{Reason}
 use Rattle.soc_multipart.specs.declared.reasons.Reason.TheVariants.{ContentEncoding, NoContentType, WrongContentType, NoBoundary, NoFirst, BadPartHead, NoClose, TooManyParts, BadExtra, ExtraAndPlain, TooManyAnnotations, NoAnnotations}
 use Rattle.soc_multipart.specs.Delimiters.{IsBoundary}
-use Rattle.soc_multipart.specs.Heads.{trimmed}
+use Rattle.soc_text.specs.Blanks.{trimmed}
 use Rattle.soc_multipart.specs.Params.{ParamText, AreParams, lower, value_of}
 
 abbrev pub is_semicolon : ℕ → Bool

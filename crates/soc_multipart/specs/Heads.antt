@@ -8,8 +8,10 @@ use Rattle.std.specs.Str.Lossy.{utf8_lossy}
 use Rattle.soc_multipart.specs.declared.heads.HeadEnd.{HeadEnd}
 use Rattle.soc_multipart.specs.declared.heads.HeadEnd.TheVariants.{Content, Open}
 use Rattle.soc_multipart.specs.Chains.{Chain, HasNoStep}
-use Rattle.soc_multipart.specs.Delimiters.{is_blank, line_end}
-use Rattle.soc_multipart.specs.Params.{IsToken, ParamText, AreParams, lower, value_of}
+use Rattle.soc_text.specs.Blanks.{trimmed}
+use Rattle.soc_text.specs.Lines.{crlf}
+use Rattle.soc_multipart.specs.Params.{ParamText, AreParams, lower, value_of}
+use Rattle.soc_text.specs.Tokens.{IsToken}
 
 -- the most bytes that a head has
 abbrev pub head_limit : ℕ
@@ -28,12 +30,7 @@ is_line_byte byte = not (byte == 13 || byte == 10)
 pub record ReadsLine (text : List ℕ) (line : LineText) (rest : List ℕ) : Type 0 where
   pub token : IsToken line.name
   pub passes : AllPass is_line_byte line.raw
-  pub whole : text ≡ line.name ++ (58 ∷ (line.raw ++ (line_end ++ rest)))
-
--- the value without the blanks around it
-abbrev pub trimmed : List ℕ → List ℕ
-trimmed text =
-    let behind = drop (prefix_len is_blank text) text in take (length behind - suffix_len is_blank behind) behind
+  pub whole : text ≡ line.name ++ (58 ∷ (line.raw ++ (crlf ++ rest)))
 
 -- the values of the lines of this name, in order
 abbrev pub values_of : List ℕ → List LineText → List (List ℕ)
@@ -78,7 +75,7 @@ pub record MayBeHead (lines : List LineText) : Type 0 where
 
 -- head lines, an empty line that ends within the limit, and then the content
 pub record EndsInContent (piece : List ℕ) (lines : List LineText) (content : List ℕ) : Type 0 where
-  pub in_order : Chain ReadsLine piece lines (line_end ++ content)
+  pub in_order : Chain ReadsLine piece lines (crlf ++ content)
   pub short : length piece ≤ head_limit + length content
 
 -- the first bytes of the piece, up to the limit, hold no head lines and an empty line

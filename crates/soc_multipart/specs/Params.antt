@@ -4,17 +4,9 @@ use Rattle.std.specs.Prelude.{◌≡◌, ◌≢◌, ℕ, ◌<◌, ◌⊎◌, Boo
 use Rattle.std.specs.List.{AllPass, list_any}
 use Rattle.std.specs.Char.{is_ascii_alphanumeric, to_ascii_lowercase}
 use Rattle.std.specs.Str.{bytes_eq}
-use Rattle.soc_multipart.specs.Delimiters.{is_blank}
+use Rattle.soc_text.specs.Blanks.{is_blank}
+use Rattle.soc_text.specs.Tokens.{IsToken, is_token_byte}
 use Rattle.soc_multipart.specs.Chains.{Chain}
-
--- a byte of a token
-unfoldable pub is_token_byte : ℕ → Bool
-is_token_byte byte = is_ascii_alphanumeric byte || list_any (λ c. c == byte) (codes "!#$%&'*+-.^_`|~")
-
--- one byte of a token or more
-pub record IsToken (text : List ℕ) : Type 0 where
-  pub some : 0 < length text
-  pub passes : AllPass is_token_byte text
 
 abbrev pub quote : ℕ
 quote = 34

@@ -4,7 +4,8 @@ use Rattle.std.specs.Prelude.{◌≡◌, ◌≢◌, ℕ, ◌+◌, ◌<◌, ◌�
 use Rattle.soc_multipart.specs.declared.parts.PartsError.{PartsError}
 use Rattle.soc_multipart.specs.declared.parts.PartsError.TheVariants.{BadBoundary, NoFirst, BadPartHead, NoClose, TooManyParts, NoMemory}
 use Rattle.soc_multipart.specs.Chains.{Chain}
-use Rattle.soc_multipart.specs.Delimiters.{line_end, IsBoundary, mark_of, Opens, Closes, IsAtDelimiter, HasNoDelimiter, Reaches}
+use Rattle.soc_multipart.specs.Delimiters.{IsBoundary, mark_of, Opens, Closes, IsAtDelimiter, HasNoDelimiter, Reaches}
+use Rattle.soc_text.specs.Lines.{crlf}
 use Rattle.soc_multipart.specs.Heads.{head_limit, LineText, ReadsLine, IsHead, MayBeHead, EndsInContent}
 
 -- the most parts that a body has
@@ -20,7 +21,7 @@ pub record PartText : Type 0 where
 
 -- behind the head lines: nothing, or an empty line and the content
 abbrev pub EndsHead : List ℕ → List ℕ → Type 0
-EndsHead tail content = ((tail ≡ []) × (content ≡ [])) ⊎ (tail ≡ line_end ++ content)
+EndsHead tail content = ((tail ≡ []) × (content ≡ [])) ⊎ (tail ≡ crlf ++ content)
 
 -- the piece is these head lines and this content, and the head ends within the limit
 pub record HoldsHead (piece : List ℕ) (lines : List LineText) (content : List ℕ) : Type 0 where
@@ -37,7 +38,7 @@ pub record IsPart (piece : List ℕ) (part : PartText) : Type 0 where
 
 -- no line ends in the text
 abbrev pub HasNoLineEnd : List ℕ → Type 0
-HasNoLineEnd text = (front back : List ℕ) → text ≢ front ++ (line_end ++ back)
+HasNoLineEnd text = (front back : List ℕ) → text ≢ front ++ (crlf ++ back)
 
 -- the piece, which the body's end cuts off, ends its head within the limit, and the head is good
 pub record CutsContent (piece : List ℕ) : Type 0 where
@@ -77,7 +78,7 @@ pub record ReadsPart (mark text : List ℕ) (part : PartText) (next : List ℕ) 
 pub record HoldsParts (boundary body : List ℕ) (parts : List PartText) (next : List ℕ) : Type 0 where
   pub preamble : List ℕ
   pub first : List ℕ
-  pub reaches : Reaches (mark_of boundary) (line_end ++ body) preamble first
+  pub reaches : Reaches (mark_of boundary) (crlf ++ body) preamble first
   pub stands : IsAtDelimiter (mark_of boundary) first
   pub in_order : Chain (ReadsPart (mark_of boundary)) first parts next
 
@@ -116,7 +117,7 @@ PartFault mark rest count NoMemory = ⊥
 -- the refusal that stands first in the body. Want of memory is none of the body's
 abbrev pub CutFault : List ℕ → List ℕ → PartsError → Type 0
 CutFault boundary body BadBoundary = ¬ (IsBoundary boundary)
-CutFault boundary body NoFirst = IsBoundary boundary × HasNoDelimiter (mark_of boundary) (line_end ++ body)
+CutFault boundary body NoFirst = IsBoundary boundary × HasNoDelimiter (mark_of boundary) (crlf ++ body)
 CutFault boundary body (BadPartHead part) =
     (rest : List ℕ) × OpensAfter boundary body part rest × (part < parts_limit) × BeginsBadPart (mark_of boundary) rest
 CutFault boundary body NoClose =

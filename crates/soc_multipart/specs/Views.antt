@@ -6,7 +6,7 @@ use Rattle.soc_multipart.specs.declared.heads.Named.{Named}
 use Rattle.soc_multipart.specs.declared.heads.Named.TheVariants.{Never, Once, Often}
 use Rattle.soc_multipart.specs.declared.heads.HeadEnd.{HeadEnd}
 use Rattle.soc_multipart.specs.declared.heads.HeadEnd.TheVariants.{Content, Open}
-use Rattle.soc_multipart.specs.Delimiters.{line_end}
+use Rattle.soc_text.specs.Lines.{crlf}
 use Rattle.soc_multipart.specs.Params.{ParamText}
 use Rattle.soc_multipart.specs.Heads.{LineText}
 
@@ -32,5 +32,5 @@ HasValues values Often = (first : List ℕ) × (second : List ℕ) × (more : Li
 
 -- by an empty line at the front of rest, behind which the content stands in tail, or not
 abbrev pub EndsSo : List ℕ → List ℕ → HeadEnd → Type 0
-EndsSo rest tail (Content content) = (tail ≡ line_end ++ content.now) × ((front : List ℕ) × (rest ≡ line_end ++ front))
-EndsSo rest tail (Open open') = (open'.now ≡ tail) × ((front : List ℕ) → ¬ (rest ≡ line_end ++ front))
+EndsSo rest tail (Content content) = (tail ≡ crlf ++ content.now) × ((front : List ℕ) × (rest ≡ crlf ++ front))
+EndsSo rest tail (Open open') = (open'.now ≡ tail) × ((front : List ℕ) → ¬ (rest ≡ crlf ++ front))

@@ -1,10 +1,12 @@
 // Delimiters of a multipart body: which bytes are one, and where the next one stands.
 ghost use Rattle.std.specs.Prelude.{◌≡◌, ◌++◌, ◌↔◌, List, ℕ, IsTrue, MatchOption, ◌<◌, length};
 ghost use Rattle.std.specs.List.{prefix_len};
-ghost use Rattle.soc_multipart.specs.Delimiters.{BeginsAt, EndsAs, EndsClosing, EndsLine, EndsNowise, EndsOpening, HasNoDelimiter, IsAt, IsAtDelimiter, IsBoundary, MeetsFirst, PartsRun, is_blank, is_boundary_byte as passes_boundary, line_end, mark_of};
+ghost use Rattle.soc_multipart.specs.Delimiters.{BeginsAt, EndsAs, EndsClosing, EndsLine, EndsNowise, EndsOpening, HasNoDelimiter, IsAt, IsAtDelimiter, IsBoundary, MeetsFirst, PartsRun, is_boundary_byte as passes_boundary, mark_of};
+ghost use Rattle.soc_text.specs.Blanks.{is_blank};
+ghost use Rattle.soc_text.specs.Lines.{crlf};
 
 use memchr::memmem::Finder;
-use soc_text::{after, strip_back, strip_front};
+use soc_text::{CRLF, after, blanks_len, strip_back, strip_front};
 
 /// The longest boundary, in bytes.
 const BOUNDARY_LIMIT: usize = 70;
@@ -71,7 +73,7 @@ pub fn first_delimiter<'a>(
     body: &'a [u8],
 ) -> Option<Ending<'a>>
     requires { finder.now ≡ mark_of boundary.now }
-    ensures { MatchOption result (HasNoDelimiter (mark_of boundary.now) (line_end ++ body.now)) (λ end. BeginsAt (mark_of boundary.now) (line_end ++ body.now) end) }
+    ensures { MatchOption result (HasNoDelimiter (mark_of boundary.now) (crlf ++ body.now)) (λ end. BeginsAt (mark_of boundary.now) (crlf ++ body.now) end) }
 {
     if let Some(end) = delimiter_at_start(boundary, body) {
         return Some(end);
@@ -84,7 +86,7 @@ pub fn first_delimiter<'a>(
 
 /// How the delimiter ends that a body begins with, where it does.
 fn delimiter_at_start<'a>(boundary: &[u8], body: &'a [u8]) -> Option<Ending<'a>>
-    ensures { MatchOption result (¬ (IsAtDelimiter (mark_of boundary.now) (line_end ++ body.now))) (λ end. IsAt (mark_of boundary.now) (line_end ++ body.now) end) }
+    ensures { MatchOption result (¬ (IsAtDelimiter (mark_of boundary.now) (crlf ++ body.now))) (λ end. IsAt (mark_of boundary.now) (crlf ++ body.now) end) }
 {
     let after = strip_front(strip_front(body, b"--")?, boundary)?;
     end_of(after)
@@ -107,7 +109,7 @@ fn strip_opening(after: &[u8]) -> Option<&[u8]>
     ensures { MatchOption result ((rest : List ℕ) → ¬ (EndsOpening after.now rest)) (λ rest. EndsOpening after.now rest.now) }
 {
     let (_pad, tail) = split_blanks(after);
-    strip_front(tail, b"\r\n")
+    strip_front(tail, &CRLF)
 }
 
 fn is_closing(after: &[u8]) -> bool
@@ -123,7 +125,7 @@ fn is_closing(after: &[u8]) -> bool
 fn ends_line(text: &[u8]) -> bool
     ensures { IsTrue result ↔ EndsLine text.now }
 {
-    text.is_empty() || strip_front(text, b"\r\n").is_some()
+    text.is_empty() || strip_front(text, &CRLF).is_some()
 }
 
 /// The blanks that `text` begins with, and the rest.
@@ -131,13 +133,4 @@ pub fn split_blanks(text: &[u8]) -> (&[u8], &[u8])
     ensures { PartsRun is_blank text.now result.0.now result.1.now }
 {
     text.split_at(blanks_len(text))
-}
-
-/// How many blanks `text` begins with.
-pub fn blanks_len(text: &[u8]) -> usize
-    ensures { result ≡ prefix_len is_blank text.now }
-{
-    text.iter()
-        .take_while(|c| **c == b' ' || **c == b'\t')
-        .count()
 }

@@ -8,11 +8,10 @@ ghost use Rattle.soc_multipart.specs.FormErrors.{LinesRefusal};
 
 use crate::delimiters::is_boundary;
 use crate::form_error::FormError;
-use crate::heads::trim_blanks;
 use crate::params::{find_param, params};
 use crate::reasons::Reason;
 use soc_raw::{NoMemory, Pairs};
-use soc_text::after;
+use soc_text::{after, trim_blanks};
 use std::alloc::Global;
 
 /// The boundary that the lines of a message name: its `Content-Encoding`, if it has one, and its

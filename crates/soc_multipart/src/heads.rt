@@ -2,14 +2,15 @@
 ghost use Rattle.std.specs.Prelude.{◌≡◌, ◌++◌, ◌∷◌, [], List, ℕ, IfOk, MatchOption, take};
 ghost use Rattle.std.specs.List.{prefix_len, suffix_len};
 ghost use Rattle.soc_multipart.specs.Chains.{Chain, HasNoStep};
-ghost use Rattle.soc_multipart.specs.Delimiters.{PartsRun, is_blank};
-ghost use Rattle.soc_multipart.specs.Heads.{IsHeadEnd, LineText, ReadsLine, head_limit, is_line_byte, trimmed, values_of};
+ghost use Rattle.soc_multipart.specs.Delimiters.{PartsRun};
+ghost use Rattle.soc_text.specs.Blanks.{is_blank};
+ghost use Rattle.soc_multipart.specs.Heads.{IsHeadEnd, LineText, ReadsLine, head_limit, is_line_byte, values_of};
+ghost use Rattle.soc_text.specs.Blanks.{trimmed};
 ghost use Rattle.soc_multipart.specs.Views.{EndsSo, HasValues, line_text, line_texts};
 
-use crate::delimiters::blanks_len;
 use crate::params::split_token;
 use soc_raw::NoMemory;
-use soc_text::{after, strip_front};
+use soc_text::{CRLF, after, strip_front, trim_blanks};
 use std::alloc::Global;
 
 /// The most bytes that a head has, its empty line counted.
@@ -72,7 +73,7 @@ fn head_end<'a>(rest: &[u8], tail: &'a [u8]) -> HeadEnd<'a>
     requires { (more : List ℕ) × (tail.now ≡ rest.now ++ more) }
     ensures { EndsSo rest.now tail.now result }
 {
-    if strip_front(rest, b"\r\n").is_none() {
+    if strip_front(rest, &CRLF).is_none() {
         return HeadEnd::Open(tail);
     }
     HeadEnd::Content(after(tail, 2))
@@ -109,7 +110,7 @@ fn read_line(text: &[u8]) -> Option<(Line<'_>, &[u8])>
     }
     let tail = strip_front(tail, b":")?;
     let (raw, tail) = split_line_bytes(tail);
-    let rest = strip_front(tail, b"\r\n")?;
+    let rest = strip_front(tail, &CRLF)?;
     Some((Line { name, raw }, rest))
 }
 
@@ -148,21 +149,4 @@ fn one_more<'a>(found: Named<'a>, raw: &'a [u8]) -> Named<'a>
         Named::Once(_) => Named::Often,
         Named::Often => Named::Often,
     }
-}
-
-/// The text without the blanks around it.
-pub fn trim_blanks(text: &[u8]) -> &[u8]
-    ensures { result.now ≡ trimmed text.now }
-{
-    let behind = after(text, blanks_len(text));
-    &behind[..behind.len() - end_blanks_len(behind)]
-}
-
-fn end_blanks_len(text: &[u8]) -> usize
-    ensures { result ≡ suffix_len is_blank text.now }
-{
-    text.iter()
-        .rev()
-        .take_while(|c| **c == b' ' || **c == b'\t')
-        .count()
 }

@@ -1,13 +1,15 @@
 // Parameters of a header's value: `; name=value`, where the value is a token or a quoted text.
 ghost use Rattle.std.specs.Prelude.{◌≡◌, ◌∷◌, List, ℕ, true, false, IfOk, MatchBool, MatchOption, Some, None};
 ghost use Rattle.std.specs.List.{prefix_len};
-ghost use Rattle.soc_multipart.specs.Delimiters.{PartsRun, is_blank};
-ghost use Rattle.soc_multipart.specs.Params.{AreParams, EndsQuoted, EndsToken, ParamText, ReadsName, ReadsParam, ReadsValue, SkipsGap, SpellsByte, is_token_byte as passes_token, value_of};
+ghost use Rattle.soc_multipart.specs.Delimiters.{PartsRun};
+ghost use Rattle.soc_text.specs.Blanks.{is_blank};
+ghost use Rattle.soc_multipart.specs.Params.{AreParams, EndsQuoted, EndsToken, ParamText, ReadsName, ReadsParam, ReadsValue, SkipsGap, SpellsByte, value_of};
+ghost use Rattle.soc_text.specs.Tokens.{is_token_byte as passes_token};
 ghost use Rattle.soc_multipart.specs.Views.{param_text, param_texts};
 
 use crate::delimiters::split_blanks;
 use soc_raw::NoMemory;
-use soc_text::strip_front;
+use soc_text::{is_token_byte, strip_front, token_len};
 use std::alloc::Global;
 use std::collections::BTreeSet;
 
@@ -176,19 +178,6 @@ pub fn split_token(text: &[u8]) -> (&[u8], &[u8])
     ensures { PartsRun passes_token text.now result.0.now result.1.now }
 {
     text.split_at(token_len(text))
-}
-
-fn token_len(text: &[u8]) -> usize
-    ensures { result ≡ prefix_len passes_token text.now }
-{
-    text.iter().take_while(|byte| is_token_byte(**byte)).count()
-}
-
-#[tactic(auto, unfolding(crate::specs::Params::is_token_byte))]
-fn is_token_byte(byte: u8) -> bool
-    ensures { result ≡ passes_token byte }
-{
-    byte.is_ascii_alphanumeric() || b"!#$%&'*+-.^_`|~".contains(&byte)
 }
 
 /// The value of the first parameter of this name, without regard to ASCII case.

@@ -4,7 +4,7 @@ use Rattle.std.specs.Str.{IsUtf8, is_utf8}
 use Rattle.std.proofs.lemmas.List.{take-append-drop}
 use Rattle.std.proofs.lemmas.Str.{is_utf8-from_IsUtf8}
 use Rattle.soc_raw.specs.Cursor.{Takes}
-use Rattle.soc_raw.specs.Reading.{blob_at}
+use Rattle.soc_raw.specs.inner.Reading.{blob_at}
 use Rattle.soc_raw.specs.Record.{counted}
 use Rattle.soc_raw.proofs.PairLists.{some_same}
 use Rattle.soc_raw.proofs.Records.{blob_again}

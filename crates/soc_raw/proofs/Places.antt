@@ -13,7 +13,8 @@ use Rattle.std.specs.declared.cmp.Ordering.TheVariants.{Less, Equal, Greater}
 use Rattle.std.proofs.lemmas.List.{length-map, map-set}
 use Rattle.std.proofs.lemmas.Map.Keys.{Less-from_sorted}
 use Rattle.std.proofs.Math.Nat.{eq-or-lt_of_le}
-use Rattle.soc_raw.specs.Names.{IsRising, IsPlaceOf, IsBelow, IsAbove}
+use Rattle.soc_raw.specs.Names.{IsRising}
+use Rattle.soc_raw.specs.inner.Places.{IsPlaceOf, IsBelow, IsAbove}
 
 -- what is above x is above what is below x
 all_above : {K : Type 0} {cmp : K → K → Ordering} → IsTotalOrder cmp → (k x : K) (ks : List K) → cmp k x ≡ Less → AllByRecursion (λ y. cmp x y ≡ Less) ks → AllByRecursion (λ y. cmp k y ≡ Less) ks

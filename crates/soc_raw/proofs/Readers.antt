@@ -13,7 +13,8 @@ use Rattle.std.proofs.lemmas.Str.{IsUtf8-from_is_utf8, is_utf8-from_IsUtf8}
 use Rattle.soc_raw.specs.declared.record_error.RecordError.{RecordError}
 use Rattle.soc_raw.specs.declared.record_error.RecordError.TheVariants.{BadRecord, NoMemory}
 use Rattle.soc_raw.specs.Names.{IsRising, with_value}
-use Rattle.soc_raw.specs.Reading.{◌>>=◌, Refuses, is_above, last_name, pairs_at}
+use Rattle.soc_raw.specs.inner.Reading.{◌>>=◌, is_above, last_name, pairs_at}
+use Rattle.soc_raw.specs.Refusals.{Refuses}
 use Rattle.soc_raw.proofs.PairLists.{some_same}
 
 not_true : (b : Bool) → (b ≡ true → ⊥) → b ≡ false
@@ -108,8 +109,8 @@ goes_on item front next count i bytes after p total lt read above is_next so_far
     rw (is_next, last_pushed front p) refl in
     two ∙ sym one ∙ so_far
 
-pub ends : (item : Item) (e : RecordError) (front : Pairs) (count i : ℕ) (bytes : List ℕ) (total : Option (Pairs × List ℕ)) → i < count → Refuses e (item bytes)
-    → with_front front (pairs_at item (last_name front) (count - i) bytes) ≡ total → Refuses e total
+pub ends : (item : Item) (e : RecordError) (front : Pairs) (count i : ℕ) (bytes : List ℕ) (total : Option (Pairs × List ℕ)) → i < count → Refuses e (item bytes ≡ None)
+    → with_front front (pairs_at item (last_name front) (count - i) bytes) ≡ total → Refuses e (total ≡ None)
 unfolding pairs_at
 ends item NoMemory front count i bytes total lt refused so_far = tt
 ends item BadRecord front count i bytes total lt refused so_far =

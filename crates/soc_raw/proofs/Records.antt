@@ -21,7 +21,8 @@ use Rattle.soc_raw.specs.Record.{Crash, counted, pair_text, pairs_text, head_tex
 use Rattle.soc_raw.specs.declared.record_error.RecordError.{RecordError}
 use Rattle.soc_raw.specs.declared.record_error.RecordError.TheVariants.{BadRecord, NoMemory}
 use Rattle.soc_raw.specs.RawCrash.{IsRefusal}
-use Rattle.soc_raw.specs.Reading.{Refuses, ◌>>=◌, number_at, bytes_at, blob_at, text_at, id_at, is_moment, moment_at, text_pair_at, blob_pair_at, is_above, pairs_at, counted_pairs_at, crash_at}
+use Rattle.soc_raw.specs.inner.Reading.{◌>>=◌, number_at, bytes_at, blob_at, text_at, id_at, is_moment, moment_at, text_pair_at, blob_pair_at, is_above, pairs_at, counted_pairs_at, crash_at}
+use Rattle.soc_raw.specs.Refusals.{Refuses}
 use Rattle.soc_raw.proofs.PairLists.{some_same}
 use Rattle.soc_raw.proofs.Readers.{Item, Pairs}
 use Rattle.soc_raw.proofs.Ids.{id_len}
@@ -395,7 +396,7 @@ read_again c is =
     ap crash_at (in_one_row c.id (to_le_bytes w64 c.moment) (to_le_bytes w64 c.draw) (counted c.rule) (pairs_text c.annotations) (pairs_text c.dumps))
     ∙ rw (one, two, three, four_, five, six) refl
 
-pub refused : (e : RecordError) (bytes : List ℕ) → Refuses e (crash_at bytes) → IsRefusal e bytes
+pub refused : (e : RecordError) (bytes : List ℕ) → Refuses e (crash_at bytes ≡ None) → IsRefusal e bytes
 refused BadRecord bytes none = λ c is whole.
     let read : crash_at bytes ≡ Some c = ap crash_at (sym whole) ∙ read_again c is in
     let clash : None ≡ Some c = sym none ∙ read in

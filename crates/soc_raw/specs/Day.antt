@@ -3,9 +3,23 @@ use Rattle.std.specs.Prelude.{◌≡◌, ℕ, zero, suc, ◌+◌, ◌-◌, ◌/�
 use Rattle.jiff_core.specs.Calendar.{days_in_month}
 use Rattle.soc_raw.specs.declared.day.Date.{Date}
 
+-- the first second of 2000, and the last one of 2099
+abbrev pub first_moment : ℕ
+first_moment = 946_684_800
+
+abbrev pub last_moment : ℕ
+last_moment = 4_102_444_799
+
 -- a moment of the years 2000 to 2099
 abbrev pub IsMoment : ℕ → Type 0
-IsMoment moment = (946_684_800 ≤ moment) × (moment ≤ 4_102_444_799)
+IsMoment moment = (first_moment ≤ moment) × (moment ≤ last_moment)
+
+abbrev pub seconds_of_a_day : ℕ
+seconds_of_a_day = 86_400
+
+-- the days between 1 January 1970 and 1 January 2000
+abbrev pub days_to_2000 : ℕ
+days_to_2000 = 10_957
 
 -- the day that follows
 abbrev pub next_day : Date → Date
@@ -19,9 +33,9 @@ unfoldable pub days_after_2000 : ℕ → Date
 days_after_2000 zero = record { year = 2000; month = 1; day = 1 }
 days_after_2000 (suc n) = next_day (days_after_2000 n)
 
--- the day of a moment: 10,957 days lie between 1 January 1970 and 1 January 2000
+-- the day of a moment
 unfoldable pub day_of : ℕ → Date
-day_of moment = days_after_2000 (moment / 86_400 - 10_957)
+day_of moment = days_after_2000 (moment / seconds_of_a_day - days_to_2000)
 
 -- the calendar has this month and this day
 abbrev pub is_civil : ℕ → ℕ → ℕ → Bool

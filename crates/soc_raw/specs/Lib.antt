@@ -4,7 +4,6 @@ pub mod Day
 pub mod Digit
 pub mod inner
 pub mod Names
-pub mod Parts
 pub mod RawCrash
-pub mod Reading
 pub mod Record
+pub mod Refusals

@@ -1,7 +1,6 @@
 -- Maps from names to values, as lists of pairs in strictly rising byte order of their names (this project's profile).
-use Rattle.std.specs.Prelude.{◌≡◌, ℕ, ◌<◌, ◌≤◌, List, Option, Result, MatchResult, length, slice_index_or}
+use Rattle.std.specs.Prelude.{ℕ, List, Option}
 use Rattle.std.specs.declared.cmp.Ordering.{Ordering}
-use Rattle.std.specs.declared.cmp.Ordering.TheVariants.{Less, Equal, Greater}
 use Rattle.std.specs.Ordering.{nat_cmp}
 use Rattle.std.specs.List.Sorted.{IsStrictlySortedBy}
 use Rattle.std.specs.Cmp.Lexicographic.{slice_cmp}
@@ -23,17 +22,3 @@ value_of ps name = lookup (is_at (slice_cmp nat_cmp name)) ps
 -- the pairs once a name has a value: it stands at its place in the order, or instead of the name's old value
 abbrev pub with_value : {V : Type 0} → List (List ℕ × V) → List ℕ → V → List (List ℕ × V)
 with_value ps name value = insert_entry (slice_cmp nat_cmp) ps name value
-
--- each name before the place is below this one
-abbrev pub IsBelow : {V : Type 0} → List (List ℕ × V) → List ℕ → ℕ → Type 0
-IsBelow ps name i = (j : ℕ) (d : List ℕ) → j < i → slice_cmp nat_cmp name (slice_index_or (keys_of ps) j d) ≡ Greater
-
--- each name from the place on is above this one
-abbrev pub IsAbove : {V : Type 0} → List (List ℕ × V) → List ℕ → ℕ → Type 0
-IsAbove ps name i = (j : ℕ) (d : List ℕ) → i ≤ j → j < length ps → slice_cmp nat_cmp name (slice_index_or (keys_of ps) j d) ≡ Less
-
--- where a name stands among the pairs (`Ok`), or where it would stand (`Err`)
-abbrev pub IsPlaceOf : {V : Type 0} → List (List ℕ × V) → List ℕ → Result ℕ ℕ → Type 0
-IsPlaceOf ps name r =
-    MatchResult r (λ i. (i < length ps) × IsBelow ps name i × ((d : List ℕ) → slice_cmp nat_cmp name (slice_index_or (keys_of ps) i d) ≡ Equal))
-    (λ i. (i ≤ length ps) × IsBelow ps name i × IsAbove ps name i)

@@ -2,7 +2,7 @@
 use Rattle.std.specs.Prelude.{◌≡◌, ℕ, List}
 use Rattle.soc_raw.specs.Record.{Crash, IsNoRecord, record_of}
 use Rattle.soc_raw.specs.declared.record_error.RecordError.{RecordError}
-use Rattle.soc_raw.specs.declared.record_error.RecordError.TheVariants.{BadRecord, NoMemory}
+use Rattle.soc_raw.specs.Refusals.{Refuses}
 use Rattle.soc_raw.specs.declared.raw_crash.RawCrash.{RawCrash}
 
 -- the raw crash without where it lies in memory
@@ -17,7 +17,6 @@ record_text r = record_of (crash_of r)
 abbrev pub HasSameContent : RawCrash → RawCrash → Type 0
 HasSameContent a b = (a.annotations ≡ b.annotations) × (a.dumps ≡ b.dumps)
 
--- bytes are refused exactly where they are no record; want of memory is free
+-- bytes are refused exactly where they are no record
 abbrev pub IsRefusal : RecordError → List ℕ → Type 0
-IsRefusal BadRecord bytes = IsNoRecord bytes
-IsRefusal NoMemory bytes = Unit {0}
+IsRefusal e bytes = Refuses e (IsNoRecord bytes)

@@ -3,7 +3,7 @@ ghost use Rattle.std.specs.Prelude.{◌≡◌, ◌<◌, ◌^◌, ◌∷◌, [], 
 ghost use Rattle.std.specs.Int.{from_le_bytes, to_le_bytes, w32, w64};
 ghost use Rattle.std.specs.Str.{IsUtf8, is_utf8};
 ghost use Rattle.soc_raw.specs.Cursor.{Takes};
-ghost use Rattle.soc_raw.specs.Reading.{ReadsAs, number_at, bytes_at, blob_at, text_at};
+ghost use Rattle.soc_raw.specs.inner.Reading.{ReadsAs, number_at, bytes_at, blob_at, text_at};
 ghost use Rattle.soc_raw.specs.Record.{counted};
 
 use std::marker::Model;
@@ -87,7 +87,7 @@ impl<'a> Cursor<'a> {
     }
 
     /// Bytes behind their number in 4 bytes.
-    #[tactic(auto, unfolding(crate::specs::Reading::blob_at))]
+    #[tactic(auto, unfolding(crate::specs::inner::Reading::blob_at))]
     pub fn counted(&mut self) -> Option<&'a [u8]>
         ensures takes { Takes (λ b. b.now) (λ b. length b < 2 ^ 32) counted result self.old self.new }
         ensures reads { ReadsAs (λ b. b.now) blob_at result self.old self.new }
@@ -100,7 +100,7 @@ impl<'a> Cursor<'a> {
     }
 
     /// A text behind the number of its bytes in 4 bytes.
-    #[tactic(auto, unfolding(crate::specs::Reading::text_at))]
+    #[tactic(auto, unfolding(crate::specs::inner::Reading::text_at))]
     pub fn text(&mut self) -> Option<&'a str>
         ensures takes { Takes (λ t. t.now) (λ t. IsUtf8 t × (length t < 2 ^ 32)) counted result self.old self.new }
         ensures reads { ReadsAs (λ t. t.now) text_at result self.old self.new }

@@ -1,7 +1,7 @@
 //! A record, read as its parts.
 ghost use Rattle.std.specs.Prelude.{◌≡◌};
-ghost use Rattle.soc_raw.specs.Reading.{Gives, crash_at};
-ghost use Rattle.soc_raw.specs.Parts.{crash_of_parts};
+ghost use Rattle.soc_raw.specs.inner.Reading.{Gives, crash_at};
+ghost use Rattle.soc_raw.specs.inner.Parts.{crash_of_parts};
 
 use crate::blobs::Blobs;
 use crate::crash_id::CrashId;
@@ -24,7 +24,7 @@ pub struct Parts {
 }
 
 /// The parts of the record that the bytes are.
-#[tactic(auto, unfolding(crate::specs::Reading::crash_at))]
+#[tactic(auto, unfolding(crate::specs::inner::Reading::crash_at))]
 pub fn parts_of(alloc: Global, bytes: &[u8]) -> Result<Parts, RecordError>
     ensures { Gives crash_of_parts result (crash_at bytes.now) }
 {

@@ -1,7 +1,7 @@
 //! Raw crashes.
 ghost use Rattle.std.specs.Prelude.{◌≡◌, ◌≤◌, ◌↔◌, ◌++◌, List, ℕ, length, drop, IfOk, IfErr, OnOk, OnErr, IsTrue};
 ghost use Rattle.soc_raw.specs.Day.{IsMoment};
-ghost use Rattle.soc_raw.specs.Record.{MAX_RECORD as max_record, Crash, IsCrash, record_of, head_text, content_text};
+ghost use Rattle.soc_raw.specs.Record.{MAX_ANNOTATIONS as max_annotations, MAX_DUMPS as max_dumps, MAX_RECORD as max_record, Crash, IsCrash, record_of, head_text, content_text};
 ghost use Rattle.soc_raw.specs.inner.Writing.{Extends};
 
 use crate::blobs::Blobs;
@@ -34,8 +34,8 @@ pub struct RawCrash {
     /// At most 512.
     pub dumps: Blobs,
     pub ghost moment_in: { IsMoment moment },
-    pub ghost few_annotations: { length annotations ≤ 1024 },
-    pub ghost few_dumps: { length dumps ≤ 512 },
+    pub ghost few_annotations: { length annotations ≤ max_annotations },
+    pub ghost few_dumps: { length dumps ≤ max_dumps },
     // The record has at most 67,108,864 bytes.
     pub ghost fits: { length (record_of (record { id = id; moment = moment; draw = draw; rule = rule; annotations = annotations; dumps = dumps })) ≤ max_record },
 }

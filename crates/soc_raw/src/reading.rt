@@ -2,7 +2,7 @@
 ghost use Rattle.std.specs.Prelude.{◌≡◌, None};
 ghost use Rattle.std.specs.Int.{w32, w64};
 ghost use Rattle.soc_raw.specs.Names.{IsRising};
-ghost use Rattle.soc_raw.specs.Reading.{GivesFrom, number_at, blob_at, text_at, id_at, moment_at, text_pair_at, blob_pair_at, is_above, last_name, pairs_at, counted_pairs_at};
+ghost use Rattle.soc_raw.specs.inner.Reading.{GivesFrom, number_at, blob_at, text_at, id_at, moment_at, text_pair_at, blob_pair_at, is_above, last_name, pairs_at, counted_pairs_at};
 
 use crate::blobs::Blobs;
 use crate::bytes::Bytes;
@@ -49,7 +49,7 @@ pub fn text_at<'a>(cursor: &mut Cursor<'a>) -> Result<&'a str, RecordError>
 }
 
 /// A crash id.
-#[tactic(auto, unfolding(crate::specs::Reading::id_at))]
+#[tactic(auto, unfolding(crate::specs::inner::Reading::id_at))]
 pub fn id_at(cursor: &mut Cursor<'_>) -> Result<CrashId, RecordError>
     ensures { GivesFrom (λ id. id) id_at result cursor.old cursor.new }
 {
@@ -60,7 +60,7 @@ pub fn id_at(cursor: &mut Cursor<'_>) -> Result<CrashId, RecordError>
 }
 
 /// A moment of a clock.
-#[tactic(auto, unfolding(crate::specs::Reading::moment_at))]
+#[tactic(auto, unfolding(crate::specs::inner::Reading::moment_at))]
 pub fn moment_at(cursor: &mut Cursor<'_>) -> Result<u64, RecordError>
     ensures { GivesFrom (λ n. n) moment_at result cursor.old cursor.new }
 {
@@ -72,7 +72,7 @@ pub fn moment_at(cursor: &mut Cursor<'_>) -> Result<u64, RecordError>
     }
 }
 
-#[tactic(auto, unfolding(crate::specs::Reading::text_pair_at))]
+#[tactic(auto, unfolding(crate::specs::inner::Reading::text_pair_at))]
 fn text_pair_at<'a>(cursor: &mut Cursor<'a>) -> Result<(&'a str, &'a str), RecordError>
     ensures { GivesFrom (λ p. (p.0.now, p.1.now)) text_pair_at result cursor.old cursor.new }
 {
@@ -81,7 +81,7 @@ fn text_pair_at<'a>(cursor: &mut Cursor<'a>) -> Result<(&'a str, &'a str), Recor
     Ok((name, value))
 }
 
-#[tactic(auto, unfolding(crate::specs::Reading::blob_pair_at))]
+#[tactic(auto, unfolding(crate::specs::inner::Reading::blob_pair_at))]
 fn blob_pair_at<'a>(cursor: &mut Cursor<'a>) -> Result<(&'a str, &'a [u8]), RecordError>
     ensures { GivesFrom (λ p. (p.0.now, p.1.now)) blob_pair_at result cursor.old cursor.new }
 {
@@ -149,9 +149,9 @@ fn blobs_after(alloc: Global, count: u32, cursor: &mut Cursor<'_>) -> Result<Blo
 }
 
 /// The annotations: their number, and each of them.
-#[tactic(auto, unfolding(crate::specs::Reading::counted_pairs_at))]
+#[tactic(auto, unfolding(crate::specs::inner::Reading::counted_pairs_at))]
 pub fn texts_at(alloc: Global, cursor: &mut Cursor<'_>) -> Result<Texts, RecordError>
-    ensures { GivesFrom (λ m. m) (counted_pairs_at text_pair_at 1024) result cursor.old cursor.new }
+    ensures { GivesFrom (λ m. m) (counted_pairs_at text_pair_at MAX_ANNOTATIONS) result cursor.old cursor.new }
 {
     let count = u32_at(cursor)?;
     if count > MAX_ANNOTATIONS {
@@ -161,9 +161,9 @@ pub fn texts_at(alloc: Global, cursor: &mut Cursor<'_>) -> Result<Texts, RecordE
 }
 
 /// The dumps: their number, and each of them.
-#[tactic(auto, unfolding(crate::specs::Reading::counted_pairs_at))]
+#[tactic(auto, unfolding(crate::specs::inner::Reading::counted_pairs_at))]
 pub fn blobs_at(alloc: Global, cursor: &mut Cursor<'_>) -> Result<Blobs, RecordError>
-    ensures { GivesFrom (λ m. m) (counted_pairs_at blob_pair_at 512) result cursor.old cursor.new }
+    ensures { GivesFrom (λ m. m) (counted_pairs_at blob_pair_at MAX_DUMPS) result cursor.old cursor.new }
 {
     let count = u32_at(cursor)?;
     if count > MAX_DUMPS {

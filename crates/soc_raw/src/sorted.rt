@@ -1,7 +1,8 @@
 //! Maps from names to values of one type, in rising byte order of names.
 ghost use Rattle.std.specs.Prelude.{◌≡◌, ◌<◌, ◌↔◌, [], length, map, IsTrue, OnOk, OnErr, slice_get};
 ghost use Rattle.std.specs.Option.{option_copied};
-ghost use Rattle.soc_raw.specs.Names.{byte_cmp, IsRising, IsPlaceOf, value_of, with_value};
+ghost use Rattle.soc_raw.specs.Names.{byte_cmp, IsRising, value_of, with_value};
+ghost use Rattle.soc_raw.specs.inner.Places.{IsPlaceOf};
 
 use crate::named::{Named, NamedValues};
 use crate::no_memory::NoMemory;

@@ -1,10 +1,7 @@
 -- What holds of the words and the tokens of a token file, along their lists.
-use Rattle.std.proofs.Common.{◌≡◌, ℕ, ◌+◌, ◌<◌, ◌≤◌, List, [], ◌∷◌, ◌++◌, length, get_or, take, drop, None, Some, Result, Err, option_and_then, refl, sym, ap, ◌∙◌, arith, length-append, ⊎_elim}
-use Rattle.std.specs.List.{slice_get}
+use Rattle.std.proofs.Common.{append_assoc, ◌≡◌, ℕ, ◌+◌, ◌<◌, ◌≤◌, List, [], ◌∷◌, ◌++◌, length, get_or, drop, None, Some, Result, Err, option_and_then, refl, sym, ap, ◌∙◌, arith, length-append, ⊎_elim}
 use Rattle.std.specs.Option.{option_map_or}
 use Rattle.std.proofs.lemmas.Bool.{le-ltb, cases_lt}
-use Rattle.std.proofs.lemmas.List.{drop_more, take_more}
-use Rattle.std.proofs.lemmas.Option.{get_or_from_slice_get}
 use Rattle.toml.specs.Data.{Data}
 use Rattle.toml.specs.View.{view, items_view}
 use Rattle.toml.proofs.Views.{items_view-drop}
@@ -15,23 +12,20 @@ use Rattle.soc_schema.specs.Permits.{with_permission}
 use Rattle.soc_schema.specs.declared.token.Token.{Token}
 use Rattle.soc_schema.specs.TokenFile.{permission_named, with_named, next_token, tokens_from}
 
--- a list copied as far as i, and one more
-pub copied_more : (copy more texts : List (List ℕ)) (i : ℕ) (text read : List ℕ) → copy ≡ take i texts → i < length texts → slice_get texts i ≡ Some read → text ≡ read → more ≡ copy ++ text ∷ [] → more ≡ take (i + 1) texts
-copied_more copy more texts i text read so_far within here same pushed =
-    pushed ∙ (ap (λ c. c ++ text ∷ []) so_far ∙ (ap (λ t. take i texts ++ t ∷ []) (same ∙ sym (get_or_from_slice_get texts i read [] here)) ∙ sym (take_more texts i [] within)))
+-- one text more is copied
+pub copied_more : (copy more left rest texts : List (List ℕ)) (text read : List ℕ) → left ≡ read ∷ rest → text ≡ read → more ≡ copy ++ text ∷ [] → copy ++ left ≡ texts → more ++ rest ≡ texts
+copied_more copy more left rest texts text read next same pushed so_far =
+    ap (λ c. c ++ rest) pushed ∙ (append_assoc copy (text ∷ []) rest ∙ (ap (λ t. copy ++ t ∷ rest) same ∙ (ap (λ t. copy ++ t) (sym next) ∙ so_far)))
 
--- the word at i is looked at next
-pub with_named-next : (s : Permissions) (words : List (List ℕ)) (i : ℕ) (word : List ℕ) → i < length words → slice_get words i ≡ Some word → with_named s (drop i words) ≡ option_and_then (λ p. with_named (with_permission s p) (drop (i + 1) words)) (permission_named word)
-with_named-next s words i word within here =
-    ap (with_named s) (drop_more words i [] within) ∙ ap (λ w. option_and_then (λ p. with_named (with_permission s p) (drop (i + 1) words)) (permission_named w)) (get_or_from_slice_get words i word [] here)
+-- a word that names no permission
+pub with_named-refused : (s t : Permissions) (words left rest : List (List ℕ)) (word : List ℕ) → with_named s words ≡ with_named t left → left ≡ word ∷ rest → None ≡ permission_named word → with_named s words ≡ None
+with_named-refused s t words left rest word so_far next none =
+    so_far ∙ (ap (with_named t) next ∙ ap (option_and_then (λ p. with_named (with_permission t p) rest)) (sym none))
 
-pub with_named-refused : (s t : Permissions) (words : List (List ℕ)) (i : ℕ) (word : List ℕ) → with_named s words ≡ with_named t (drop i words) → i < length words → slice_get words i ≡ Some word → None ≡ permission_named word → with_named s words ≡ None
-with_named-refused s t words i word so_far within here none =
-    so_far ∙ (with_named-next t words i word within here ∙ ap (option_and_then (λ p. with_named (with_permission t p) (drop (i + 1) words))) (sym none))
-
-pub with_named-taken : (s t u : Permissions) (words : List (List ℕ)) (i : ℕ) (word : List ℕ) (p : Permission) → with_named s words ≡ with_named t (drop i words) → i < length words → slice_get words i ≡ Some word → Some p ≡ permission_named word → u ≡ with_permission t p → with_named s words ≡ with_named u (drop (i + 1) words)
-with_named-taken s t u words i word p so_far within here found added =
-    so_far ∙ (with_named-next t words i word within here ∙ (ap (option_and_then (λ q. with_named (with_permission t q) (drop (i + 1) words))) (sym found) ∙ ap (λ v. with_named v (drop (i + 1) words)) (sym added)))
+-- a word that names one
+pub with_named-taken : (s t u : Permissions) (words left rest : List (List ℕ)) (word : List ℕ) (p : Permission) → with_named s words ≡ with_named t left → left ≡ word ∷ rest → Some p ≡ permission_named word → u ≡ with_permission t p → with_named s words ≡ with_named u rest
+with_named-taken s t u words left rest word p so_far next found added =
+    so_far ∙ (ap (with_named t) next ∙ (ap (option_and_then (λ q. with_named (with_permission t q) rest)) (sym found) ∙ ap (λ v. with_named v rest) (sym added)))
 
 -- a token stands behind fewer than 256 others
 next_token-few : (earlier : List Token) (value : Data) (t : Token) → Some t ≡ next_token earlier value → length earlier < 256

@@ -58,8 +58,8 @@ fn copy_texts(alloc: Global, texts: &TextList) -> Result<TextList, NoMemory>
     ensures { IfOk result (λ copy. copy ≡ texts.now) }
 {
     let mut copy = TextList::new(alloc);
-    for i in 0..texts.len() {
-        copy.push(Text::of(alloc, texts.at(i))?)?;
+    for text in texts {
+        copy.push(Text::of(alloc, text)?)?;
     }
     Ok(copy)
 }

@@ -18,7 +18,7 @@ pub use field::{Field, FieldKind};
 pub use permission::{Permission, Permissions};
 pub use processed::Processed;
 pub use reporter::{Bare, Reporter, product_of};
-pub use row::Row;
+pub use row::{Cells, Row};
 pub use sight::{granted, visible};
 pub use token::{Token, TokenError, Tokens};
 pub use value::{Cell, Value};

@@ -89,6 +89,16 @@ impl Row {
         (cell.field, &cell.value)
     }
 
+    /// The fields and their values, in the order of the table.
+    pub fn iter(&self) -> Cells<'_>
+        ensures rest { result ≡ self.now }
+        ensures is_row { IsRow self.now }
+    {
+        Cells {
+            rest: self.cells.as_slice(),
+        }
+    }
+
     /// The cells in order.
     pub(crate) fn cells(&self) -> &[Cell]
         ensures value { result.now ≡ self.now }
@@ -116,6 +126,54 @@ impl Row {
             }
         }
         Ok(Row { cells })
+    }
+}
+
+impl<'a> IntoIterator for &'a Row {
+    ghost use Rattle.std.specs.Prelude.{◌≡◌};
+    ghost use Rattle.soc_schema.specs.Rows.{IsRow};
+
+    type Item = (Field, &'a Value);
+
+    type IntoIter = Cells<'a>;
+
+    ghost into_iter_gives = { λ row it. (it ≡ row.now) × IsRow row.now };
+
+    fn into_iter(self) -> Cells<'a> {
+        self.iter()
+    }
+}
+
+/// The fields and values that are left of a row. Contracts see their list.
+#[derive(Drop)]
+pub struct Cells<'a> {
+    rest: &'a [Cell],
+}
+
+impl<'a> Model for Cells<'a> {
+    ghost use Rattle.std.specs.Prelude.{List};
+    ghost use Rattle.soc_schema.specs.declared.value.Cell.{Cell};
+
+    ghost Value = { List Cell };
+
+    ghost view = { λ it. it.rest.now };
+}
+
+impl<'a> Iterator for Cells<'a> {
+    ghost use Rattle.std.specs.Iterator.{item_count};
+    ghost use Rattle.std.specs.Map.Iter.{TakesFirst};
+    ghost use Rattle.soc_schema.specs.Rows.{cell};
+
+    type Item = (Field, &'a Value);
+
+    ghost next_gives = { TakesFirst (λ item. cell item.0 item.1.now) };
+
+    ghost remaining = { item_count (λ rest. rest) };
+
+    fn next(&mut self) -> Option<(Field, &'a Value)> {
+        let (first, rest) = self.rest.split_first()?;
+        self.rest = rest;
+        Some((first.field, &first.value))
     }
 }
 

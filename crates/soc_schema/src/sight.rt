@@ -22,20 +22,8 @@ pub fn visible(caller: &Caller, product: Option<&str>) -> bool
     match &caller.products {
         Products::All => true,
         Products::Some(names) => match product {
-            Some(product) => contains(names, product),
+            Some(product) => names.contains(product),
             None => false,
         },
     }
-}
-
-/// Whether the list has the text.
-fn contains(names: &TextList, text: &str) -> bool
-    ensures { IsTrue result ↔ Contains names.now text.now }
-{
-    for i in 0..names.len() {
-        if names.at(i) == text {
-            return true;
-        }
-    }
-    false
 }

@@ -228,8 +228,8 @@ fn permissions_named(words: &TextList) -> Option<Permissions>
     ensures { result ≡ with_named public_alone words.now }
 {
     let mut permissions = Permissions::public();
-    for i in 0..words.len() {
-        let permission = permission_named(words.at(i))?;
+    for word in words {
+        let permission = permission_named(word)?;
         permissions.add(permission);
     }
     Some(permissions)

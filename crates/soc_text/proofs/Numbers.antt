@@ -9,12 +9,12 @@ use Rattle.std.proofs.lemmas.Bool.Decides.{nat_tests}
 use Rattle.std.specs.Char.{digit_value, is_ascii_digit}
 use Rattle.std.specs.Str.Parse.{digits_value, AllDigits}
 
--- up to 17 digits write a number below 10 ^ 17
-pub few_digits : (bytes : List ℕ) (i : ℕ) → i < length bytes → length bytes ≤ 18 → AllDigits 10 (take i bytes) → digits_value 10 (take i bytes) < 10 ^ 17
+-- up to 18 digits write a number below 10 ^ 18
+pub few_digits : (bytes : List ℕ) (i : ℕ) → i < length bytes → length bytes ≤ 19 → AllDigits 10 (take i bytes) → digits_value 10 (take i bytes) < 10 ^ 18
 few_digits bytes i inside few digits =
     let len : length (take i bytes) ≡ i = length-take-le i bytes (omega arith) in
     let below = rw len at (digits_value-lt 10 (take i bytes) digits) in
-    let power : 10 ^ i ≤ 10 ^ 17 = pow-le-pow_right {n = 10} (lit< tt) {i = i} {j = 17} (omega arith) in
+    let power : 10 ^ i ≤ 10 ^ 18 = pow-le-pow_right {n = 10} (lit< tt) {i = i} {j = 18} (omega arith) in
     omega arith
 
 -- one digit more

@@ -1,6 +1,5 @@
 -- Decimal and lower-case hexadecimal digits, in ASCII.
-use Rattle.std.specs.Prelude.{ℕ, ◌+◌, ◌-◌, ◌*◌, ◌/◌, ◌%◌, ◌≤◌, Bool, ◌||◌, IsTrue, List, [], ◌∷◌, length}
-use Rattle.std.specs.Char.{is_ascii_digit}
+use Rattle.std.specs.Prelude.{ℕ, ◌+◌, ◌-◌, ◌*◌, ◌/◌, ◌%◌, ◌≤◌, Bool, ◌||◌, List, [], ◌∷◌, length}
 use Rattle.std.specs.Int.{is_in_range}
 use Rattle.std.specs.Str.Parse.{IsNumeral}
 
@@ -11,9 +10,6 @@ is_lower_hex byte = is_in_range 48 57 byte || is_in_range 97 102 byte
 -- the digits of a number below 100
 abbrev pub two_digits : ℕ → List ℕ
 two_digits n = (48 + n / 10) ∷ (48 + n % 10) ∷ []
-
-abbrev pub AreTwoDigits : ℕ → ℕ → Type 0
-AreTwoDigits tens ones = IsTrue (is_ascii_digit tens) × IsTrue (is_ascii_digit ones)
 
 -- the number that two digits write
 abbrev pub two_digits_value : ℕ → ℕ → ℕ

@@ -1,2 +1,5 @@
+pub mod Blanks
 pub mod Digits
 pub mod Lines
+pub mod Paths
+pub mod Tokens

@@ -2,7 +2,7 @@
 
 ghost use Rattle.std.specs.Prelude.{◌≡◌, ◌+◌, ◌<◌, ◌≤◌, ℕ, length, MatchOption};
 ghost use Rattle.std.specs.Str.Parse.{digits_value};
-ghost use Rattle.soc_text.specs.Digits.{is_lower_hex, two_digits, two_digits_value, AreTwoDigits, IsNumber};
+ghost use Rattle.soc_text.specs.Digits.{is_lower_hex, two_digits, IsNumber};
 
 /// Whether the byte is a digit or one of `a` to `f`.
 pub fn is_lower_hex(byte: u8) -> bool
@@ -19,20 +19,9 @@ pub fn two_digits(number: u8) -> [u8; 2]
     [b'0' + number / 10, b'0' + number % 10]
 }
 
-/// The number below 100 that two digits write.
-pub fn two_digits_value(tens: u8, ones: u8) -> Option<u8>
-    ensures { MatchOption result (¬ (AreTwoDigits tens ones)) (λ n. AreTwoDigits tens ones × (n ≡ two_digits_value tens ones)) }
-{
-    if tens.is_ascii_digit() && ones.is_ascii_digit() {
-        Some((tens - b'0') * 10 + (ones - b'0'))
-    } else {
-        None
-    }
-}
-
-/// The number that 1 to `most` digits write, leading zeros allowed, and no sign.
+/// The number that 1 to `most` digits write, leading zeros allowed, and no sign. Nineteen digits fit 64 bits.
 pub fn number(bytes: &[u8], most: usize) -> Option<u64>
-    requires { most ≤ 18 }
+    requires { most ≤ 19 }
     ensures { MatchOption result (¬ (IsNumber most bytes.now)) (λ n. IsNumber most bytes.now × (n ≡ digits_value 10 bytes.now)) }
 {
     if bytes.is_empty() || bytes.len() > most {

@@ -1,3 +1,2 @@
 pub mod AcceptAll
-pub mod Lists
 pub mod Names

@@ -60,7 +60,7 @@ impl Condition {
                 None => false,
             },
             Condition::OneOf { key, values } => match annotations.get(key.as_str()) {
-                Some(text) => is_among(text, values),
+                Some(text) => values.contains(text),
                 None => false,
             },
         }
@@ -74,15 +74,4 @@ impl Rule {
     {
         self.condition.holds(annotations) && draw % 100 < self.percent
     }
-}
-
-fn is_among(text: &str, values: &TextList) -> bool
-    ensures { result ≡ list_any (bytes_eq text.now) values.now }
-{
-    for i in 0..values.len() {
-        if text == values.at(i) {
-            return true;
-        }
-    }
-    false
 }

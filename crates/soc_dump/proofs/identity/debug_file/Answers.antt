@@ -1,5 +1,5 @@
 use Rattle.std.proofs.Common.{◌∙◌, ap, sym}
-use Rattle.soc_dump.specs.Identity.{base_name_of}
+use Rattle.soc_text.specs.Paths.{base_name_of}
 use Rattle.soc_dump.specs.Views.{module_entry}
 use Rattle.soc_dump.proofs.IdentityLemmas.{debug_file_of-pdb, debug_file_of-build, debug_file_of-other}
 use Rattle.soc_dump.proofs.identity.debug_file.Goals as goal

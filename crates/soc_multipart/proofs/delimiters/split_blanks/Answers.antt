@@ -1,5 +1,5 @@
 use Rattle.std.proofs.lemmas.List.Sums.{prefix_len-le-length}
-use Rattle.soc_multipart.specs.Delimiters.{is_blank}
+use Rattle.soc_text.specs.Blanks.{is_blank}
 use Rattle.soc_multipart.proofs.Basics.{parts_run}
 use Rattle.soc_multipart.proofs.delimiters.split_blanks.Goals as goal
 

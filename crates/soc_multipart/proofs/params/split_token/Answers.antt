@@ -1,5 +1,5 @@
 use Rattle.std.proofs.lemmas.List.Sums.{prefix_len-le-length}
-use Rattle.soc_multipart.specs.Params.{is_token_byte}
+use Rattle.soc_text.specs.Tokens.{is_token_byte}
 use Rattle.soc_multipart.proofs.Basics.{parts_run}
 use Rattle.soc_multipart.proofs.params.split_token.Goals as goal
 

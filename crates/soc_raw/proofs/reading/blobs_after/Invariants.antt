@@ -1,5 +1,5 @@
 use Rattle.std.proofs.Common.{◌≡◌, ◌-◌, None}
-use Rattle.soc_raw.specs.Reading.{blob_pair_at, last_name, pairs_at}
+use Rattle.soc_raw.specs.inner.Reading.{blob_pair_at, last_name, pairs_at}
 use Rattle.soc_raw.proofs.Readers.{with_front}
 use Rattle.soc_raw.proofs.reading.blobs_after.Given as goal
 

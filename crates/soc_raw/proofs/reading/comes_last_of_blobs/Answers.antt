@@ -1,5 +1,5 @@
 use Rattle.std.proofs.Common.{arith, sym, ap, ◌∙◌}
-use Rattle.soc_raw.specs.Reading.{is_above}
+use Rattle.soc_raw.specs.inner.Reading.{is_above}
 use Rattle.soc_raw.proofs.Readers.{last_none, last_some}
 use Rattle.soc_raw.proofs.reading.comes_last_of_blobs.Goals as goal
 

@@ -1,6 +1,6 @@
 use Rattle.std.proofs.Common.{sym, ◌∙◌, None}
 use Rattle.std.proofs.lemmas.Result.{err_from_is_err_and}
-use Rattle.soc_raw.specs.Reading.{text_pair_at, pairs_at}
+use Rattle.soc_raw.specs.inner.Reading.{text_pair_at, pairs_at}
 use Rattle.soc_raw.proofs.Readers.{started, goes_on, ends, ends_low, is_done, set_last}
 use Rattle.soc_raw.proofs.reading.texts_after.Goals as goal
 

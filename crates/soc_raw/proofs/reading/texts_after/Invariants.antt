@@ -1,5 +1,5 @@
 use Rattle.std.proofs.Common.{◌≡◌, ◌-◌, None}
-use Rattle.soc_raw.specs.Reading.{text_pair_at, last_name, pairs_at}
+use Rattle.soc_raw.specs.inner.Reading.{text_pair_at, last_name, pairs_at}
 use Rattle.soc_raw.proofs.Readers.{with_front}
 use Rattle.soc_raw.proofs.reading.texts_after.Given as goal
 

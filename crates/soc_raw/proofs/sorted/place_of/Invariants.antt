@@ -1,5 +1,5 @@
 use Rattle.std.proofs.Common.{◌≤◌, length, map, ◌-◌}
-use Rattle.soc_raw.specs.Names.{IsBelow, IsAbove}
+use Rattle.soc_raw.specs.inner.Places.{IsBelow, IsAbove}
 use Rattle.soc_raw.proofs.sorted.place_of.Given as goal
 
 abbrev pub invariant-loop-low : goal.invariant-loop-low

@@ -1,5 +1,6 @@
-use Rattle.std.proofs.Common.{◌≡◌, take}
+use Rattle.std.proofs.Common.{◌≡◌, ◌++◌}
 use Rattle.soc_schema.proofs.caller.copy_texts.Given as goal
 
-abbrev pub invariant-loop-i : goal.invariant-loop-i
-invariant-loop-i l = l.copy ≡ take l.i l.texts
+-- the texts so far, and those that are left
+abbrev pub invariant-loop-text : goal.invariant-loop-text
+invariant-loop-text l = l.copy ++ l.text-iterator ≡ l.texts

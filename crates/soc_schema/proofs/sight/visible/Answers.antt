@@ -1,11 +1,10 @@
 use Rattle.std.proofs.Common.{◌∙◌, ap, sym, Some}
 use Rattle.std.specs.Option.{option_map}
 use Rattle.soc_schema.specs.Permits.{shows}
-use Rattle.soc_schema.proofs.SightLemmas.{same_search}
 use Rattle.soc_schema.proofs.sight.visible.Goals as goal
 
 pub returns-in-Some-product-clause-test : goal.returns-in-Some-product-clause-test
 returns-in-Some-product-clause-test c =
-    same_search c.in-Some.names c.in-Some-product.product.now c.contains.result c.contains.ensures
+    c.contains.ensures.test
     ∙ (ap (λ products. shows products (Some c.in-Some-product.product.now)) (sym c.in-Some.is)
     ∙ ap (λ product. shows c.args.caller.now.products (option_map (λ p. p.now) product)) (sym c.in-Some-product.is))

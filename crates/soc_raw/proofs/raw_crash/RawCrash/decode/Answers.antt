@@ -1,6 +1,6 @@
 use Rattle.std.proofs.Common.{arith}
 use Rattle.std.proofs.lemmas.Result.{err_from_is_err_and}
-use Rattle.soc_raw.specs.Parts.{crash_of_parts}
+use Rattle.soc_raw.specs.inner.Parts.{crash_of_parts}
 use Rattle.soc_raw.proofs.Records.{read_is, refused}
 use Rattle.soc_raw.proofs.raw_crash.RawCrash.decode.Goals as goal
 

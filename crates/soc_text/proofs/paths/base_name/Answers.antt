@@ -1,7 +1,7 @@
 use Rattle.std.proofs.Common.{◌≡◌, ℕ, ◌+◌, ◌-◌, ◌<◌, ◌≤◌, List, length, get_or, arith}
 use Rattle.std.specs.Str.{IsUtf8}
 use Rattle.std.proofs.lemmas.Str.{lead_after_ascii}
-use Rattle.soc_dump.proofs.base_name.base_name.Goals as goal
+use Rattle.soc_text.proofs.paths.base_name.Goals as goal
 
 -- a character begins behind an ASCII byte
 begins_behind : (text : List ℕ) (at : ℕ) → IsUtf8 text → 0 < at → at ≤ length text → get_or text (at - 1) 0 < 128

@@ -4,8 +4,9 @@ use Rattle.std.specs.Int.{Width, w32, w64, byte_len, from_le_bytes}
 use Rattle.std.specs.Ordering.{is_lt}
 use Rattle.std.specs.Str.{is_utf8}
 use Rattle.soc_raw.specs.declared.record_error.RecordError.{RecordError}
-use Rattle.soc_raw.specs.declared.record_error.RecordError.TheVariants.{BadRecord, NoMemory}
-use Rattle.soc_raw.specs.CrashId.{is_id}
+use Rattle.soc_raw.specs.Refusals.{Refuses}
+use Rattle.soc_raw.specs.CrashId.{id_length, is_id}
+use Rattle.soc_raw.specs.Day.{first_moment, last_moment}
 use Rattle.soc_raw.specs.Names.{byte_cmp}
 use Rattle.soc_raw.specs.Record.{Crash, MAX_ANNOTATIONS, MAX_DUMPS}
 
@@ -14,15 +15,10 @@ abbrev pub ◌>>=◌ : {A B : Type 0} → Option A → (A → Option B) → Opti
 None >>= f = None
 (Some x) >>= f = f x
 
--- a refusal other than for want of memory comes exactly where nothing is read
-abbrev pub Refuses : {Y : Type 0} → RecordError → Option Y → Type 0
-Refuses BadRecord read = read ≡ None
-Refuses NoMemory read = Unit {0}
-
 -- what was answered, seen by view, is what is read, unless memory ran out
 abbrev pub Gives : {X Y : Type 0} → (X → Y) → Result X RecordError → Option Y → Type 0
 Gives view (Ok x) read = read ≡ Some (view x)
-Gives view (Err e) read = Refuses e read
+Gives view (Err e) read = Refuses e (read ≡ None)
 
 -- what a read of the front answered, seen by view, and what it left are what `at` reads of the bytes
 abbrev pub ReadsAs : {X Y : Type 0} → (X → Y) → (List ℕ → Option (Y × List ℕ)) → Option X → List ℕ → List ℕ → Type 0
@@ -32,7 +28,7 @@ ReadsAs view at (Some x) old new = at old ≡ Some (view x, new)
 -- the same, where a refusal has its cause
 abbrev pub GivesFrom : {X Y : Type 0} → (X → Y) → (List ℕ → Option (Y × List ℕ)) → Result X RecordError → List ℕ → List ℕ → Type 0
 GivesFrom view at (Ok x) old new = at old ≡ Some (view x, new)
-GivesFrom view at (Err e) old new = Refuses e (at old)
+GivesFrom view at (Err e) old new = Refuses e (at old ≡ None)
 
 abbrev pub number_at : Width → List ℕ → Option (ℕ × List ℕ)
 number_at w bytes =
@@ -54,11 +50,11 @@ text_at bytes = do
 
 unfoldable pub id_at : List ℕ → Option (List ℕ × List ℕ)
 id_at bytes = do
-  id ← bytes_at 36 bytes
+  id ← bytes_at id_length bytes
   if is_id id.0 then Some id else None
 
 abbrev pub is_moment : ℕ → Bool
-is_moment n = nat_le 946_684_800 n && nat_le n 4_102_444_799
+is_moment n = nat_le first_moment n && nat_le n last_moment
 
 unfoldable pub moment_at : List ℕ → Option (ℕ × List ℕ)
 moment_at bytes = do

@@ -1,9 +1,9 @@
-// The base name of a path.
+//! Paths of files.
 ghost use Rattle.std.specs.Prelude.{◌≡◌, ◌+◌, ◌-◌, ◌<◌, ◌≤◌, length, slice_index, not};
 ghost use Rattle.std.specs.List.{suffix_len};
-ghost use Rattle.soc_dump.specs.Identity.{is_separator, base_name_of};
+ghost use Rattle.soc_text.specs.Paths.{is_separator, base_name_of};
 
-fn parts_names(byte: u8) -> bool
+fn is_separator(byte: u8) -> bool
     ensures { result ≡ is_separator byte }
 {
     byte == b'/' || byte == b'\\'
@@ -17,7 +17,7 @@ fn base_start(path: &[u8]) -> usize
 {
     let mut start = path.len();
     while start > 0 {
-        if parts_names(path[start - 1]) {
+        if is_separator(path[start - 1]) {
             return start;
         }
         start -= 1;

@@ -1,7 +1,7 @@
 use Rattle.std.proofs.Common.{◌≡◌, ◌+◌, ◌≤◌, length, take, not}
 use Rattle.std.specs.List.{suffix_len}
-use Rattle.soc_dump.specs.Identity.{is_separator}
-use Rattle.soc_dump.proofs.base_name.base_start.Given as goal
+use Rattle.soc_text.specs.Paths.{is_separator}
+use Rattle.soc_text.proofs.paths.base_start.Given as goal
 
 abbrev pub invariant-loop-start : goal.invariant-loop-start
 invariant-loop-start l = record {
