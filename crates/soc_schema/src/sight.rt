@@ -22,7 +22,7 @@ pub fn visible(caller: &Caller, product: Option<&str>) -> bool
     match &caller.products {
         Products::All => true,
         Products::Some(names) => match product {
-            Some(product) => contains(names, product),
+            Some(product) => contains(names.as_list(), product),
             None => false,
         },
     }

@@ -76,13 +76,6 @@ rejected rule = discarded 200 (codes "rule_" ++ rule)
 
 -- ---- the desk's
 
-abbrev pub permission_text : Permission → List ℕ
-permission_text Public = codes "public"
-permission_text ProtectedData = codes "protected_data"
-permission_text ViewRawdump = codes "view_rawdump"
-permission_text ReprocessCrashes = codes "reprocess_crashes"
-permission_text Operate = codes "operate"
-
 abbrev pub desk_refusal : Refusal → Answered
 desk_refusal R.StoreFault = plain 503 (codes "store_fault")
 desk_refusal R.JournalFull = discarded 507 (codes "journal_full")
@@ -90,7 +83,7 @@ desk_refusal (R.OtherContent id) = discarded 409 (codes "other_crash_has_this_id
 desk_refusal R.NoCrash = not_found
 desk_refusal R.NotProcessed = plain 404 (codes "not processed")
 desk_refusal R.TooManyCrashes = discarded 507 (codes "too_many_crashes")
-desk_refusal (R.NoPermission name) = plain 403 (codes "needs " ++ permission_text name)
+desk_refusal (R.NoPermission name) = plain 403 (codes "needs " ++ permission_name name)
 desk_refusal (R.Altered id) = plain 500 (codes "store_altered")
 desk_refusal (R.Withdrawn id) = discarded 410 (codes "withdrawn")
 desk_refusal R.NoMemory = no_memory
@@ -99,22 +92,6 @@ desk_refusal R.NoMemory = no_memory
 abbrev pub kept : List ℕ → Answered
 kept id = plain 200 (codes "CrashID=bp-" ++ id)
 
--- ---- rows as JSON
-
-abbrev pub data_of : Value → Data
-data_of (Text text) = string text
-data_of (Number n) = number (unsigned n)
-data_of (Flag b) = boolean b
-
--- the members with each field's name and value
-abbrev pub with_cells : Members → List Cell → Members
-with_cells members [] = members
-with_cells members (cell ∷ cells) = with_cells (put (name_of cell.field) (data_of cell.value) members) cells
-
--- an object of the row's names and values, in byte order of names
-unfoldable pub row_text : List Cell → List ℕ
-row_text cells = compact_text (object (with_cells no_members cells))
-
 abbrev pub processed_text : ℕ → List ℕ
 processed_text count = codes "{\"processed\":" ++ decimal count ++ codes "}"
 
@@ -122,6 +99,6 @@ processed_text count = codes "{\"processed\":" ++ decimal count ++ codes "}"
 abbrev pub desk_reply : Reply → Answered
 desk_reply (Stored id due) = kept id
 desk_reply (Repeated id) = kept id
-desk_reply (Row row) = json (row_text row)
+desk_reply (Row row) = json (row_json row)
 desk_reply (Drained count) = json (processed_text count)
 desk_reply (Refused refusal) = desk_refusal refusal

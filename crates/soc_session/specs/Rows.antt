@@ -1,11 +1,7 @@
--- Which replies of a desk have a row, and what members a row gives.
-use Rattle.std.specs.Prelude.{◌≡◌, false, List, ⊤}
-use Rattle.serde_json.specs.Data.{Members, no_members}
-use Rattle.serde_json.specs.Written.{members_have_float}
-use Rattle.soc_schema.specs.declared.value.Cell.{Cell}
+-- Which replies of a desk have a row.
+use Rattle.std.specs.Prelude.{⊤}
 use Rattle.soc_book.specs.declared.desk.Reply.{Reply}
 use Rattle.soc_book.specs.declared.desk.Reply.TheVariants.{Stored, Repeated, Row, Drained, Refused}
-use Rattle.soc_session.specs.Replies.{with_cells}
 
 abbrev pub IsRow : Reply → Type 0
 IsRow (Stored id due) = ⊥
@@ -13,8 +9,3 @@ IsRow (Repeated id) = ⊥
 IsRow (Row row) = ⊤
 IsRow (Drained count) = ⊥
 IsRow (Refused refusal) = ⊥
-
--- the members are those of the row, and none of them is a float
-pub record HasCells (row : List Cell) (members : Members) : Type 0 where
-  pub are : members ≡ with_cells no_members row
-  pub exact : members_have_float members ≡ false

@@ -1,4 +1,5 @@
-use Rattle.std.proofs.Common.{◌∙◌, ap, sym, Some}
+use Rattle.std.proofs.Common.{◌∙◌, ap, sym, Some, bytes_eq}
+use Rattle.std.specs.List.{list_any}
 use Rattle.std.specs.Option.{option_map}
 use Rattle.soc_schema.specs.Permits.{shows}
 use Rattle.soc_schema.proofs.SightLemmas.{same_search}
@@ -6,6 +7,7 @@ use Rattle.soc_schema.proofs.sight.visible.Goals as goal
 
 pub returns-in-Some-product-clause-test : goal.returns-in-Some-product-clause-test
 returns-in-Some-product-clause-test c =
-    same_search c.in-Some.names c.in-Some-product.product.now c.contains.result c.contains.ensures
+    same_search c.as_list.result.now c.in-Some-product.product.now c.contains.result c.contains.ensures
+    ∙ ap (λ names. list_any (bytes_eq c.in-Some-product.product.now) names) c.as_list.ensures
     ∙ (ap (λ products. shows products (Some c.in-Some-product.product.now)) (sym c.in-Some.is)
     ∙ ap (λ product. shows c.args.caller.now.products (option_map (λ p. p.now) product)) (sym c.in-Some-product.is))

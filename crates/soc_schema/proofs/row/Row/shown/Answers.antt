@@ -1,4 +1,4 @@
-use Rattle.std.proofs.Common.{sym, subst, ap, ◌∙◌, take}
+use Rattle.std.proofs.Common.{sym, subst, ◌∙◌, take}
 use Rattle.std.proofs.lemmas.List.{take_all}
 use Rattle.soc_schema.specs.Rows.{RisesFrom}
 use Rattle.soc_schema.proofs.SightLemmas.{granted_rises}
