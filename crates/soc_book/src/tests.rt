@@ -1,7 +1,7 @@
 // The desk's tables, row by row.
 use crate::{Book, Command, Desk, Limits, Refusal, Reply, Small};
 use soc_raw::{CrashId, RawCrash, Text, TextList};
-use soc_schema::{Caller, Permission, Permissions, Products};
+use soc_schema::{Caller, Permission, Permissions, ProductNames, Products};
 use std::alloc::Global;
 use std::test::Fail;
 
@@ -47,7 +47,7 @@ fn limited(alloc: Global) -> Result<Caller, Fail> {
     names.push(Text::of(alloc, "Thunderbird")?)?;
     Ok(Caller {
         permissions: Permissions::public(),
-        products: Products::Some(names),
+        products: Products::Some(ProductNames::new(alloc, names)?),
     })
 }
 

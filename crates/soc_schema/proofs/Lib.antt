@@ -1,4 +1,5 @@
 pub mod FieldLemmas
+pub mod RowJsonLemmas
 pub mod RowLemmas
 pub mod RowTextLemmas
 pub mod TokenLemmas

@@ -1,6 +1,7 @@
 pub mod Fields
 pub mod Permits
 pub mod Reports
+pub mod RowJson
 pub mod RowText
 pub mod Rows
 pub mod TokenFile

@@ -1,5 +1,5 @@
 -- Who may see what.
-use Rattle.std.specs.Prelude.{ℕ, Bool, false, true, List, filter, Option, None, Some, IsTrue, Contains, bytes_eq, ⊤}
+use Rattle.std.specs.Prelude.{ℕ, Bool, false, true, List, filter, Option, None, Some, IsTrue, Contains, bytes_eq, codes, ⊤}
 use Rattle.std.specs.List.{list_any}
 use Rattle.soc_schema.specs.declared.permission.Permission.{Permission}
 use Rattle.soc_schema.specs.declared.permission.Permission.TheVariants.{Public, ProtectedData, ViewRawdump, ReprocessCrashes, Operate}
@@ -9,6 +9,14 @@ use Rattle.soc_schema.specs.declared.caller.Products.TheVariants.{All as AllProd
 use Rattle.soc_schema.specs.declared.caller.Caller.{Caller}
 use Rattle.soc_schema.specs.declared.value.Cell.{Cell}
 use Rattle.soc_schema.specs.Fields.{permission_of, permission_of_annotation}
+
+-- the word for a permission
+abbrev pub permission_name : Permission → List ℕ
+permission_name Public = codes "public"
+permission_name ProtectedData = codes "protected_data"
+permission_name ViewRawdump = codes "view_rawdump"
+permission_name ReprocessCrashes = codes "reprocess_crashes"
+permission_name Operate = codes "operate"
 
 -- whether the set has the permission
 abbrev pub holds : Permissions → Permission → Bool

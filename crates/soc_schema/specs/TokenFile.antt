@@ -1,5 +1,5 @@
 -- The tokens of the service, as a TOML document holds them: this project's profile.
-use Rattle.std.specs.Prelude.{ℕ, Bool, ◌≡◌, if◌then◌else◌, nat_lt, List, [], ◌∷◌, ◌++◌, length, Option, None, Some, Result, Ok, Err, codes, option_map, option_and_then, is_some, find, ⊤}
+use Rattle.std.specs.Prelude.{ℕ, Bool, true, ◌≡◌, if◌then◌else◌, nat_lt, List, [], ◌∷◌, ◌++◌, length, Option, None, Some, Result, Ok, Err, codes, option_map, option_and_then, is_some, find, ⊤}
 use Rattle.std.specs.List.{list_any}
 use Rattle.std.specs.Option.{option_map_or}
 use Rattle.std.specs.Str.{bytes_eq}
@@ -15,17 +15,20 @@ use Rattle.soc_schema.specs.declared.caller.Caller.{Caller}
 use Rattle.soc_schema.specs.declared.token.Token.{Token}
 use Rattle.soc_schema.specs.declared.token.TokenError.{TokenError}
 use Rattle.soc_schema.specs.declared.token.TokenError.TheVariants.{BadToken, NoMemory}
-use Rattle.soc_schema.specs.Permits.{public_alone, with_permission}
+use Rattle.soc_schema.specs.Permits.{permission_name, public_alone, with_permission}
 
 -- `all`, or an array of at most 256 texts
 abbrev pub products_of : Data → Option Products
 products_of value =
     if is_text (codes "all") value then Some AllProducts else option_map OnlyProducts (texts_within 256 value)
 
+-- the permissions that a token may give: each has `Public`
+abbrev pub given_permissions : List Permission
+given_permissions = ProtectedData ∷ ViewRawdump ∷ ReprocessCrashes ∷ Operate ∷ []
+
 -- the permission that a word names
 abbrev pub permission_named : List ℕ → Option Permission
-permission_named word =
-    if bytes_eq word (codes "protected_data") then Some ProtectedData else (if bytes_eq word (codes "view_rawdump") then Some ViewRawdump else (if bytes_eq word (codes "reprocess_crashes") then Some ReprocessCrashes else (if bytes_eq word (codes "operate") then Some Operate else None)))
+permission_named word = find (λ p. bytes_eq (permission_name p) word) given_permissions
 
 -- a set with those that the words name, where each of them names one
 abbrev pub with_named : Permissions → List (List ℕ) → Option Permissions
@@ -86,3 +89,8 @@ caller_with token = record { permissions = token.permissions; products = token.p
 abbrev pub caller_of : List Token → Option (List ℕ) → Products → Option Caller
 caller_of tokens None public = Some (record { permissions = public_alone; products = public })
 caller_of tokens (Some key) public = option_map caller_with (find (λ t. bytes_eq t.key key) tokens)
+
+-- whether a caller with this key is known: everybody without a key, else who has the token of the key
+abbrev pub is_known : List Token → Option (List ℕ) → Bool
+is_known tokens None = true
+is_known tokens (Some key) = has_key key tokens

@@ -1,10 +1,53 @@
 //! Who asks, and what they may see.
-ghost use Rattle.std.specs.Prelude.{◌≡◌, ◌<◌, IfOk, take};
+ghost use Rattle.std.specs.Prelude.{◌≡◌, IfOk};
 
 use crate::permission::Permissions;
-use soc_raw::{NoMemory, Text, TextList};
+use soc_raw::{NoMemory, TextList};
 use std::alloc::Global;
+use std::marker::Model;
+use std::sync::Arc;
 use toml::Value;
+
+/// Names of products. All who hold the list share it.
+#[derive(Debug, Drop)]
+pub struct ProductNames {
+    names: Arc<TextList>,
+}
+
+impl Model for ProductNames {
+    ghost use Rattle.std.specs.Prelude.{List, ℕ};
+
+    ghost Value = { List (List ℕ) };
+
+    ghost view = { λ p. p.names.value };
+}
+
+impl ProductNames {
+    /// The names of the list.
+    pub fn new(alloc: Global, names: TextList) -> Result<ProductNames, NoMemory>
+        ensures { IfOk result (λ list. list ≡ names) }
+    {
+        Ok(ProductNames {
+            names: Arc::new(alloc, names)?,
+        })
+    }
+
+    /// The same list. It takes no memory.
+    pub fn share(&self) -> Result<ProductNames, NoMemory>
+        ensures { IfOk result (λ list. list ≡ self.now) }
+    {
+        Ok(ProductNames {
+            names: Arc::try_clone(&self.names)?,
+        })
+    }
+
+    /// The names.
+    pub fn as_list(&self) -> &TextList
+        ensures { result.now ≡ self.now }
+    {
+        &self.names
+    }
+}
 
 /// The products whose crashes are shown.
 #[derive(Debug, Drop)]
@@ -12,7 +55,7 @@ pub enum Products {
     /// Each product, and crashes without one.
     All,
     /// The products of the list alone.
-    Some(TextList),
+    Some(ProductNames),
 }
 
 /// Who asks.
@@ -38,28 +81,18 @@ impl Products {
             return Ok(Some(Products::All));
         }
         match soc_toml::texts_within(alloc, value, 256)? {
-            Some(names) => Ok(Some(Products::Some(names))),
+            Some(names) => Ok(Some(Products::Some(ProductNames::new(alloc, names)?))),
             None => Ok(None),
         }
     }
 
-    /// The same products, in memory of their own.
-    pub fn copy(&self, alloc: Global) -> Result<Products, NoMemory>
+    /// The same products, whose list is shared. It takes no memory.
+    pub fn share(&self) -> Result<Products, NoMemory>
         ensures { IfOk result (λ products. products ≡ self.now) }
     {
         match self {
             Products::All => Ok(Products::All),
-            Products::Some(names) => Ok(Products::Some(copy_texts(alloc, names)?)),
+            Products::Some(names) => Ok(Products::Some(names.share()?)),
         }
     }
-}
-
-fn copy_texts(alloc: Global, texts: &TextList) -> Result<TextList, NoMemory>
-    ensures { IfOk result (λ copy. copy ≡ texts.now) }
-{
-    let mut copy = TextList::new(alloc);
-    for text in texts {
-        copy.push(Text::of(alloc, text)?)?;
-    }
-    Ok(copy)
 }

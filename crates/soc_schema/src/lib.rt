@@ -4,6 +4,7 @@
 
 mod caller;
 mod field;
+mod json;
 mod permission;
 mod processed;
 mod reporter;
@@ -13,8 +14,9 @@ mod sight;
 mod token;
 mod value;
 
-pub use caller::{Caller, Products};
+pub use caller::{Caller, ProductNames, Products};
 pub use field::{Field, FieldKind};
+pub use json::row_json;
 pub use permission::{Permission, Permissions};
 pub use processed::Processed;
 pub use reporter::{Bare, Reporter, product_of};

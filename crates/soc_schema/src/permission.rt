@@ -1,5 +1,5 @@
 //! What a caller may do.
-ghost use Rattle.std.specs.Prelude.{◌≡◌, ◌≢◌, false, true};
+ghost use Rattle.std.specs.Prelude.{◌≡◌, ◌≢◌, ◌≤◌, false, length, true};
 ghost use Rattle.soc_schema.specs.declared.permission.Permission.{Permission};
 
 /// Something that a caller may do or see.
@@ -15,6 +15,24 @@ pub enum Permission {
     ReprocessCrashes,
     /// To run and to stop the service.
     Operate,
+}
+
+impl Permission {
+    ghost use Rattle.soc_schema.specs.Permits.{permission_name};
+
+    /// The word that stands for the permission in token files, in refusals and in the list of fields.
+    pub fn name(self) -> &'static str
+        ensures text { result.now ≡ permission_name self }
+        ensures short { length result.now ≤ 20 }
+    {
+        match self {
+            Permission::Public => "public",
+            Permission::ProtectedData => "protected_data",
+            Permission::ViewRawdump => "view_rawdump",
+            Permission::ReprocessCrashes => "reprocess_crashes",
+            Permission::Operate => "operate",
+        }
+    }
 }
 
 /// A set of permissions. `Permission::Public` is in each.

@@ -4,7 +4,6 @@ ghost use Rattle.soc_schema.specs.Permits.{Granted, Visible, is_granted, shows};
 
 use crate::caller::{Caller, Products};
 use crate::field::Field;
-use soc_raw::TextList;
 
 /// Whether the caller may see the field.
 pub fn granted(caller: &Caller, field: Field) -> bool
@@ -22,7 +21,7 @@ pub fn visible(caller: &Caller, product: Option<&str>) -> bool
     match &caller.products {
         Products::All => true,
         Products::Some(names) => match product {
-            Some(product) => names.contains(product),
+            Some(product) => names.as_list().contains(product),
             None => false,
         },
     }

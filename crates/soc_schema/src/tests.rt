@@ -179,7 +179,7 @@ permissions = ["operate", "protected_data", "operate"]
 #[test]
 fn tokens_make_callers(rt: HostRuntime) -> Result<(), Fail> {
     let alloc = rt.alloc();
-    let public = Products::Some(TextList::new(alloc));
+    let public = Products::Some(ProductNames::new(alloc, TextList::new(alloc))?);
     let tokens = tokens(alloc, GOOD)?;
     let everybody = tokens.caller(alloc, None, &public)?.ok_or("everybody")?;
     assert!(rt; !visible(&everybody, Some("Firefox")));
@@ -196,6 +196,7 @@ fn tokens_make_callers(rt: HostRuntime) -> Result<(), Fail> {
     assert!(rt; second.permissions.has(Permission::Operate));
     assert!(rt; !second.permissions.has(Permission::ViewRawdump));
     assert!(rt; tokens.caller(alloc, Some("k"), &public)?.is_none());
+    assert!(rt; tokens.knows(None) && tokens.knows(Some("k2")) && !tokens.knows(Some("k")));
     Ok(())
 }
 

@@ -4,7 +4,7 @@ ghost use Rattle.std.specs.Option.{option_copied};
 ghost use Rattle.std.specs.Str.{bytes_eq};
 ghost use Rattle.toml.specs.Data.{get_member, as_table};
 ghost use Rattle.toml.specs.View.{view, table_view, array_view};
-ghost use Rattle.soc_schema.specs.TokenFile.{IsRefusal, caller_of, has_key, next_token, permission_named, permissions_of, products_of, token_in, tokens_from, tokens_of, with_named};
+ghost use Rattle.soc_schema.specs.TokenFile.{IsRefusal, caller_of, has_key, is_known, next_token, permission_named, permissions_of, products_of, token_in, tokens_from, tokens_of, with_named};
 ghost use Rattle.soc_schema.specs.Permits.{public_alone};
 
 use crate::caller::{Caller, Products};
@@ -18,6 +18,14 @@ use toml::{Table, Value};
 
 /// The most tokens that a document has.
 const MOST_TOKENS: usize = 256;
+
+/// The permissions that a token may give.
+const GIVEN_PERMISSIONS: [Permission; 4] = [
+    Permission::ProtectedData,
+    Permission::ViewRawdump,
+    Permission::ReprocessCrashes,
+    Permission::Operate,
+];
 
 /// What a token gives to who brings its key.
 #[derive(Debug, Drop)]
@@ -93,8 +101,18 @@ impl Tokens {
         }
     }
 
+    /// Whether `caller` knows who asks. It takes no memory.
+    pub fn knows(&self, key: Option<&str>) -> bool
+        ensures { result ≡ is_known self.now (option_copied key.entry) }
+    {
+        match key {
+            Some(key) => has_key(self.tokens.as_slice(), key),
+            None => true,
+        }
+    }
+
     /// Who asks: everybody, with the public products, where no key is brought, else who has the token of the key.
-    /// `None` where the key is no token's.
+    /// `None` where the key is no token's. The list of products is shared, and not copied.
     pub fn caller(
         &self,
         alloc: Global,
@@ -106,13 +124,13 @@ impl Tokens {
         let Some(key) = key else {
             return Ok(Some(Caller {
                 permissions: Permissions::public(),
-                products: public.copy(alloc)?,
+                products: public.share()?,
             }));
         };
         match self.with_key(key) {
             Some(token) => Ok(Some(Caller {
                 permissions: token.permissions,
-                products: token.products.copy(alloc)?,
+                products: token.products.share()?,
             })),
             None => Ok(None),
         }
@@ -238,11 +256,8 @@ fn permissions_named(words: &TextList) -> Option<Permissions>
 fn permission_named(word: &str) -> Option<Permission>
     ensures { result ≡ permission_named word.now }
 {
-    match word {
-        "protected_data" => Some(Permission::ProtectedData),
-        "view_rawdump" => Some(Permission::ViewRawdump),
-        "reprocess_crashes" => Some(Permission::ReprocessCrashes),
-        "operate" => Some(Permission::Operate),
-        _ => None,
-    }
+    GIVEN_PERMISSIONS
+        .iter()
+        .copied()
+        .find(|permission| permission.name() == word)
 }

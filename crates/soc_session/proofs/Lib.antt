@@ -3,5 +3,4 @@ pub mod ArrivalLemmas
 pub mod ConnectionLemmas
 pub mod LineLemmas
 pub mod ReportLemmas
-pub mod RowLemmas
 pub mod TaskLemmas

@@ -1,14 +1,8 @@
 -- What messages are answered: the table of replies, this project's profile. Each reply here goes on with the connection;
 -- `closing` makes it the last one.
 use Rattle.std.specs.Prelude.{ℕ, Bool, false, List, [], ◌∷◌, ◌++◌, codes, decimal, None, Some}
-use Rattle.serde_json.specs.Data.{Data, string, number, boolean, object, unsigned, Members, no_members, put}
-use Rattle.serde_json.specs.Written.{compact_text}
-use Rattle.soc_schema.specs.declared.permission.Permission.{Permission}
-use Rattle.soc_schema.specs.declared.permission.Permission.TheVariants.{Public, ProtectedData, ViewRawdump, ReprocessCrashes, Operate}
-use Rattle.soc_schema.specs.declared.value.Value.{Value}
-use Rattle.soc_schema.specs.declared.value.Value.TheVariants.{Text, Number, Flag}
-use Rattle.soc_schema.specs.declared.value.Cell.{Cell}
-use Rattle.soc_schema.specs.Fields.{name_of}
+use Rattle.soc_schema.specs.Permits.{permission_name}
+use Rattle.soc_schema.specs.RowJson.{row_json}
 use Rattle.soc_multipart.specs.declared.reasons.Reason.{Reason}
 use Rattle.soc_multipart.specs.Reasons.{reason_text}
 use Rattle.soc_http.specs.declared.verb.Verb.{Verb}
@@ -76,13 +70,6 @@ rejected rule = discarded 200 (codes "rule_" ++ rule)
 
 -- ---- the desk's
 
-abbrev pub permission_text : Permission → List ℕ
-permission_text Public = codes "public"
-permission_text ProtectedData = codes "protected_data"
-permission_text ViewRawdump = codes "view_rawdump"
-permission_text ReprocessCrashes = codes "reprocess_crashes"
-permission_text Operate = codes "operate"
-
 abbrev pub desk_refusal : Refusal → Answered
 desk_refusal R.StoreFault = plain 503 (codes "store_fault")
 desk_refusal R.JournalFull = discarded 507 (codes "journal_full")
@@ -90,7 +77,7 @@ desk_refusal (R.OtherContent id) = discarded 409 (codes "other_crash_has_this_id
 desk_refusal R.NoCrash = not_found
 desk_refusal R.NotProcessed = plain 404 (codes "not processed")
 desk_refusal R.TooManyCrashes = discarded 507 (codes "too_many_crashes")
-desk_refusal (R.NoPermission name) = plain 403 (codes "needs " ++ permission_text name)
+desk_refusal (R.NoPermission name) = plain 403 (codes "needs " ++ permission_name name)
 desk_refusal (R.Altered id) = plain 500 (codes "store_altered")
 desk_refusal (R.Withdrawn id) = discarded 410 (codes "withdrawn")
 desk_refusal R.NoMemory = no_memory
@@ -98,22 +85,6 @@ desk_refusal R.NoMemory = no_memory
 -- a crash that is kept, now or before
 abbrev pub kept : List ℕ → Answered
 kept id = plain 200 (codes "CrashID=bp-" ++ id)
-
--- ---- rows as JSON
-
-abbrev pub data_of : Value → Data
-data_of (Text text) = string text
-data_of (Number n) = number (unsigned n)
-data_of (Flag b) = boolean b
-
--- the members with each field's name and value
-abbrev pub with_cells : Members → List Cell → Members
-with_cells members [] = members
-with_cells members (cell ∷ cells) = with_cells (put (name_of cell.field) (data_of cell.value) members) cells
-
--- an object of the row's names and values, in byte order of names
-unfoldable pub row_json : List Cell → List ℕ
-row_json cells = compact_text (object (with_cells no_members cells))
 
 abbrev pub processed_text : ℕ → List ℕ
 processed_text count = codes "{\"processed\":" ++ decimal count ++ codes "}"

@@ -1,5 +1,4 @@
 -- Words of private contracts and of proofs: a session message by message.
 pub mod Arrivals
-pub mod Cells
 pub mod Steps
 pub mod Tasks

@@ -7,7 +7,6 @@ mod connection;
 mod ending;
 mod lines;
 mod replies;
-mod rows;
 mod rules;
 mod tasks;
 #[cfg(test)]

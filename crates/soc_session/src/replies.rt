@@ -1,14 +1,13 @@
 //! What messages are answered.
 ghost use Rattle.std.specs.Prelude.{◌≡◌, ◌+◌, ◌<◌, ◌≤◌, ◌++◌, [], length, codes, decimal, vec_capacity, IfOk, OnErr};
-ghost use Rattle.soc_session.specs.Replies.{closing, desk_refusal, desk_reply, head_refusal, kept, malformed, no_memory, permission_text, plain, processed_text, rejected, row_json, wrong_method, json};
+ghost use Rattle.soc_session.specs.Replies.{closing, desk_refusal, desk_reply, head_refusal, kept, malformed, no_memory, plain, processed_text, rejected, wrong_method, json};
 ghost use Rattle.soc_session.specs.Rows.{IsRow};
 
-use crate::rows::row_json;
 use soc_book::{Refusal, Reply};
 use soc_http::{Answered, HeadError, Kind, Verb};
 use soc_multipart::Reason;
 use soc_raw::{Bytes, CrashId, NoMemory};
-use soc_schema::Permission;
+use soc_schema::row_json;
 use std::alloc::Global;
 
 /// How many bytes a short reply's body has at most.
@@ -130,7 +129,7 @@ impl Room {
             Refusal::NoCrash => self.plain(404, "not found", ""),
             Refusal::NotProcessed => self.plain(404, "not processed", ""),
             Refusal::TooManyCrashes => self.plain(507, "Discarded=too_many_crashes", ""),
-            Refusal::NoPermission { name } => self.plain(403, "needs ", permission_text(name)),
+            Refusal::NoPermission { name } => self.plain(403, "needs ", name.name()),
             Refusal::Altered { .. } => self.plain(500, "store_altered", ""),
             Refusal::Withdrawn { .. } => self.plain(410, "Discarded=withdrawn", ""),
             Refusal::NoMemory => self.no_memory(),
@@ -158,18 +157,5 @@ impl Room {
             Reply::Drained(count) => Ok(self.processed(count)),
             Reply::Refused(refusal) => Ok(self.desk_refusal(refusal)),
         }
-    }
-}
-
-fn permission_text(permission: Permission) -> &'static str
-    ensures text { result.now ≡ permission_text permission }
-    ensures short { length result.now ≤ 20 }
-{
-    match permission {
-        Permission::Public => "public",
-        Permission::ProtectedData => "protected_data",
-        Permission::ViewRawdump => "view_rawdump",
-        Permission::ReprocessCrashes => "reprocess_crashes",
-        Permission::Operate => "operate",
     }
 }

@@ -139,6 +139,7 @@ fn reads_settings(rt: HostRuntime) -> Result<(), Fail> {
     let Products::Some(products) = &settings.public else {
         return Err("each product is public".into());
     };
+    let products = products.as_list();
     assert_eq!(rt; products.len(), 2);
     assert_eq!(rt; products.at(1), "Fenix");
     assert_eq!(rt; settings.rules.verdict(&nothing, 49).rule, "half");

@@ -1,8 +1,8 @@
 use Rattle.std.proofs.Common.{arith}
 use Rattle.serde_json.specs.View.{members_view}
 use Rattle.soc_schema.specs.Fields.{name_of}
-use Rattle.soc_session.proofs.RowLemmas.{cells_at, cells_done, cells_exact}
-use Rattle.soc_session.proofs.rows.members_of.Goals as goal
+use Rattle.soc_schema.proofs.RowJsonLemmas.{cells_at, cells_done, cells_exact}
+use Rattle.soc_schema.proofs.json.members_of.Goals as goal
 
 pub loop-i-preserved : goal.loop-i-preserved
 loop-i-preserved c = (

@@ -1,5 +1,5 @@
 -- Rows as members of an object.
-use Rattle.std.proofs.Common.{◌≡◌, ℕ, ◌+◌, List, drop, false, true, Bool, ◌||◌, refl, sym, ap, subst, ◌∙◌, slice_get, Some, length, ◌≤◌, BTreeMap, String, Global}
+use Rattle.std.proofs.Common.{◌≡◌, ℕ, zero, suc, ◌+◌, List, [], ◌∷◌, None, add-one, drop, false, true, Bool, ◌||◌, refl, sym, ap, subst, ◌∙◌, slice_get, Some, length, ◌≤◌, BTreeMap, String, Global}
 use Rattle.std.proofs.lemmas.List.{drop_all}
 use Rattle.std.specs.Ordering.{match_ordering}
 use Rattle.std.specs.declared.cmp.Ordering.{Ordering}
@@ -15,13 +15,26 @@ use Rattle.serde_json.specs.declared.value.Value.{Value as Value'}
 use Rattle.serde_json.specs.declared.value.Value.TheVariants.{Object}
 use Rattle.serde_json.proofs.Views.{view-Object}
 use Rattle.soc_schema.specs.Rows.{cell}
-use Rattle.soc_session.specs.inner.Cells.{HasCells}
 use Rattle.soc_schema.specs.declared.value.Cell.{Cell}
 use Rattle.soc_schema.specs.declared.value.Value.{Value}
 use Rattle.soc_schema.specs.declared.value.Value.TheVariants.{Text, Number, Flag}
 use Rattle.soc_schema.specs.Fields.{name_of}
-use Rattle.soc_session.specs.Replies.{data_of, row_json, with_cells}
-use Rattle.soc_session.proofs.LineLemmas.{drop_at}
+use Rattle.soc_schema.specs.RowJson.{HasCells, data_of, row_json, with_cells}
+
+some_is : {A : Type 0} (x y : A) → Some x ≡ Some y → x ≡ y
+some_is x y e = cc
+
+none_is_some : {A : Type 0} (x : A) → None ≡ Some x → ⊥
+none_is_some x e = cc
+
+drop_suc : {A : Type 0} (xs : List A) (i : ℕ) (x : A) → slice_get xs i ≡ Some x → drop i xs ≡ x ∷ drop (suc i) xs
+drop_suc [] i x e = absurd (none_is_some x e)
+drop_suc (y ∷ ys) zero x e = ap (λ z. z ∷ ys) (some_is y x e)
+drop_suc (y ∷ ys) (suc i) x e = drop_suc ys i x e
+
+-- the item at a place is the first of what is left there
+drop_at : {A : Type 0} (xs : List A) (i : ℕ) (x : A) → slice_get xs i ≡ Some x → drop i xs ≡ x ∷ drop (i + 1) xs
+drop_at xs i x e = drop_suc xs i x e ∙ ap (λ n. x ∷ drop n xs) (sym (add-one i))
 
 both_false : (a b : Bool) → a ≡ false → b ≡ false → (a || b) ≡ false
 both_false a b p q = rw (p, q) refl

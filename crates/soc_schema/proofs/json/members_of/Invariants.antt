@@ -2,8 +2,8 @@ use Rattle.std.proofs.Common.{◌≡◌, false, drop}
 use Rattle.serde_json.specs.Data.{no_members}
 use Rattle.serde_json.specs.View.{members_view}
 use Rattle.serde_json.specs.Written.{members_have_float}
-use Rattle.soc_session.specs.Replies.{with_cells}
-use Rattle.soc_session.proofs.rows.members_of.Given as goal
+use Rattle.soc_schema.specs.RowJson.{with_cells}
+use Rattle.soc_schema.proofs.json.members_of.Given as goal
 
 -- the members so far, with the cells that are left
 abbrev pub invariant-loop-i : goal.invariant-loop-i

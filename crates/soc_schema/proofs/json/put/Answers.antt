@@ -3,7 +3,7 @@ use Rattle.serde_json.specs.Data.{put}
 use Rattle.serde_json.specs.View.{members_view, view}
 use Rattle.serde_json.proofs.Views.{members_view-insert_entry}
 use Rattle.soc_schema.specs.Fields.{name_of}
-use Rattle.soc_session.proofs.rows.put.Goals as goal
+use Rattle.soc_schema.proofs.json.put.Goals as goal
 
 pub returns : goal.returns
 returns c =

@@ -1,6 +1,6 @@
 use Rattle.std.proofs.Common.{◌∙◌, ap}
-use Rattle.soc_session.proofs.RowLemmas.{row-text}
-use Rattle.soc_session.proofs.rows.row_json.Goals as goal
+use Rattle.soc_schema.proofs.RowJsonLemmas.{row-text}
+use Rattle.soc_schema.proofs.json.row_json.Goals as goal
 
 pub returns : goal.returns
 returns c =

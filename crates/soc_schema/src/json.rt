@@ -4,16 +4,17 @@ ghost use Rattle.serde_json.specs.Data.{put};
 ghost use Rattle.serde_json.specs.View.{members_view, view};
 ghost use Rattle.serde_json.specs.Written.{has_float, members_have_float};
 ghost use Rattle.soc_schema.specs.Fields.{name_of};
-ghost use Rattle.soc_session.specs.Replies.{data_of, row_json};
-ghost use Rattle.soc_session.specs.inner.Cells.{HasCells};
+ghost use Rattle.soc_schema.specs.RowJson.{HasCells, data_of, row_json};
 
+use crate::field::Field;
+use crate::row::Row;
+use crate::value::Value;
 use serde_json::{Map, Value as Json};
 use soc_raw::{Bytes, NoMemory};
-use soc_schema::{Field, Row, Value};
 use std::alloc::Global;
 
 /// An object of the row's names and values, in byte order of names.
-pub(crate) fn row_json(alloc: Global, row: &Row) -> Result<Bytes, NoMemory>
+pub fn row_json(alloc: Global, row: &Row) -> Result<Bytes, NoMemory>
     ensures { IfOk result (λ text. text ≡ row_json row.now) }
 {
     let members = members_of(alloc, row)?;

@@ -1,6 +1,0 @@
-use Rattle.std.proofs.Common.{◌≡◌, ◌++◌}
-use Rattle.soc_schema.proofs.caller.copy_texts.Given as goal
-
--- the texts so far, and those that are left
-abbrev pub invariant-loop-text : goal.invariant-loop-text
-invariant-loop-text l = l.copy ++ l.text-iterator ≡ l.texts
