@@ -1,4 +1,4 @@
-use crate::{CrashId, Date, Digit, RawCrash, RecordError, day_of};
+use crate::{CrashId, Cursor, Date, Digit, RawCrash, RecordError, Text, TextList, day_of};
 use std::test::Fail;
 
 const DRAW: [u8; 16] = [
@@ -73,6 +73,10 @@ fn a_record(rt: HostRuntime) -> Result<(), Fail> {
     );
     assert_eq!(rt; raw.content_place(), 66);
     assert_eq!(rt; raw.encode(rt.alloc())?.as_slice(), RECORD);
+    let mut buffer = Vec::from_slice(rt.alloc(), b"head")?;
+    raw.encode_into(&mut buffer)?;
+    assert_eq!(rt; buffer.len(), 4 + RECORD.len());
+    assert_eq!(rt; &buffer[4..], RECORD);
     let copy = raw.copy(rt.alloc())?;
     assert!(rt; copy.same_content(&raw));
     Ok(())
@@ -84,4 +88,33 @@ fn fronts_of_a_record(rt: HostRuntime) {
         let read = RawCrash::decode(rt.alloc(), &RECORD[..end]);
         assert!(rt; matches!(read, Err(RecordError::BadRecord)));
     }
+}
+
+#[test]
+fn reads_of_a_cursor(rt: HostRuntime) {
+    let mut cursor = Cursor::new(b"\x02\0\0\0hi\x01\0\0\0\xff\x07\x01\x02\x03");
+    assert_eq!(rt; cursor.text(), Some("hi"));
+    assert_eq!(rt; cursor.text(), None);
+    assert_eq!(rt; cursor.counted(), Some(b"\xff".as_slice()));
+    assert_eq!(rt; cursor.u64(), None);
+    assert_eq!(rt; cursor.u32(), Some(0x0302_0107));
+    assert!(rt; cursor.is_empty());
+    assert_eq!(rt; cursor.byte(), None);
+}
+
+#[test]
+fn lists_of_texts(rt: HostRuntime) -> Result<(), Fail> {
+    let mut list = TextList::new(rt.alloc());
+    assert!(rt; !list.contains(""));
+    list.push(Text::of(rt.alloc(), "Firefox")?)?;
+    list.push(Text::lossy(rt.alloc(), b"a\xff")?)?;
+    assert!(rt; list.contains("Firefox"));
+    assert!(rt; list.contains("a\u{FFFD}"));
+    assert!(rt; !list.contains("Fire"));
+    let mut bytes = 0usize;
+    for text in &list {
+        bytes = bytes.saturating_add(text.len());
+    }
+    assert_eq!(rt; bytes, 11);
+    Ok(())
 }
