@@ -1,0 +1,5 @@
+pub mod Log
+pub mod Rule
+pub mod Steps
+pub mod Seats
+pub mod Asked
