@@ -7,7 +7,7 @@ use lib.ListN.{get_elem?}
 use Rattle.soc_hall.specs.declared.view.Entry.{Entry}
 use Rattle.soc_hall.specs.declared.view.Turn.{Turn}
 use Rattle.soc_hall.specs.Log.{tagged, changes, changes_by, whole, pieces}
-use Rattle.soc_hall.specs.Rule.{total}
+use Rattle.soc_hall.specs.inner.Rule.{total}
 
 module _ {X : Type 0} where
   pub changes_append : (a b : List (Entry X)) → changes (a ++ b) ≡ changes a ++ changes b

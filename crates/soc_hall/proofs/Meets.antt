@@ -15,11 +15,13 @@ use Rattle.soc_hall.specs.declared.view.Stage.{Stage}
 use Rattle.soc_hall.specs.declared.view.Stage.TheVariants.{Idle, Away}
 use Rattle.soc_hall.specs.declared.view.View.{View}
 use Rattle.soc_hall.specs.Log.{changes_by, pieces, IsLonger}
-use Rattle.soc_hall.specs.Rule.{Sits, tickets, HasTicket, HasTurn, total, Stands, Owns, IsMine, FitsStage, Fits, IsHome, IsOut, Kept}
-use Rattle.soc_hall.specs.Steps.{spent, note_of, hearing, seeing, compared}
-use Rattle.soc_hall.specs.Asked.{Meets}
+use Rattle.soc_hall.specs.Seats.{known}
+use Rattle.soc_hall.specs.Asked.{Stands, Owns, Meets}
+use Rattle.soc_hall.specs.inner.Rule.{Sits, tickets, HasTicket, HasTurn, total, IsMine, FitsStage, Fits, IsHome, IsOut, Kept}
+use Rattle.soc_hall.specs.inner.Steps.{spent, note_of, hearing, seeing, compared}
 use Rattle.soc_hall.proofs.Logs.{by_append, total_set, total_snoc}
-use Rattle.soc_hall.proofs.Kept.{away_set, owners_set, away_snoc, owners_snoc, seats_stay, apart_set, stands_more, at_end, at_below}
+use Rattle.soc_hall.proofs.Views.{away_set, owners_set, away_snoc, owners_snoc, seats_stay, apart_set, at_end, at_below}
+use Rattle.soc_hall.proofs.Kept.{few_stays, stands_more}
 
 module _ {A : Type 0} where
   -- two beginnings of one list lie in line
@@ -70,7 +72,7 @@ module _ {X : Type 0} where
       (λ (u : (t ≡ s) × IsPrefix a t). u.0)
       k
 
-module _ {T B X C P : Type 0} (log_of : T → List X) (basis_of : T → B) (answers : B → List X → C → P → List X → Type 0) (basis : B) (opening : List X) where
+module _ {T B X C P : Type 0} (log_of : T → List X) (basis_of : T → B) (answers : B → List X → C → P → List X → Type 0) (basis : B) (opening : List X) (seats : ℕ) where
   abbrev V : Type 0
   V = View B X C P
 
@@ -81,7 +83,7 @@ module _ {T B X C P : Type 0} (log_of : T → List X) (basis_of : T → B) (answ
   St = State S V
 
   abbrev Rule : St → Type 0
-  Rule = Kept log_of basis_of answers basis opening
+  Rule = Kept log_of basis_of answers basis opening seats
 
   abbrev Fit : List (Entry X) → ℕ → ℕ → ℕ → V → Type 0
   Fit = Fits answers basis opening
@@ -93,19 +95,20 @@ module _ {T B X C P : Type 0} (log_of : T → List X) (basis_of : T → B) (answ
     drawn = r.drawn;
     served = r.served;
     words = r.words;
-    few = let e : total (λ (u : V). u.parts) (set s.views id w) + v.parts ≡ total (λ (u : V). u.parts) s.views + w.parts = total_set (λ (u : V). u.parts) s.views id v w at in let o = r.few in omega arith;
+    few = few_stays log_of basis_of answers basis opening seats s r id v w at parts;
+    at_most = r.at_most;
     out = let e : total (λ (u : V). tickets u.stage) (set s.views id w) + tickets v.stage ≡ total (λ (u : V). tickets u.stage) s.views + tickets w.stage = total_set (λ (u : V). tickets u.stage) s.views id v w at in
         let z : tickets w.stage ≡ tickets v.stage = ap tickets same in let o = r.out in omega arith;
-    each_seat = seats_stay log_of basis_of answers basis opening (Fit r.log r.drawn r.served) s.views id w fit (λ j d ne e. r.each_seat j d e);
-    apart = apart_set log_of basis_of answers basis opening s.views id w r.apart (λ j t d ne e hw hd. ne (r.apart j id t d v e at hd (subst (HasTicket t) same hw)));
+    each_seat = seats_stay (Fit r.log r.drawn r.served) s.views id w fit (λ j d ne e. r.each_seat j d e);
+    apart = apart_set s.views id w r.apart (λ j t d ne e hw hd. ne (r.apart j id t d v e at hd (subst (HasTicket t) same hw)));
     unused = λ j l. r.unused j (let e : length (set s.views id w) ≡ length s.views = length-set s.views id w in omega arith);
-    away = away_set log_of basis_of answers basis opening s.views id v w at gone (λ a. same ∙ a) r.away;
-    owners = owners_set log_of basis_of answers basis opening s.views id v w r.log r.log at (λ z. (subst Sits (sym same) z, number z, gone)) (λ j. inl refl) r.owners;
+    away = away_set s.views id v w at gone (λ a. same ∙ a) r.away;
+    owners = owners_set s.views id v w r.log r.log at (λ z. (subst Sits (sym same) z, number z, gone)) (λ j. inl refl) r.owners;
     place = ⊎_elim
-        (λ (h : IsHome log_of basis_of basis opening r.log s). inl (h.0, h.1, h.2, seats_stay log_of basis_of answers basis opening (λ j d. HasTurn d.stage → ⊥) s.views id w (λ z. h.3 id v at (subst HasTurn same z)) (λ j d ne e. h.3 j d e)))
+        (λ (h : IsHome log_of basis_of basis opening r.log s). inl (h.0, h.1, h.2, seats_stay (λ j d. HasTurn d.stage → ⊥) s.views id w (λ z. h.3 id v at (subst HasTurn same z)) (λ j d ne e. h.3 j d e)))
         (λ (o : IsOut s). dite (ℕ_discrete o.0 id)
         (λ here. let one : o.1 ≡ v = some-injective o.1 v (sym o.3 ∙ (ap (λ (k : ℕ). get_elem? s.views k) here ∙ at)) in
-        inr (id, w, o.2, set_here s.views id w (at_below log_of basis_of answers basis opening s.views id v at), subst HasTurn (ap (λ (z : V). z.stage) one ∙ sym same) o.4))
+        inr (id, w, o.2, set_here s.views id w (at_below s.views id v at), subst HasTurn (ap (λ (z : V). z.stage) one ∙ sym same) o.4))
         (λ other. inr (o.0, o.1, o.2, set_else s.views id o.0 w other ∙ o.3, o.4)))
         r.place;
   }
@@ -123,20 +126,21 @@ module _ {T B X C P : Type 0} (log_of : T → List X) (basis_of : T → B) (answ
         served = r.served;
         words = r.words;
         few = let a : total (λ (u : V). u.parts) (s.views ++ n ∷ []) ≡ total (λ (u : V). u.parts) s.views + 0 = total_snoc (λ (u : V). u.parts) s.views n in let o = r.few in omega arith;
+        at_most = r.at_most;
         out = let a : total (λ (u : V). tickets u.stage) (s.views ++ n ∷ []) ≡ total (λ (u : V). tickets u.stage) s.views + 0 = total_snoc (λ (u : V). tickets u.stage) s.views n in let o = r.out in omega arith;
         each_seat = λ j d e. ⊎_elim (r.each_seat j d)
             (λ (new : (j ≡ length s.views) × (n ≡ d)). subst (λ (z : V). Fit r.log r.drawn r.served j z) new.1 (blank_fits r.log r.drawn r.served j v.seen seen))
-            (at_end log_of basis_of answers basis opening s.views n d j e);
+            (at_end s.views n d j e);
         apart = λ i j t a b ei ej ha hb. ⊎_elim
             (λ (oi : get_elem? s.views i ≡ some a). ⊎_elim
             (λ (oj : get_elem? s.views j ≡ some b). r.apart i j t a b oi oj ha hb)
             (λ (nj : (j ≡ length s.views) × (n ≡ b)). absurd (subst (λ (z : V). HasTicket t z.stage) (sym nj.1) hb))
-            (at_end log_of basis_of answers basis opening s.views n b j ej))
+            (at_end s.views n b j ej))
             (λ (ni : (i ≡ length s.views) × (n ≡ a)). absurd (subst (λ (z : V). HasTicket t z.stage) (sym ni.1) ha))
-            (at_end log_of basis_of answers basis opening s.views n a i ei);
+            (at_end s.views n a i ei);
         unused = λ j long. r.unused j (let e : length (s.views ++ n ∷ []) ≡ length s.views + 1 = length-append s.views (n ∷ []) in omega arith);
-        away = away_snoc log_of basis_of answers basis opening s.views n refl r.away;
-        owners = owners_snoc log_of basis_of answers basis opening s.views n r.log r.owners;
+        away = away_snoc s.views n refl r.away;
+        owners = owners_snoc s.views n r.log r.owners;
         place = ⊎_elim
             (λ (h : IsHome log_of basis_of basis opening r.log s). inl (
               h.0,
@@ -145,7 +149,7 @@ module _ {T B X C P : Type 0} (log_of : T → List X) (basis_of : T → B) (answ
               λ j d e turn. ⊎_elim
                   (λ (old : get_elem? s.views j ≡ some d). h.3 j d old turn)
                   (λ (new : (j ≡ length s.views) × (n ≡ d)). subst (λ (z : V). HasTurn z.stage) (sym new.1) turn)
-                  (at_end log_of basis_of answers basis opening s.views n d j e),
+                  (at_end s.views n d j e),
             ))
             (λ (o : IsOut s). inr (o.0, o.1, o.2, at_longer s.views (n ∷ []) o.0 o.1 o.3, o.4))
             r.place;
@@ -170,12 +174,12 @@ module _ {T B X C P : Type 0} (log_of : T → List X) (basis_of : T → B) (answ
       quiet record { words = s.words; homes = s.homes; views = set s.views id (hearing v w) } r' other w spent there (sym away) (sym none_left) (sym none_gone) (λ z. absurd (subst Sits away z)) (blank_fits r'.log r'.drawn r'.served other [] (r'.log, refl))
 
   -- the seat's view with a longer beginning of the log
-  longer_fits : (log : List (Entry X)) (drawn served id : ℕ) (v : V) (l : List (Entry X)) → v.stage ≡ Idle → Fit log drawn served id v → IsPrefix v.seen l → IsPrefix l log → Fit log drawn served id (seeing l v) × Owns answers (seeing l v)
+  longer_fits : (log : List (Entry X)) (drawn served id : ℕ) (v : V) (l : List (Entry X)) → v.stage ≡ Idle → Fit log drawn served id v → IsPrefix v.seen l → IsPrefix l log → Fit log drawn served id (seeing l v) × Owns answers (known (seeing l v))
   longer_fits log drawn served id v l idle f p q =
       let mine : IsMine basis opening log id v = subst (λ (st : Stage). FitsStage basis opening log drawn served id v st) idle f.stage in
       let own : changes_by id l ≡ pieces v.turns = squeezed id v.seen l log (pieces v.turns) p q mine.in_seen mine.in_log in
-      let stand : (k : ℕ) (t : Turn X C P) → get_elem? v.turns k ≡ some t → Stands answers (seeing l v) t = λ k t e.
-      subst (λ (z : List (Entry X)). Stands answers (record v { seen = z; told = [] }) t) p.1 (stands_more log_of basis_of answers basis opening v v.stage p.0 v.turns t (f.stands k t e)) in (
+      let stand : (k : ℕ) (t : Turn X C P) → get_elem? v.turns k ≡ some t → Stands answers (known (seeing l v)) t = λ k t e.
+      subst (λ (z : List (Entry X)). Stands answers (known (record v { seen = z; told = [] })) t) p.1 (stands_more log_of basis_of answers basis opening seats v v.stage p.0 v.turns t (f.stands k t e)) in (
         record {
           seen = q;
           told = (log, refl);
@@ -208,13 +212,13 @@ module _ {T B X C P : Type 0} (log_of : T → List X) (basis_of : T → B) (answ
 
 module _ {B X C P : Type 0} where
   -- b hears a, and then a hears b
-  pub meets : (a b a' b' a'' b'' : View B X C P) → a' ≡ a → ((s : List (Entry X)) × (b' ≡ seeing s b) × IsLonger s b.seen a.seen) → b'' ≡ b' → ((t : List (Entry X)) × (a'' ≡ seeing t a') × IsLonger t a'.seen b'.seen) → Meets a b a'' b''
+  pub meets : (a b a' b' a'' b'' : View B X C P) → a' ≡ a → ((s : List (Entry X)) × (b' ≡ seeing s b) × IsLonger s b.seen a.seen) → b'' ≡ b' → ((t : List (Entry X)) × (a'' ≡ seeing t a') × IsLonger t a'.seen b'.seen) → Meets (known a) (known b) (known a'') (known b'')
   meets a b a' b' a'' b'' same h stays k =
       let s : List (Entry X) = h.0 in
       let second : IsLonger k.0 a.seen h.0 = subst (λ (z : List (Entry X) × List (Entry X)). IsLonger k.0 z.0 z.1) (λ i. ((same i).seen, (h.1 i).seen)) k.2 in
       let one : k.0 ≡ h.0 = one_longer a.seen b.seen h.0 k.0 h.2 second in (
         h.0,
-        k.1 ∙ (ap (λ (z : View B X C P). seeing k.0 z) same ∙ ap (λ (z : List (Entry X)). seeing z a) one),
-        stays ∙ h.1,
+        ap known (k.1 ∙ (ap (λ (z : View B X C P). seeing k.0 z) same ∙ ap (λ (z : List (Entry X)). seeing z a) one)),
+        ap known (stays ∙ h.1),
         ⊎_elim inr inl h.2,
       )

@@ -1,5 +1,4 @@
 pub mod Log
-pub mod Rule
-pub mod Steps
 pub mod Seats
 pub mod Asked
+pub mod inner

@@ -1,46 +1,47 @@
--- What the calls of a hall say of its seats.
-use Rattle.std.specs.Prelude.{Some, ◌≡◌, ℕ, ◌%◌, ◌^◌, List, [], ◌++◌}
-use Rattle.atomic_table.specs.Seated.{TableId}
-use Rattle.atomic_table.specs.declared.shared.Seat.{Seat}
-use Rattle.soc_hall.specs.declared.view.Place.{Place}
-use Rattle.soc_hall.specs.declared.view.Entry.{Entry}
-use Rattle.soc_hall.specs.declared.view.Stage.TheVariants.{Idle, Waits}
+-- What the calls of a hall say of it and of its seats.
+use Rattle.std.specs.Prelude.{Some, ◌≡◌, ℕ, List, [], vec_capacity}
+use Rattle.soc_hall.specs.declared.view.Known.{Known}
 use Rattle.soc_hall.specs.declared.view.View.{View}
+use Rattle.soc_hall.specs.declared.seats.HallSeat.{HallSeat}
+use Rattle.soc_hall.specs.declared.seats.HallSeats.{HallSeats}
+use Rattle.soc_hall.specs.declared.hall.Room.{Room}
 use Rattle.soc_hall.specs.Log.{whole}
 
-module _ {T B X C P : Type 0} where
-  abbrev pub view_of : Seat (Place T C P) (View B X C P) → View B X C P
-  view_of s = s.me.0
-
-  -- a seat of this table, at no turn
-  abbrev pub IsSeat : TableId → Seat (Place T C P) (View B X C P) → Type 0
-  IsSeat z s = (s.table_id ≡ z) × (s.me.1 ≡ []) × (s.me.0.stage ≡ Idle)
-
-  -- how many of the hall's 64 parts the seats have
-  abbrev pub parts_of : Seat (Place T C P) (View B X C P) → ℕ
-  parts_of s = s.me.0.parts
-
-  abbrev pub IsSame : Seat (Place T C P) (View B X C P) → Seat (Place T C P) (View B X C P) → Type 0
-  IsSame s t = (t.table_id ≡ s.table_id) × (t.id ≡ s.id)
-
-  -- the seat waits with this ticket
-  abbrev pub WaitsWith : ℕ → Seat (Place T C P) (View B X C P) → Type 0
-  WaitsWith n s = (t : ℕ) × (n ≡ t % 2 ^ 64) × (s.me.0.stage ≡ Waits t) × (s.me.1 ≡ [])
-
 module _ {B X C P : Type 0} where
-  -- what the seat had seen was a beginning of the log, and it has now seen more
-  abbrev pub sees : List (Entry X) → View B X C P → View B X C P
-  sees between v = record v { seen = v.seen ++ between }
+  -- what a view says that its seat knows
+  abbrev pub known : View B X C P → Known B X C P
+  known v = record { number = v.number; basis = v.basis; opening = v.opening; seen = v.seen; turns = v.turns }
 
   -- the whole log that a seat has seen
-  abbrev pub seen_of : View B X C P → List X
+  abbrev pub seen_of : Known B X C P → List X
   seen_of v = whole v.opening v.seen
 
   -- a seat that has seen the log with which the hall opened, and has had no turn
-  abbrev pub IsNew : B → List X → View B X C P → Type 0
-  IsNew b o v = (v.basis ≡ Some b) × (v.opening ≡ o) × (v.seen ≡ []) × (v.turns ≡ []) × (v.gone ≡ [])
+  abbrev pub IsNew : B → List X → Known B X C P → Type 0
+  IsNew basis opening v = (v.basis ≡ Some basis) × (v.opening ≡ opening) × (v.seen ≡ []) × (v.turns ≡ [])
 
-module _ {B X C P : Type 0} where
-  -- what a command asks, by the basis and the log that a seat knows
-  abbrev pub MayAsk : (B → List X → C → Type 0) → View B X C P → C → Type 0
-  MayAsk may v command = (b : B) → v.basis ≡ Some b → may b (seen_of v) command
+  -- the seat knows enough to ask the command
+  abbrev pub MayAsk : (B → List X → C → Type 0) → Known B X C P → C → Type 0
+  MayAsk may v command = (basis : B) → v.basis ≡ Some basis → may basis (seen_of v) command
+
+module _ {T B X C P : Type 0} where
+  -- what a seat knows
+  abbrev pub known_of : HallSeat T B X C P → Known B X C P
+  known_of seat = known seat.chair.me.0
+
+  -- the seats in a list of them, and for how many it has room
+  abbrev pub seats_in : HallSeats T B X C P → List (HallSeat T B X C P)
+  seats_in seats = seats.list.items
+
+  abbrev pub room_of : HallSeats T B X C P → ℕ
+  room_of seats = vec_capacity seats.list
+
+module _ {S V U Q T B X C P : Type 0} where
+  -- it is a seat of this hall
+  abbrev pub IsSeatOf : Room S V U Q → HallSeat T B X C P → Type 0
+  IsSeatOf hall seat = seat.chair.table_id ≡ hall.table.shared.table_id
+
+module _ {S V Q T : Type 0} where
+  -- how many seats a hall has
+  abbrev pub seats_of : Room S V T Q → ℕ
+  seats_of hall = hall.table.shared.key.seats

@@ -7,10 +7,10 @@ mod hall;
 mod logged;
 mod meet;
 mod plays;
-#[cfg(test)]
-mod tests;
+mod seats;
 mod view;
 
-pub use hall::{Hall, HallReceipt, Room, Seat, Seats};
+pub use hall::{Hall, HallReceipt, Room};
 pub use logged::Logged;
-pub use view::{Entry, Law, Past, Place, Stage, Turn, View};
+pub use seats::{HallSeat, HallSeats, Seat, Seats};
+pub use view::{Entry, Known, Law, Place, Stage, Start, Turn, View};

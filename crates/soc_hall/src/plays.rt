@@ -1,5 +1,5 @@
 //! What each step on the table tells.
-ghost use Rattle.soc_hall.specs.Steps.{numbered, drew, looked, fronted, counted, passed, keeping, given, note_of, hearing, spent, compared, taking_in};
+ghost use Rattle.soc_hall.specs.inner.Steps.{numbered, drew, looked, fronted, counted, passed, keeping, given, note_of, hearing, spent, compared, taking_in};
 
 use crate::logged::Logged;
 use crate::view::{Place, View};

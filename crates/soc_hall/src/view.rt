@@ -30,9 +30,11 @@ pub struct Turn<X, C, P> {
     pub piece: LinkedList<X>,
 }
 
-/// What was known of a seat that was taken in. No value of it is made.
-pub struct Past<X, C, P> {
+/// What a seat knows: its number, what no turn changes, the log with which the hall opened, the entries behind it that it has seen, and its turns. No value of it is made.
+pub struct Known<B, X, C, P> {
     pub number: u64,
+    pub basis: Option<B>,
+    pub opening: LinkedList<X>,
     pub seen: LinkedList<Entry<X>>,
     pub turns: LinkedList<Turn<X, C, P>>,
 }
@@ -48,20 +50,26 @@ pub enum Stage {
     Away,
 }
 
-/// What a seat knows. No value of it is made.
+/// What the rule knows of a seat. No value of it is made.
 pub struct View<B, X, C, P> {
     pub number: u64,
-    /// Of the 64 that there are.
+    /// How many seats it stands for.
     pub parts: u64,
     pub stage: Stage,
-    /// Only of a seat that is away it is unknown.
     pub basis: Option<B>,
     pub opening: LinkedList<X>,
     pub seen: LinkedList<Entry<X>>,
     pub told: LinkedList<Entry<X>>,
     pub turns: LinkedList<Turn<X, C, P>>,
     /// The seats that it took in.
-    pub gone: LinkedList<Past<X, C, P>>,
+    pub gone: LinkedList<Known<B, X, C, P>>,
+}
+
+/// What a hall is made of.
+#[derive(Drop)]
+pub struct Start<T> {
+    pub state: Snapshot<T>,
+    pub seats: u32,
 }
 
 /// The rule of the hall's table.
@@ -72,11 +80,11 @@ pub struct Law<T> {
 impl<T: Logged> TableRule<
     Place<T, T::Command, T::Reply>,
     View<T::Basis, T::Change, T::Command, T::Reply>,
-    Snapshot<T>,
+    Start<T>,
 > for Law<T> {
-    ghost use Rattle.soc_hall.specs.Rule.{Kept, starting};
+    ghost use Rattle.soc_hall.specs.inner.Rule.{Kept, starting};
 
-    ghost holds = { λ key. Kept T.log_of T.basis_of T.answers (T.basis_of key.value) (T.log_of key.value) };
+    ghost holds = { λ key. Kept T.log_of T.basis_of T.answers (T.basis_of key.state.value) (T.log_of key.state.value) key.seats };
 
-    ghost first = { λ key. starting (T.basis_of key.value) (T.log_of key.value) };
+    ghost first = { λ key. starting (T.basis_of key.state.value) (T.log_of key.state.value) key.seats };
 }

@@ -1,13 +1,10 @@
-use Rattle.soc_hall.specs.declared.view.Place.TheVariants.{Empty, Rest, Done}
-use Rattle.soc_hall.specs.Seats.{view_of}
-use Rattle.soc_hall.proofs.Closes.{closes}
+use Rattle.std.proofs.Common.{◌≡◌, ◌<◌, length, vec_len, rules, arith}
+use Rattle.std.proofs.lemmas.List.Elements.{All-pop}
+use Rattle.soc_hall.specs.Seats.{seats_of, IsSeatOf}
 use Rattle.soc_hall.proofs.close.Hall+T.close.Goals as goal
 
 pub unreachable-requires : goal.unreachable-requires
-unreachable-requires g c = closes g.T.Logged.log_of g.T.Logged.basis_of g.T.Logged.answers (g.T.Logged.basis_of c.args.self.table.shared.key.value) (g.T.Logged.log_of c.args.self.table.shared.key.value) c.args.seat.id (view_of c.args.seat) _ _ Empty c.requires.seat.2 c.requires.all c.close_with-closed.ensures.values.2 c.in-Empty.ensures.value
+unreachable-requires g c = let many : length c.args.seats.list.items ≡ seats_of c.args.self = c.requires.all in let some_seat : 0 < seats_of c.args.self = c.args.self.some_seat in let none : vec_len c.args.seats.list ≡ 0 = c.in_default.ensures.cases.0 in let same : length c.args.seats.list.items ≡ vec_len c.args.seats.list = search rules in omega arith
 
-pub returns-in-Rest : goal.returns-in-Rest
-returns-in-Rest g c = closes g.T.Logged.log_of g.T.Logged.basis_of g.T.Logged.answers (g.T.Logged.basis_of c.args.self.table.shared.key.value) (g.T.Logged.log_of c.args.self.table.shared.key.value) c.args.seat.id (view_of c.args.seat) _ _ (Rest c.in-Rest.state) c.requires.seat.2 c.requires.all c.close_with-closed.ensures.values.2 c.in-Rest.ensures.value
-
-pub returns : goal.returns
-returns g c = closes g.T.Logged.log_of g.T.Logged.basis_of g.T.Logged.answers (g.T.Logged.basis_of c.args.self.table.shared.key.value) (g.T.Logged.log_of c.args.self.table.shared.key.value) c.args.seat.id (view_of c.args.seat) _ _ (Done c.in-Done.state c.in-Done.field-1 c.in-Done.field-2) c.requires.seat.2 c.requires.all c.close_with-closed.ensures.values.2 c.in-Done.ensures.value
+pub take_in-chair-requires-clause-others : goal.take_in-chair-requires-clause-others
+take_in-chair-requires-clause-others g c = (All-pop (λ seat. IsSeatOf c.args.self seat) c.args.seats.list.items c.pop.new.self.items c.pop.result c.pop.ensures.items c.requires.seats).0

@@ -1,6 +1,6 @@
 -- The rule of the hall's table: there is one log, of which each seat has seen a beginning. Where no seat has the turn, the state lies at home and has that log.
 -- `drawn` and `served` count the tickets on and on. As many are out as there are seats that wait or have the turn, at most 64.
-use Rattle.std.specs.Prelude.{Option, Some, ◌≡◌, ◌⊎◌, ℕ, ◌+◌, ◌%◌, ◌^◌, ◌<◌, ◌≤◌, List, [], ◌∷◌, ◌++◌, length}
+use Rattle.std.specs.Prelude.{Some, ◌≡◌, ◌⊎◌, ℕ, ◌+◌, ◌%◌, ◌^◌, ◌<◌, ◌≤◌, List, [], ◌∷◌, length}
 use mathlib.Core.Option.{some, none}
 use mathlib.Core.List.{IsPrefix}
 use lib.ListN.{get_elem?}
@@ -11,9 +11,11 @@ use Rattle.soc_hall.specs.declared.view.Entry.{Entry}
 use Rattle.soc_hall.specs.declared.view.Turn.{Turn}
 use Rattle.soc_hall.specs.declared.view.Stage.{Stage}
 use Rattle.soc_hall.specs.declared.view.Stage.TheVariants.{Fresh, Idle, Waits, Turns, Away}
-use Rattle.soc_hall.specs.declared.view.Past.{Past}
+use Rattle.soc_hall.specs.declared.view.Known.{Known}
 use Rattle.soc_hall.specs.declared.view.View.{View}
-use Rattle.soc_hall.specs.Log.{tagged, changes_by, whole, pieces}
+use Rattle.soc_hall.specs.Log.{changes_by, pieces}
+use Rattle.soc_hall.specs.Seats.{known}
+use Rattle.soc_hall.specs.Asked.{Stands, HasPart, IsState}
 
 -- how many tickets a seat at this stage has
 abbrev pub tickets : Stage → ℕ
@@ -55,31 +57,9 @@ Holds Q Empty = ⊥
 Holds Q (Rest x) = Q x
 Holds Q (Done x c p) = Q x
 
-module _ {X C P : Type 0} where
-  -- a seat that was taken in: it had seen a beginning of the log, and the changes that bear its number are the pieces of its turns
-  abbrev pub IsPast : List (Entry X) → Past X C P → Type 0
-  IsPast log g = IsPrefix g.seen log × (changes_by g.number log ≡ pieces g.turns)
-
 module _ {B X C P : Type 0} where
-  abbrev pub starting : B → List X → View B X C P
-  starting b xs = record { number = 0; parts = 64; stage = Idle; basis = Some b; opening = xs; seen = []; told = []; turns = []; gone = [] }
-
-  -- the answer is right by the basis that is known
-  abbrev pub Right : (B → List X → C → P → List X → Type 0) → Option B → List X → C → P → List X → Type 0
-  Right answers known xs c p ys = (b : B) × (known ≡ Some b) × answers b xs c p ys
-
-  -- The turn t stands in what the seat has seen: its piece bears the seat's number and goes from its start to its front, and the answer is right for the logs there
-  abbrev pub Stands : (B → List X → C → P → List X → Type 0) → View B X C P → Turn X C P → Type 0
-  Stands answers v t = (before : List (Entry X)) × (after : List (Entry X))
-      × (v.seen ≡ (before ++ tagged v.number t.piece) ++ after)
-      × (t.start ≡ length (whole v.opening before))
-      × (t.front ≡ length (whole v.opening (before ++ tagged v.number t.piece)))
-      × Right answers v.basis (whole v.opening before) t.command t.reply (whole v.opening (before ++ tagged v.number t.piece))
-
-  -- of what the seat has seen, the changes that bear its number are the pieces of its turns, in order, and each turn stands there
-  pub record Owns (answers : B → List X → C → P → List X → Type 0) (v : View B X C P) : Type 0 where
-    pub mine : changes_by v.number v.seen ≡ pieces v.turns
-    pub turns : (k : ℕ) (t : Turn X C P) → get_elem? v.turns k ≡ some t → Stands answers v t
+  abbrev pub starting : B → List X → ℕ → View B X C P
+  starting b xs seats = record { number = 0; parts = seats; stage = Idle; basis = Some b; opening = xs; seen = []; told = []; turns = []; gone = [] }
 
   -- The seat j: the changes that bear its number are the pieces of its turns, in order, and it has seen them all
   pub record IsMine (basis : B) (opening : List X) (log : List (Entry X)) (j : ℕ) (v : View B X C P) : Type 0 where
@@ -99,7 +79,7 @@ module _ {B X C P : Type 0} where
 
   -- the seat itself has the number j, or one that it took in had
   abbrev pub Speaks : ℕ → View B X C P → Type 0
-  Speaks j u = Sits u.stage × ((u.number ≡ j) ⊎ ((k : ℕ) × (g : Past X C P) × (get_elem? u.gone k ≡ some g) × (g.number ≡ j)))
+  Speaks j u = Sits u.stage × ((u.number ≡ j) ⊎ ((k : ℕ) × (g : Known B X C P) × (get_elem? u.gone k ≡ some g) × (g.number ≡ j)))
 
   -- whose number changes bear is a seat's, or was one's that a seat took in
   abbrev pub HasOwners : List (Entry X) → List (View B X C P) → Type 0
@@ -107,20 +87,15 @@ module _ {B X C P : Type 0} where
 
   -- a seat that was taken in is away
   abbrev pub AreAway : List (View B X C P) → Type 0
-  AreAway vs = (j k : ℕ) (v : View B X C P) (g : Past X C P) → get_elem? vs j ≡ some v → get_elem? v.gone k ≡ some g → (u : View B X C P) × (get_elem? vs g.number ≡ some u) × (u.stage ≡ Away)
+  AreAway vs = (j k : ℕ) (v : View B X C P) (g : Known B X C P) → get_elem? vs j ≡ some v → get_elem? v.gone k ≡ some g → (u : View B X C P) × (get_elem? vs g.number ≡ some u) × (u.stage ≡ Away)
 
   pub record Fits (answers : B → List X → C → P → List X → Type 0) (basis : B) (opening : List X) (log : List (Entry X)) (drawn served j : ℕ) (v : View B X C P) : Type 0 where
     pub seen : IsPrefix v.seen log
     pub told : IsPrefix v.told log
     pub stage : FitsStage basis opening log drawn served j v v.stage
-    pub stands : (k : ℕ) (t : Turn X C P) → get_elem? v.turns k ≡ some t → Stands answers v t
-    pub gone : (k : ℕ) (g : Past X C P) → get_elem? v.gone k ≡ some g → IsPast log g
-    pub distinct : (k l : ℕ) (g h : Past X C P) → get_elem? v.gone k ≡ some g → get_elem? v.gone l ≡ some h → g.number ≡ h.number → k ≡ l
-
-module _ {T B X : Type 0} (log_of : T → List X) (basis_of : T → B) where
-  -- the state has this log, and the basis that is known
-  abbrev pub IsState : Option B → List X → List (Entry X) → T → Type 0
-  IsState known opening log x = (log_of x ≡ whole opening log) × (known ≡ Some (basis_of x))
+    pub stands : (k : ℕ) (t : Turn X C P) → get_elem? v.turns k ≡ some t → Stands answers (known v) t
+    pub gone : (k : ℕ) (g : Known B X C P) → get_elem? v.gone k ≡ some g → HasPart basis opening log g
+    pub distinct : (k l : ℕ) (g h : Known B X C P) → get_elem? v.gone k ≡ some g → get_elem? v.gone l ≡ some h → g.number ≡ h.number → k ≡ l
 
 module _ {T B X C P : Type 0} where
   -- somebody has the turn, and the state with it
@@ -133,12 +108,13 @@ module _ {T B X C P : Type 0} (log_of : T → List X) (basis_of : T → B) where
   IsHome basis opening log s = (x : Place T C P) × (s.homes ≡ some x ∷ []) × Holds (IsState log_of basis_of (Some basis) opening log) x
       × ((j : ℕ) (v : View B X C P) → get_elem? s.views j ≡ some v → HasTurn v.stage → ⊥)
 
-  pub record Kept (answers : B → List X → C → P → List X → Type 0) (basis : B) (opening : List X) (s : State (Place T C P) (View B X C P)) : Type 0 where
+  pub record Kept (answers : B → List X → C → P → List X → Type 0) (basis : B) (opening : List X) (seats : ℕ) (s : State (Place T C P) (View B X C P)) : Type 0 where
     pub log : List (Entry X)
     pub drawn : ℕ
     pub served : ℕ
     pub words : s.words ≡ (length opening + length log) ∷ (drawn % 2 ^ 64) ∷ (served % 2 ^ 64) ∷ []
-    pub few : total (λ v. v.parts) s.views ≡ 64
+    pub few : total (λ v. v.parts) s.views ≡ seats
+    pub at_most : seats ≤ 64
     pub out : total (λ v. tickets v.stage) s.views + served ≡ drawn
     pub each_seat : (j : ℕ) (v : View B X C P) → get_elem? s.views j ≡ some v → Fits answers basis opening log drawn served j v
     pub apart : (i j t : ℕ) (v w : View B X C P) → get_elem? s.views i ≡ some v → get_elem? s.views j ≡ some w → HasTicket t v.stage → HasTicket t w.stage → i ≡ j
