@@ -24,21 +24,21 @@ module _ {B X C P : Type 0} where
   abbrev pub MayAsk : (B → List X → C → Type 0) → Known B X C P → C → Type 0
   MayAsk may v command = (basis : B) → v.basis ≡ Some basis → may basis (seen_of v) command
 
-module _ {T B X C P : Type 0} where
+module _ {S B X C P : Type 0} where
   -- what a seat knows
-  abbrev pub known_of : HallSeat T B X C P → Known B X C P
+  abbrev pub known_of : HallSeat S B X C P → Known B X C P
   known_of seat = known seat.chair.me.0
 
   -- the seats in a list of them, and for how many it has room
-  abbrev pub seats_in : HallSeats T B X C P → List (HallSeat T B X C P)
+  abbrev pub seats_in : HallSeats S B X C P → List (HallSeat S B X C P)
   seats_in seats = seats.list.items
 
-  abbrev pub room_of : HallSeats T B X C P → ℕ
+  abbrev pub room_of : HallSeats S B X C P → ℕ
   room_of seats = vec_capacity seats.list
 
-module _ {S V U Q T B X C P : Type 0} where
+module _ {S V T Q B X C P : Type 0} where
   -- it is a seat of this hall
-  abbrev pub IsSeatOf : Room S V U Q → HallSeat T B X C P → Type 0
+  abbrev pub IsSeatOf : Room S V T Q → HallSeat S B X C P → Type 0
   IsSeatOf hall seat = seat.chair.table_id ≡ hall.table.shared.table_id
 
 module _ {S V Q T : Type 0} where

@@ -8,6 +8,8 @@ mod logged;
 mod meet;
 mod plays;
 mod seats;
+#[cfg(test)]
+mod tests;
 mod view;
 
 pub use hall::{Hall, HallReceipt, Room};

@@ -5,10 +5,10 @@ ghost use Rattle.soc_hall.specs.declared.view.Stage.TheVariants.{Idle};
 use crate::logged::Logged;
 use crate::view::{Place, View};
 
-/// A thread's right to take turns, and what it has seen. It has no bytes. It stands apart from `Seat`, so that it names no bound.
+/// A thread's right to take turns, and what it has seen. It has no bytes. It names what lies in the slot by one parameter, since else no proof is found that it may cross threads.
 #[derive(Drop)]
-pub struct HallSeat<T, B, X, C, P> {
-    pub(crate) chair: atomic_table::Seat<Place<T, C, P>, View<B, X, C, P>>,
+pub struct HallSeat<S, B, X, C, P> {
+    pub(crate) chair: atomic_table::Seat<S, View<B, X, C, P>>,
     ghost holds_nothing: { chair.me.1 ≡ [] },
     ghost rests: { chair.me.0.stage ≡ Idle },
     ghost one: { chair.me.0.parts ≡ 1 },
@@ -17,7 +17,7 @@ pub struct HallSeat<T, B, X, C, P> {
 
 /// A seat of a hall over this state.
 pub type Seat<T> = HallSeat<
-    T,
+    Place<T, <T as Logged>::Command, <T as Logged>::Reply>,
     <T as Logged>::Basis,
     <T as Logged>::Change,
     <T as Logged>::Command,
@@ -32,24 +32,24 @@ pub(crate) type Chair<T> = atomic_table::Seat<
 
 /// Seats that nobody has now.
 #[derive(Drop)]
-pub struct HallSeats<T, B, X, C, P> {
-    pub(crate) list: Vec<HallSeat<T, B, X, C, P>>,
+pub struct HallSeats<S, B, X, C, P> {
+    pub(crate) list: Vec<HallSeat<S, B, X, C, P>>,
 }
 
 /// Seats of halls over this state.
 pub type Seats<T> = HallSeats<
-    T,
+    Place<T, <T as Logged>::Command, <T as Logged>::Reply>,
     <T as Logged>::Basis,
     <T as Logged>::Change,
     <T as Logged>::Command,
     <T as Logged>::Reply,
 >;
 
-impl<T, B, X, C, P> HallSeats<T, B, X, C, P> {
+impl<S, B, X, C, P> HallSeats<S, B, X, C, P> {
     ghost use Rattle.soc_hall.specs.Seats.{seats_in, room_of};
 
     /// The last of them.
-    pub fn pop(&mut self) -> Option<HallSeat<T, B, X, C, P>>
+    pub fn pop(&mut self) -> Option<HallSeat<S, B, X, C, P>>
         ensures popped { MatchOption result ((seats_in self.old ≡ []) × (seats_in self.new ≡ [])) (λ seat. seats_in self.old ≡ seats_in self.new ++ seat ∷ []) }
         ensures room { room_of self.new ≡ room_of self.old }
     {
@@ -57,7 +57,7 @@ impl<T, B, X, C, P> HallSeats<T, B, X, C, P> {
     }
 
     /// Takes no memory: there is room for all seats of the hall.
-    pub fn push(&mut self, seat: HallSeat<T, B, X, C, P>)
+    pub fn push(&mut self, seat: HallSeat<S, B, X, C, P>)
         requires { length (seats_in self.old) < room_of self.old }
         ensures pushed { seats_in self.new ≡ seats_in self.old ++ seat ∷ [] }
         ensures room { room_of self.new ≡ room_of self.old }
