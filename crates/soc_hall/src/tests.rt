@@ -168,6 +168,32 @@ fn run<R: Clock + Threads + Wait + Clone + Drop + Send + Sync>(
     Ok((closing.close(seats), notes))
 }
 
+// Two seats ask and meet, and the first asks again: where the turns began and ended, and what is left.
+fn meet_and_close<R: Clock + Wait + Drop>(
+    rt: &R,
+    alloc: Global,
+    numbers: Numbers<R>,
+) -> Result<([(u64, u64); 3], Numbers<R>), NoMemory>
+    requires { numbers.bound ≡ BOUND }
+{
+    let (closing, mut seats) = Hall::new(alloc, numbers, 2)?;
+    let hall = &closing;
+    let Some(a) = seats.pop() else { unreachable!() };
+    let Some(b) = seats.pop() else { unreachable!() };
+    let (a, first) = hall.ask(rt, a, 7);
+    let (b, second) = hall.ask(rt, b, 8);
+    let (a, b) = hall.meet(a, b);
+    let (a, third) = hall.ask(rt, a, 9);
+    seats.push(b);
+    seats.push(a);
+    let places = [
+        (first.start, first.front),
+        (second.start, second.front),
+        (third.start, third.front),
+    ];
+    Ok((places, closing.close(seats)))
+}
+
 fn numbers_of<R: Clock + Clone + Drop>(
     rt: &R,
     alloc: Global,
@@ -204,6 +230,15 @@ fn threads_interleave(rt: HostRuntime) -> Result<(), Fail> {
         assert_eq!(rt; numbers.list.len() as u64, threads as u64 * 10_000);
         assert!(rt; interleaves(numbers.list.as_slice(), notes.as_slice()));
     }
+    Ok(())
+}
+
+#[test]
+fn two_seats_meet(rt: HostRuntime) -> Result<(), Fail> {
+    let numbers = numbers_of(&rt, rt.alloc(), Duration::ZERO)?;
+    let (places, numbers) = meet_and_close(&rt, rt.alloc(), numbers)?;
+    assert_eq!(rt; places, [(0, 1), (1, 2), (2, 3)]);
+    assert_eq!(rt; numbers.list.as_slice(), [7, 8, 9].as_slice());
     Ok(())
 }
 
