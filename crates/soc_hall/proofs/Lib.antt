@@ -1,0 +1,9 @@
+pub mod Logs
+pub mod Views
+pub mod Kept
+pub mod Opens
+pub mod Ways
+pub mod News
+pub mod Meets
+pub mod Closes
+pub mod Taken

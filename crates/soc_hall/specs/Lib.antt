@@ -1,0 +1,4 @@
+pub mod Log
+pub mod Seats
+pub mod Asked
+pub mod inner

@@ -1,0 +1,40 @@
+-- What the calls of a ring say of its passes.
+use Rattle.std.specs.Prelude.{◌≡◌, ℕ, zero, suc, ◌+◌, ◌-◌, ◌^◌, min, false, List, [], ◌∷◌, ◌++◌}
+use Rattle.crossbeam_queue.specs.Passes as kit
+use Rattle.soc_pool.specs.declared.rule.Seen.{Seen}
+use Rattle.soc_pool.specs.declared.pass.Pass.{Pass}
+use Rattle.soc_pool.specs.declared.pass.Passes.{Passes}
+use Rattle.soc_pool.specs.declared.jobs.Jobs.{Jobs}
+
+-- what the pass has seen
+abbrev pub seen_of : Pass → Seen
+seen_of pass = kit.view pass.ring
+
+-- how often it met a full and an empty ring
+abbrev pub fulls_of : Pass → ℕ
+fulls_of pass = pass.fulls
+
+abbrev pub empties_of : Pass → ℕ
+empties_of pass = pass.empties
+
+abbrev pub passes_in : Passes → List Pass
+passes_in passes = passes.list.items
+
+-- it is a pass of this ring
+abbrev pub IsPassOf : Jobs → Pass → Type 0
+IsPassOf ring pass = kit.IsPassOf ring.ring pass.ring
+
+-- a pass that has seen, put and taken nothing
+pub record IsNew (pass : Pass) : Type 0 where
+  pub seen : seen_of pass ≡ record { number = (seen_of pass).number; makes = false; put = []; taken = []; puts = []; takes = [] }
+  pub fulls : fulls_of pass ≡ 0
+  pub empties : empties_of pass ≡ 0
+
+-- the numbers from 0 on, so many
+abbrev pub numbers_below : ℕ → List ℕ
+numbers_below zero = []
+numbers_below (suc n) = numbers_below n ++ n ∷ []
+
+-- counted once more, up to the last value
+abbrev pub once_more : ℕ → ℕ
+once_more n = min (n + 1) (2 ^ 64 - 1)

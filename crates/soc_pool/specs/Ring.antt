@@ -1,0 +1,52 @@
+-- What a put and a take say: of the lists of jobs put and taken, which only grow, and of which what was taken is a front of what was put.
+use Rattle.std.specs.Prelude.{◌≡◌, ℕ, ◌==◌, cond, List, [], ◌∷◌, ◌++◌, length}
+use mathlib.Core.List.{IsPrefix}
+use Rattle.soc_pool.specs.declared.jobs.Job.{Job}
+use Rattle.soc_pool.specs.declared.rule.Entry.{Entry}
+use Rattle.soc_pool.specs.declared.rule.Seen.{Seen}
+
+abbrev pub entry : ℕ → Job → Entry
+entry n job = record { by = n; job = job }
+
+abbrev pub jobs : List Entry → List Job
+jobs [] = []
+jobs (e ∷ es) = e.job ∷ jobs es
+
+-- the jobs of the pass n
+abbrev pub jobs_by : ℕ → List Entry → List Job
+jobs_by n [] = []
+jobs_by n (e ∷ es) = cond (e.by == n) (e.job ∷ jobs_by n es) (jobs_by n es)
+
+-- the pass has seen that what was taken is a front of what was put, and its puts and takes are the entries that bear its number
+pub record Owns (v : Seen) : Type 0 where
+  pub in_order : IsPrefix (jobs v.taken) (jobs v.put)
+  pub puts : jobs_by v.number v.put ≡ v.puts
+  pub takes : jobs_by v.number v.taken ≡ v.takes
+
+-- the lists begin with all that the pass has seen
+abbrev pub Begins : Seen → List Entry → List Entry → Type 0
+Begins v put taken = IsPrefix v.put put × IsPrefix v.taken taken
+
+-- the job was put behind all jobs that were put before
+pub record Puts (v : Seen) (job : Job) (w : Seen) : Type 0 where
+  pub put : List Entry
+  pub taken : List Entry
+  pub begins : Begins v put taken
+  pub is_now : w ≡ record v { put = put ++ entry v.number job ∷ []; taken = taken; puts = v.puts ++ job ∷ [] }
+  pub owns : Owns w
+
+-- the job was taken behind all jobs that were taken before: it is the next of those that were put
+pub record Takes (v : Seen) (job : Job) (w : Seen) : Type 0 where
+  pub put : List Entry
+  pub taken : List Entry
+  pub begins : Begins v put taken
+  pub is_now : w ≡ record v { put = put; taken = taken ++ entry v.number job ∷ []; takes = v.takes ++ job ∷ [] }
+  pub owns : Owns w
+
+-- the ring holds these jobs: those put and not yet taken
+abbrev pub IsContent : Seen → List Job → Type 0
+IsContent v held = (put : List Entry) × (taken : List Entry) × Begins v put taken × (jobs taken ++ held ≡ jobs put)
+
+-- at a moment in the call the ring held so many jobs
+abbrev pub WasHolding : ℕ → Seen → Type 0
+WasHolding n v = (held : List Job) × (length held ≡ n) × IsContent v held

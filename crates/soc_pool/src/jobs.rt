@@ -1,0 +1,105 @@
+//! The ring.
+ghost use Rattle.std.specs.Prelude.{◌≡◌, ◌<◌, ◌≤◌, [], length, map, All, vec_capacity, IfOk, IfErr, IfSome, IfNone, MatchResult};
+ghost use Rattle.crossbeam_queue.specs.Passes.{ruled_capacity};
+ghost use Rattle.soc_pool.specs.declared.jobs.TheConstants.{PLACES};
+
+use crate::pass::{Pass, Passes};
+use crate::rule::{Another, OneRing, Put, Seen, Take};
+use crossbeam_queue::RuledArrayQueue;
+use soc_raw::{CrashId, NoMemory};
+use std::alloc::Global;
+use std::sync::Wait;
+
+/// How many jobs a ring holds.
+pub const PLACES: usize = 1024;
+
+/// What a processor is to do: make the report of a crash, or end.
+#[derive(Clone, Copy, Debug, PartialEq, Eq)]
+pub enum Job {
+    Crash(CrashId),
+    End,
+}
+
+/// A ring of jobs.
+#[derive(Drop)]
+pub struct Jobs {
+    ring: RuledArrayQueue<Job, Seen, OneRing>,
+    ghost places: { ruled_capacity ring ≡ PLACES },
+}
+
+impl Jobs {
+    ghost use Rattle.crossbeam_queue.specs.Passes as kit;
+    ghost use Rattle.soc_pool.specs.Ring.{Puts, Takes, WasHolding};
+    ghost use Rattle.soc_pool.specs.Passes.{seen_of, fulls_of, empties_of, passes_in, numbers_below, once_more, IsPassOf, IsNew};
+    ghost use Rattle.soc_pool.specs.inner.Rule.{maker_at};
+
+    /// A ring that holds no job, and its passes.
+    pub fn new(alloc: Global, passes: u32) -> Result<(Jobs, Passes), NoMemory>
+        requires { (0 < passes) × (passes ≤ 64) }
+        ensures count { IfOk result (λ made. length (passes_in made.1) ≡ passes) }
+        ensures each { IfOk result (λ made. All (λ pass. IsPassOf made.0 pass × IsNew pass) (passes_in made.1)) }
+        ensures numbers { IfOk result (λ made. map (λ pass. (seen_of pass).number) (passes_in made.1) ≡ numbers_below passes) }
+    {
+        let list = Vec::with_capacity(alloc, passes as usize)?;
+        let (ring, maker) = RuledArrayQueue::ruled(alloc, PLACES)?;
+        let jobs = Jobs { ring };
+        let passes = jobs.fill(list, maker, passes);
+        Ok((jobs, passes))
+    }
+
+    // As many passes, the first with the number 0.
+    fn fill(
+        &self,
+        mut list: Vec<Pass>,
+        mut maker: crossbeam_queue::Pass<Job, Seen>,
+        passes: u32,
+    ) -> Passes
+        requires list { (list.items ≡ []) × (passes ≤ vec_capacity list) }
+        requires maker { kit.IsPassOf self.now.ring maker × (kit.view maker ≡ maker_at 0) }
+        ensures count { length (passes_in result) ≡ passes }
+        ensures each { All (λ pass. IsPassOf self.now pass × IsNew pass) (passes_in result) }
+        ensures numbers { map (λ pass. (seen_of pass).number) (passes_in result) ≡ numbers_below passes }
+    {
+        for _number in 0..passes {
+            let ring = self.ring.another::<Another>(&mut maker);
+            list.push_reserved(Pass {
+                ring,
+                fulls: 0,
+                empties: 0,
+            });
+        }
+        Passes { list }
+    }
+
+    /// Puts the job last. The error gives it back where the ring was full.
+    pub fn put<R: Wait>(&self, rt: &R, mut pass: Pass, job: Job) -> Result<Pass, (Pass, Job)>
+        requires { IsPassOf self.now pass }
+        ensures pass { MatchResult result (λ after. IsPassOf self.now after) (λ back. IsPassOf self.now back.0) }
+        ensures put { IfOk result (λ after. Puts (seen_of pass) job (seen_of after) × (fulls_of after ≡ fulls_of pass)) }
+        ensures full { IfErr result (λ back. (back.1 ≡ job) × (seen_of back.0 ≡ seen_of pass) × WasHolding PLACES (seen_of pass) × (fulls_of back.0 ≡ once_more (fulls_of pass))) }
+        ensures empties { MatchResult result (λ after. empties_of after ≡ empties_of pass) (λ back. empties_of back.0 ≡ empties_of pass) }
+    {
+        match self.ring.push_as::<Put, R>(rt, &mut pass.ring, job) {
+            Ok(()) => Ok(pass),
+            Err(job) => {
+                pass.fulls = pass.fulls.saturating_add(1);
+                Err((pass, job))
+            }
+        }
+    }
+
+    /// Takes the next job. None where the ring was empty.
+    pub fn take<R: Wait>(&self, rt: &R, mut pass: Pass) -> (Pass, Option<Job>)
+        requires { IsPassOf self.now pass }
+        ensures pass { IsPassOf self.now result.0 }
+        ensures taken { IfSome result.1 (λ job. Takes (seen_of pass) job (seen_of result.0) × (empties_of result.0 ≡ empties_of pass)) }
+        ensures empty { IfNone result.1 ((seen_of result.0 ≡ seen_of pass) × WasHolding 0 (seen_of pass) × (empties_of result.0 ≡ once_more (empties_of pass))) }
+        ensures fulls { fulls_of result.0 ≡ fulls_of pass }
+    {
+        let job = self.ring.pop_as::<Take, R>(rt, &mut pass.ring);
+        if job.is_none() {
+            pass.empties = pass.empties.saturating_add(1);
+        }
+        (pass, job)
+    }
+}

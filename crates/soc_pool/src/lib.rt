@@ -1,0 +1,12 @@
+//! A ring of jobs that threads put and take, each place once.
+#![tactic(auto)]
+
+mod jobs;
+mod pass;
+mod rule;
+#[cfg(test)]
+mod tests;
+
+pub use jobs::{Job, Jobs};
+pub use pass::{Pass, Passes};
+pub use rule::{Entry, OneRing, Seen};
