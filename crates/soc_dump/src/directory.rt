@@ -1,4 +1,4 @@
-// The header and the directory of streams.
+//! The header and the directory of streams.
 ghost use Rattle.std.specs.Prelude.{◌≡◌, ◌+◌, ◌*◌, ◌≤◌, ◌==◌, [], ◌∷◌, length, IsTrue};
 ghost use Rattle.std.specs.List.{list_any};
 ghost use Rattle.soc_dump.specs.Layout.{stream_entry_size};

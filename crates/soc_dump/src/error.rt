@@ -1,4 +1,4 @@
-// Why a dump is refused.
+//! Why a dump is refused.
 use soc_raw::NoMemory;
 use std::alloc::{AllocError, AllocFailed};
 use thiserror::Error;

@@ -1,4 +1,4 @@
-// The exception that ended the process.
+//! The exception that ended the process.
 ghost use Rattle.std.specs.Prelude.{◌≡◌, ◌≤◌, ◌∷◌, length, drop, IsTrue};
 ghost use Rattle.soc_dump.specs.Checks.{IsRead};
 ghost use Rattle.soc_dump.specs.Layout.{exception_size};

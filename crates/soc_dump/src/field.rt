@@ -1,4 +1,4 @@
-// Numbers in a structure, the lowest byte first.
+//! Numbers in a structure, the lowest byte first.
 ghost use Rattle.std.specs.Prelude.{◌≡◌, ◌+◌, ◌<◌, ◌≤◌, ◌^◌, length};
 ghost use Rattle.soc_dump.specs.Number.{number_of};
 

@@ -1,4 +1,4 @@
-// How a module names its debug file.
+//! How a module names its debug file.
 ghost use Rattle.std.specs.Prelude.{◌≡◌, ◌==◌, IfOk, IsTrue, map, slice_index, string_bytes};
 ghost use Rattle.std.specs.List.{before_first, position_or_len};
 ghost use Rattle.soc_dump.specs.Identity.{is_pdb, is_build_id, guid_text, pdb_id_of, build_id_of, pdb_path_of, debug_id_of, debug_file_of};
@@ -98,13 +98,13 @@ fn nul_place(bytes: &[u8]) -> usize
 }
 
 /// The path that the record of a PDB file names.
-fn pdb_path(alloc: Global, bytes: &[u8]) -> Result<String, NoMemory>
+fn pdb_path(alloc: Global, bytes: &[u8]) -> Result<Text, NoMemory>
     requires { IsTrue (is_pdb bytes.now) }
-    ensures { IfOk result (λ path. string_bytes path ≡ pdb_path_of bytes.now) }
+    ensures { IfOk result (λ path. path ≡ pdb_path_of bytes.now) }
 {
     let rest = &bytes[PDB_FILE..];
     let name = &rest[..nul_place(rest)];
-    Ok(String::from_utf8_lossy(alloc, name)?)
+    Text::lossy(alloc, name)
 }
 
 /// The name of a module's debug file: the base name of a PDB file's path, or of the module's own

@@ -1,4 +1,4 @@
-// Where the fields of a minidump's structures stand.
+//! Where the fields of a minidump's structures stand.
 use crate::field::Field;
 
 // The header, 32 bytes. The version is the low half of four bytes.

@@ -1,4 +1,4 @@
-// Minidumps: what a crashed process left of its memory, read without trust in one byte of it.
+//! Minidumps: what a crashed process left of its memory, read without trust in one byte of it.
 #![tactic(auto)]
 
 mod directory;

@@ -1,4 +1,4 @@
-// The list of memory regions.
+//! The list of memory regions.
 ghost use Rattle.std.specs.Prelude.{◌≡◌, ◌≤◌, length, map, IsTrue};
 ghost use Rattle.soc_dump.specs.Checks.{IsRead};
 ghost use Rattle.soc_dump.specs.Layout.{memory_size};

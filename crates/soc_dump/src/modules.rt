@@ -1,4 +1,4 @@
-// The list of modules.
+//! The list of modules.
 ghost use Rattle.std.specs.Prelude.{◌≡◌, ◌+◌, ◌≤◌, ◌<◌, ◌^◌, length, map, IfOk, IsTrue, encode_utf8_all};
 ghost use Rattle.std.specs.Char.Utf16.{utf16_lossy_chars};
 ghost use Rattle.soc_dump.specs.Checks.{IsRead};

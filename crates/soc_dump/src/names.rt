@@ -1,4 +1,4 @@
-// Names of architectures and platforms, and the texts of crash reasons.
+//! Names of architectures and platforms, and the texts of crash reasons.
 ghost use Rattle.std.specs.Prelude.{◌≡◌, IfOk, option_map};
 ghost use Rattle.soc_dump.specs.Names.{architecture_name_of, platform_name_of, windows_reason_of, signal_of, access_of, access_suffix_of, reason_name_of, reason_suffix_of, code_text, crash_reason_of};
 ghost use Rattle.soc_dump.specs.Views.{exception_entry};

@@ -1,4 +1,4 @@
-// Parts of a file.
+//! Parts of a file.
 ghost use Rattle.std.specs.Prelude.{◌≡◌, [], ◌∷◌};
 ghost use Rattle.soc_dump.specs.Part.{part};
 ghost use Rattle.soc_dump.specs.Checks.{IsRead, inside};

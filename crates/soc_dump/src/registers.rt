@@ -1,4 +1,4 @@
-// The registers of a processor's context.
+//! The registers of a processor's context.
 ghost use Rattle.std.specs.Prelude.{◌≡◌, ◌<◌, ◌≤◌, ◌^◌, IfSome};
 ghost use Rattle.soc_dump.specs.Registers.{register_of, amd64_register_of, x86_register_of};
 

@@ -1,4 +1,4 @@
-// The used streams of a file, each found by its kind.
+//! The used streams of a file, each found by its kind.
 ghost use Rattle.std.specs.Prelude.{◌≡◌, map};
 ghost use Rattle.soc_dump.specs.Checks.{IsRead};
 ghost use Rattle.soc_dump.specs.Layout.{thread_list, thread_size, module_list, module_size, memory_list, memory_size, exception_stream, system_stream};

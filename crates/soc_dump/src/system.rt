@@ -1,4 +1,4 @@
-// The system that a process ran on.
+//! The system that a process ran on.
 ghost use Rattle.std.specs.Prelude.{◌≡◌, drop, IsTrue};
 ghost use Rattle.soc_dump.specs.Checks.{IsRead};
 ghost use Rattle.soc_dump.specs.Part.{is_inside};

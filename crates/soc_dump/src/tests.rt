@@ -1,4 +1,4 @@
-// Dumps made by hand, one for each refusal and edge, and a whole one.
+//! Dumps made by hand, one for each refusal and edge, and a whole one.
 use crate::registers::{AMD64_RIP, amd64_register, register, x86_register};
 use crate::{
     Dump, DumpError, Module, architecture_name, crash_reason, debug_file, debug_id, platform_name,

@@ -1,4 +1,4 @@
-// Words of the process's memory.
+//! Words of the process's memory.
 ghost use Rattle.std.specs.Prelude.{◌≡◌, ◌<◌, ◌≤◌, ◌^◌, ◌++◌, IsTrue, IfSome, find, map};
 ghost use Rattle.soc_dump.specs.Memory.{holds_word, word_of, word_in, stack_of};
 ghost use Rattle.soc_dump.specs.Views.{memory_entry, thread_entry};

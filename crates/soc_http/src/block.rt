@@ -1,7 +1,6 @@
 //! Head blocks: what one says, or why it is refused.
 ghost use Rattle.std.specs.Prelude.{◌≡◌, ◌==◌, length, map, count_by, IfOk, IfErr, MatchOption, IsUtf8};
 ghost use Rattle.std.specs.List.{All, before_first, after_first};
-ghost use Rattle.std.specs.Str.Lossy.{utf8_lossy};
 ghost use Rattle.httparse.specs.Spans.{IsRequestWithin, IsHeaderWithin, header_bytes};
 ghost use Rattle.soc_http.specs.Block.{HasFewLines, line_feed};
 ghost use Rattle.soc_http.specs.Request.{verb_of, is_query_mark, lossy_line};
@@ -73,20 +72,14 @@ fn split_target(alloc: Global, target: &[u8]) -> Result<Target, NoMemory>
     })
 }
 
-fn lossy_text(alloc: Global, bytes: &[u8]) -> Result<Text, NoMemory>
-    ensures { IfOk result (λ text. text ≡ utf8_lossy bytes.now) }
-{
-    Ok(Text::from(String::from_utf8_lossy(alloc, bytes)?))
-}
-
 fn lines_of(alloc: Global, block: &[u8], headers: &[HeaderSpan]) -> Result<Pairs, NoMemory>
     requires { All (IsHeaderWithin (length block.now)) headers.now }
     ensures { IfOk result (λ pairs. pairs ≡ map lossy_line (map (header_bytes block.now) headers.now)) }
 {
     let mut lines = Pairs::new(alloc);
     for header in headers {
-        let name = lossy_text(alloc, header.name.of(block))?;
-        let value = lossy_text(alloc, header.value.of(block))?;
+        let name = Text::lossy(alloc, header.name.of(block))?;
+        let value = Text::lossy(alloc, header.value.of(block))?;
         lines.push(name, value)?;
     }
     Ok(lines)

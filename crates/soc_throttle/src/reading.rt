@@ -1,4 +1,4 @@
-// Reads a rule from a table of a settings file.
+//! Reads a rule from a table of a settings file.
 ghost use Rattle.std.specs.Prelude.{◌≡◌, IfOk, option_map};
 ghost use Rattle.toml.specs.View.{view, table_view};
 ghost use Rattle.soc_throttle.specs.Rules as spec;

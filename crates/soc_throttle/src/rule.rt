@@ -1,4 +1,4 @@
-// A rule, and whether it decides.
+//! A rule, and whether it decides.
 ghost use Rattle.std.specs.Prelude.{◌≡◌};
 ghost use Rattle.std.specs.List.{list_any};
 ghost use Rattle.std.specs.Str.{bytes_eq};

@@ -1,4 +1,4 @@
-// The rules of a settings file, and the verdict on a crash.
+//! The rules of a settings file, and the verdict on a crash.
 ghost use Rattle.std.specs.Prelude.{◌≡◌, ◌≤◌, length, None, IfOk, OnOk, IfErr, find, option_copied};
 ghost use Rattle.toml.specs.View.{view, array_view};
 ghost use Rattle.soc_throttle.specs.Refusals.{IsNamed};

@@ -1,4 +1,4 @@
-// A text, a bounded text, an integer in a range, and keys that aren't expected.
+//! A text, a bounded text, an integer in a range, and keys that aren't expected.
 ghost use Rattle.std.specs.Prelude.{◌≡◌, IsTrue, map, option_map, option_copied};
 ghost use Rattle.std.specs.List.{list_any, list_all};
 ghost use Rattle.std.specs.Str.{bytes_eq};

@@ -1,4 +1,4 @@
-// Readers of one key of a TOML table, each with the exact form of what it takes.
+//! Readers of one key of a TOML table, each with the exact form of what it takes.
 #![tactic(auto)]
 
 mod keys;

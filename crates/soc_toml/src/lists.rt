@@ -1,4 +1,4 @@
-// Arrays of texts and of tables, and a word in place of one.
+//! Arrays of texts and of tables, and a word in place of one.
 ghost use Rattle.std.specs.Prelude.{◌≡◌, IfOk, option_map, option_and_then};
 ghost use Rattle.toml.specs.View.{view, array_view};
 ghost use Rattle.toml.specs.Data.{as_array};

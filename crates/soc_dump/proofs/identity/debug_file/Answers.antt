@@ -7,7 +7,7 @@ use Rattle.soc_dump.proofs.identity.debug_file.Goals as goal
 pub returns-then-names_pdb : goal.returns-then-names_pdb
 returns-then-names_pdb c =
     let pdb = sym c.names_pdb.ensures ∙ c.if-names_pdb.true in
-    let name = c.base_name.ensures ∙ ap base_name_of (c.as_str.ensures.value ∙ c.in_ok-path.ensures) in
+    let name = c.base_name.ensures ∙ ap base_name_of (c.as_str.ensures ∙ c.in_ok-path.ensures) in
     rw (debug_file_of-pdb (module_entry c.args.module.now) pdb) (rw name at c.of.ensures)
 
 pub returns-then-holds_build_id : goal.returns-then-holds_build_id
