@@ -1,4 +1,4 @@
-// The desk in memory.
+//! The desk in memory.
 ghost use Rattle.std.specs.Prelude.{◌≡◌, ◌<◌, ◌++◌, ◌∷◌, [], length, count_by, Some, OnOk, OnErr, false, option_map, if◌then◌else◌, slice_get};
 ghost use Rattle.std.specs.VecDeque.{deque_len, deque_capacity};
 ghost use Rattle.soc_raw.specs.RawCrash.{crash_of};

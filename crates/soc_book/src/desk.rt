@@ -1,4 +1,4 @@
-// What a desk is asked, and what it answers.
+//! What a desk is asked, and what it answers.
 use soc_raw::{CrashId, RawCrash};
 use soc_schema::{Caller, Permission, Row};
 

@@ -1,4 +1,4 @@
-// The entries of a desk in memory.
+//! The entries of a desk in memory.
 use soc_raw::{CrashId, RawCrash};
 
 /// A change of the log, with what belongs to it.

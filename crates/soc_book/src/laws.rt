@@ -1,4 +1,4 @@
-// Laws of the desk's definitions.
+//! Laws of the desk's definitions.
 ghost use Rattle.soc_book.specs.Laws.{DrainsAll, ReadsShowTheView};
 
 /// A caller's reads depend on the caller's view alone: a hidden crash and an absent one are answered the same.

@@ -1,4 +1,4 @@
-// A small reporter, for desks that are tried or that have no lists and symbols.
+//! A small reporter, for desks that are tried or that have no lists and symbols.
 ghost use Rattle.std.specs.Prelude.{◌≡◌, IfOk};
 ghost use Rattle.std.specs.Option.{option_copied};
 ghost use Rattle.soc_schema.specs.Fields.{kind_of};

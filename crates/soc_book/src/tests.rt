@@ -1,4 +1,4 @@
-// The desk's tables, row by row.
+//! The desk's tables, row by row.
 use crate::{Book, Command, Desk, Limits, Refusal, Reply, Small};
 use soc_raw::{CrashId, RawCrash, Text, TextList};
 use soc_schema::{Caller, Permission, Permissions, ProductNames, Products};

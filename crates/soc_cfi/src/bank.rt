@@ -1,4 +1,4 @@
-// What rules read: registers and memory.
+//! What rules read: registers and memory.
 ghost use Rattle.std.specs.Prelude.{◌≡◌, ℕ, ◌<◌, ◌^◌, List, Option, IfSome};
 ghost use Rattle.soc_cfi.specs.Known.{IsWidth};
 

@@ -1,4 +1,4 @@
-// The value of a rule.
+//! The value of a rule.
 ghost use Rattle.std.specs.Prelude.{◌≡◌, ◌<◌, None, Some, IfSome, OnSome, MatchOption};
 ghost use Rattle.soc_cfi.specs.Known.{AreWords, HoldsWords, known};
 ghost use Rattle.soc_cfi.specs.Operands.{operand_of};

@@ -1,4 +1,4 @@
-// Laws of the definitions.
+//! Laws of the definitions.
 ghost use Rattle.std.specs.Prelude.{◌≡◌, ℕ, List, map};
 ghost use Rattle.soc_cfi.specs.Rules.{rules_of};
 ghost use Rattle.soc_cfi.specs.TokenRules.{by_tokens, token_rules};

@@ -1,4 +1,4 @@
-// The operators of postfix expressions.
+//! The operators of postfix expressions.
 ghost use Rattle.std.specs.Prelude.{◌≡◌, ◌%◌, ◌<◌, IfSome};
 ghost use Rattle.soc_cfi.specs.Known.{IsWidth};
 ghost use Rattle.soc_cfi.specs.Operators as spec;

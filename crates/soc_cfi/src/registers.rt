@@ -1,4 +1,4 @@
-// The registers of x86 and AMD64, by their names in rules.
+//! The registers of x86 and AMD64, by their names in rules.
 ghost use Rattle.std.specs.Prelude.{◌≡◌, ◌<◌, length, IfSome, position};
 ghost use Rattle.std.specs.Str.{bytes_eq};
 ghost use Rattle.soc_cfi.specs.Registers as spec;

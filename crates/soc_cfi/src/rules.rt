@@ -1,4 +1,4 @@
-// The rules in force at an offset.
+//! The rules in force at an offset.
 ghost use Rattle.std.specs.Prelude.{◌≡◌, ◌<◌, length, IfSome, slice_get};
 ghost use Rattle.std.specs.Option.{option_copied};
 ghost use Rattle.soc_symfile.specs.Views.{span_of};

@@ -1,4 +1,4 @@
-// The stack of a postfix expression.
+//! The stack of a postfix expression.
 ghost use Rattle.std.specs.Prelude.{◌≡◌, ◌<◌, [], ◌∷◌, length, MatchOption, OnSome};
 ghost use Rattle.soc_cfi.specs.Postfix.{pushed, only_value, stack_size};
 

@@ -1,4 +1,4 @@
-// The rules that stand in a text.
+//! The rules that stand in a text.
 ghost use Rattle.std.specs.Prelude.{◌≡◌, false};
 ghost use Rattle.std.specs.Option.{option_copied, option_map_or};
 ghost use Rattle.std.specs.Str.{bytes_eq};

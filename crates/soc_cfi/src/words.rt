@@ -1,4 +1,4 @@
-// Words parted by spaces.
+//! Words parted by spaces.
 ghost use Rattle.std.specs.Prelude.{◌≡◌, ◌<◌, [], ◌∷◌, ◌++◌, length, MatchOption};
 ghost use Rattle.soc_cfi.specs.Words.{space, parts, tokens};
 

@@ -1,4 +1,4 @@
-// Delimiters of a multipart body: which bytes are one, and where the next one stands.
+//! Delimiters of a multipart body: which bytes are one, and where the next one stands.
 ghost use Rattle.std.specs.Prelude.{◌≡◌, ◌++◌, ◌↔◌, List, ℕ, IsTrue, MatchOption, ◌<◌, length};
 ghost use Rattle.std.specs.List.{prefix_len};
 ghost use Rattle.soc_multipart.specs.Delimiters.{BeginsAt, EndsAs, EndsClosing, EndsLine, EndsNowise, EndsOpening, HasNoDelimiter, IsAt, IsAtDelimiter, IsBoundary, MeetsFirst, PartsRun, is_boundary_byte as passes_boundary, mark_of};

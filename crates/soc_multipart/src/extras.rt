@@ -1,4 +1,4 @@
-// The JSON part of a form.
+//! The JSON part of a form.
 ghost use Rattle.std.specs.Prelude.{◌≡◌, false, List, ℕ, IfOk, MatchOption, Some};
 ghost use Rattle.serde_json.specs.Data.{Members};
 ghost use Rattle.serde_json.specs.Find.{as_object};

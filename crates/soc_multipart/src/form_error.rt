@@ -1,4 +1,4 @@
-// Why a message was not read as a submission.
+//! Why a message was not read as a submission.
 use crate::reasons::Reason;
 use soc_raw::NoMemory;
 use std::alloc::{AllocError, AllocFailed};

@@ -1,4 +1,4 @@
-// The lines of a message that say how its body is written.
+//! The lines of a message that say how its body is written.
 ghost use Rattle.std.specs.Prelude.{◌≡◌, ◌↔◌, List, ℕ, IsTrue, IfOk, IfErr, MatchOption, codes};
 ghost use Rattle.std.specs.List.{position_or_len};
 ghost use Rattle.std.specs.Option.{option_copied};

@@ -1,4 +1,4 @@
-// The head of a part: its lines, and where it ends.
+//! The head of a part: its lines, and where it ends.
 ghost use Rattle.std.specs.Prelude.{◌≡◌, ◌++◌, ◌∷◌, [], List, ℕ, IfOk, MatchOption, take};
 ghost use Rattle.std.specs.List.{prefix_len, suffix_len};
 ghost use Rattle.soc_multipart.specs.Chains.{Chain, HasNoStep};

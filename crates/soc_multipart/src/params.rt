@@ -1,4 +1,4 @@
-// Parameters of a header's value: `; name=value`, where the value is a token or a quoted text.
+//! Parameters of a header's value: `; name=value`, where the value is a token or a quoted text.
 ghost use Rattle.std.specs.Prelude.{◌≡◌, ◌∷◌, List, ℕ, true, false, IfOk, MatchBool, MatchOption, Some, None};
 ghost use Rattle.std.specs.List.{prefix_len};
 ghost use Rattle.soc_multipart.specs.Delimiters.{PartsRun};

@@ -1,4 +1,4 @@
-// The parts of a whole multipart body.
+//! The parts of a whole multipart body.
 ghost use Rattle.std.specs.Prelude.{◌≡◌, ◌<◌, ◌↔◌, ◌⊎◌, List, ℕ, length, IsTrue, IfOk, IfErr, MatchBool, MatchOption};
 ghost use Rattle.soc_multipart.specs.declared.parts.PartsError.TheVariants.{NoMemory as WantsMemory};
 ghost use Rattle.soc_multipart.specs.Delimiters.{mark_of};

@@ -1,4 +1,4 @@
-// Why a message is no submission.
+//! Why a message is no submission.
 use std::fmt;
 
 /// The first reason why a message is no submission.

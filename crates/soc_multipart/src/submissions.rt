@@ -1,4 +1,4 @@
-// Submissions: what a crash reporter's message says.
+//! Submissions: what a crash reporter's message says.
 ghost use Rattle.std.specs.Prelude.{◌≡◌, ◌≢◌, ◌≤◌, ◌⊎◌, List, ℕ, [], IfOk, IfErr, MatchBool, MatchOption, drop, filter, length};
 ghost use Rattle.std.specs.Option.{option_copied};
 ghost use Rattle.soc_multipart.specs.declared.parts.PartsError.TheVariants.{NoMemory as WantsMemory};

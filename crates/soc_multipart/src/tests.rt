@@ -1,4 +1,4 @@
-// Bodies as browsers, command lines and crash reporters write them, and bodies that are cut off or bad.
+//! Bodies as browsers, command lines and crash reporters write them, and bodies that are cut off or bad.
 use crate::{FormError, PartsError, Reason, Submission, read_submission, read_whole};
 use soc_raw::{Pairs, Text};
 use std::alloc::{AllocError, Global};

@@ -1,4 +1,4 @@
-// The call frame information of an offset.
+//! The call frame information of an offset.
 ghost use Rattle.std.specs.Prelude.{◌≡◌, ◌<◌, Some, length, slice_get};
 ghost use Rattle.soc_symfile.specs.Line.{LabelEntry};
 

@@ -1,4 +1,4 @@
-// What covers an offset.
+//! What covers an offset.
 ghost use Rattle.std.specs.Prelude.{◌≡◌};
 ghost use Rattle.soc_symfile.specs.Found.{covers, source_at};
 

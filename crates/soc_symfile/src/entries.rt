@@ -1,4 +1,4 @@
-// The entries of the tables: one of fixed size for each record. Texts stay in the file.
+//! The entries of the tables: one of fixed size for each record. Texts stay in the file.
 ghost use Rattle.std.specs.Prelude.{◌≡◌, ◌<◌, ◌^◌, ℕ};
 
 /// A record that is looked up by a number: its address, or a file's number.

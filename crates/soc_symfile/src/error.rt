@@ -1,4 +1,4 @@
-// Why a symbol file is refused.
+//! Why a symbol file is refused.
 use soc_raw::NoMemory;
 use std::alloc::{AllocError, AllocFailed};
 use thiserror::Error;

@@ -1,4 +1,4 @@
-// What a look-up finds.
+//! What a look-up finds.
 
 /// What a symbol file says of an offset. A public symbol gives a function alone.
 #[derive(Clone, Copy, Debug, PartialEq, Eq)]

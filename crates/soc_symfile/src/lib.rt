@@ -1,4 +1,4 @@
-// Breakpad symbol files: read once into tables over the text, and looked up without memory.
+//! Breakpad symbol files: read once into tables over the text, and looked up without memory.
 #![tactic(auto)]
 
 mod cfi_span;

@@ -1,4 +1,4 @@
-// One line.
+//! One line.
 ghost use Rattle.std.specs.Prelude.{◌≡◌, is_some, option_map};
 ghost use Rattle.soc_symfile.specs.Line.{fits, module_line, file_line, function_line, source_line, public_line, init_line, delta_line, stack_line, line_of};
 ghost use Rattle.soc_symfile.specs.Views.{line_entry};

@@ -1,4 +1,4 @@
-// Records that own others, which stand together in a table.
+//! Records that own others, which stand together in a table.
 ghost use Rattle.std.specs.Prelude.{◌≡◌, ◌≤◌, ◌<◌, ◌++◌, ◌∷◌, [], length, vec_len, slice_get, Some, OnOk, OnErr};
 ghost use Rattle.soc_symfile.specs.Tables.{AreLaidOut, Owns, with_end};
 

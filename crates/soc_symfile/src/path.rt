@@ -1,4 +1,4 @@
-// Where a module's symbol file stands.
+//! Where a module's symbol file stands.
 ghost use Rattle.std.specs.Prelude.{◌≡◌, IfOk};
 ghost use Rattle.soc_symfile.specs.Path.{stem_of, path_of};
 

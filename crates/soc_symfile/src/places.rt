@@ -1,4 +1,4 @@
-// Places of records, sorted by their addresses or numbers.
+//! Places of records, sorted by their addresses or numbers.
 ghost use Rattle.std.specs.Prelude.{◌≡◌, ◌<◌, ◌≤◌, ℕ, List, length, map, IfOk, MatchOption};
 ghost use Rattle.std.specs.List.{enumerate_from};
 ghost use Rattle.std.specs.List.Sorted.{IsNonDecreasingBy, IsPartitionPoint};

@@ -1,4 +1,4 @@
-// A whole text, line by line.
+//! A whole text, line by line.
 ghost use Rattle.std.specs.Prelude.{◌≡◌, [], ◌∷◌, map};
 ghost use Rattle.std.specs.Str.Lines.{lines};
 ghost use Rattle.soc_symfile.specs.Line.{Other, line_of};

@@ -1,4 +1,4 @@
-// A whole symbol file.
+//! A whole symbol file.
 ghost use Rattle.std.specs.Prelude.{◌≡◌, IfOk, map, option_map};
 ghost use Rattle.soc_symfile.specs.Records.{records_of};
 ghost use Rattle.soc_symfile.specs.Found.{found, owner_at, is_in_function, file_named, is_hidden, public_at};

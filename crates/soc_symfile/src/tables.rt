@@ -1,4 +1,4 @@
-// The tables of a file's records, in the order of the file.
+//! The tables of a file's records, in the order of the file.
 ghost use Rattle.std.specs.Prelude.{◌≡◌, ◌<◌, ◌++◌, ◌∷◌, [], length, map, nat_lt, slice_get, List, Some, IfOk, OnOk};
 ghost use Rattle.soc_symfile.specs.Line.{LineEntry};
 ghost use Rattle.soc_symfile.specs.Records.{records_in};

@@ -1,4 +1,4 @@
-// Symbol files written by hand: each rule of a line, look-ups with their edges, and paths.
+//! Symbol files written by hand: each rule of a line, look-ups with their edges, and paths.
 use crate::{Found, SymError, SymFile, symbol_path};
 use std::alloc::{AllocError, Global};
 use std::test::Fail;

@@ -1,4 +1,4 @@
-// The words and texts of a line.
+//! The words and texts of a line.
 ghost use Rattle.std.specs.Prelude.{◌≡◌, ◌≤◌, length, option_map};
 ghost use Rattle.std.specs.List.{position_or_len};
 ghost use Rattle.soc_symfile.specs.Words.{is_space, word, rest, unmarked, text_of};
