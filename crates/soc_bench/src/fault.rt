@@ -12,7 +12,7 @@ use thiserror::Error;
 #[derive(Debug, Drop, Error)]
 pub enum Fault {
     /// The words name no workload.
-    #[error("usage: soc_bench multipart MEGABYTES [plain|near] | journal ENTRIES SIZE | symbols MEGABYTES")]
+    #[error("usage: soc_bench multipart MEGABYTES [plain|near] | journal ENTRIES SIZE | symbols MEGABYTES | hall THREADS TURNS | ring JOBS")]
     Words,
     /// An allocation was refused.
     #[error("out of memory")]

@@ -5,10 +5,12 @@
 mod bodies;
 mod counts;
 mod fault;
+mod hall;
 mod journal;
 mod multipart;
 mod numbers;
 mod offsets;
+mod ring;
 mod symbol_text;
 mod symbols;
 mod timing;
@@ -17,6 +19,8 @@ use fault::Fault;
 use std::env;
 use std::process::ExitCode;
 use std::rt::{Clock, Env};
+use std::sync::Wait;
+use std::thread::Threads;
 
 fn main(rt: HostRuntime) -> ExitCode {
     match run(&rt) {
@@ -30,7 +34,9 @@ fn main(rt: HostRuntime) -> ExitCode {
 }
 
 /// Does the workload that the first word names. The words behind it are the workload's own.
-fn run(rt: &(impl Env + Clock + Print + Eprint + AllocGlobal)) -> Result<(), Fault> {
+fn run<R: Env + Clock + Print + Eprint + AllocGlobal + Threads + Wait + Sync>(
+    rt: &R,
+) -> Result<(), Fault> {
     let mut words = Vec::new(rt.alloc());
     for word in env::args(rt)?.skip(1) {
         words.push(word)?;
@@ -42,6 +48,8 @@ fn run(rt: &(impl Env + Clock + Print + Eprint + AllocGlobal)) -> Result<(), Fau
         "multipart" => multipart::run(rt, words),
         "journal" => journal::run(rt, words),
         "symbols" => symbols::run(rt, words),
+        "hall" => hall::run(rt, words),
+        "ring" => ring::run(rt, words),
         _ => Err(Fault::Words),
     }
 }

@@ -18,7 +18,7 @@ use std::snapshot::Snapshot;
 use std::sync::Wait;
 
 // How often a seat looks before it sleeps: about 2 microseconds.
-const LOOKS: u32 = 64;
+const LOOKS: u32 = 128;
 
 // What a seat has at its turn: the state that lies in the hall, and the length of its log.
 struct Entered<T> {

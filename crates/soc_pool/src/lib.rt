@@ -7,6 +7,6 @@ mod rule;
 #[cfg(test)]
 mod tests;
 
-pub use jobs::{Job, Jobs};
+pub use jobs::{Job, Jobs, PLACES};
 pub use pass::{Pass, Passes};
 pub use rule::{Entry, OneRing, Seen};

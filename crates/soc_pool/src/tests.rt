@@ -1,7 +1,6 @@
 ghost use Rattle.std.specs.Prelude.{◌≡◌, ℕ, ◌+◌, ◌*◌, ◌<◌, ◌≤◌, ◌^◌, [], length, All, IfOk};
 ghost use Rattle.soc_pool.specs.Passes.{passes_in, IsPassOf};
 
-use super::jobs::PLACES;
 use super::*;
 use soc_raw::{CrashId, Digit, FIRST_MOMENT, NoMemory};
 use std::alloc::Global;
