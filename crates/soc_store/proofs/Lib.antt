@@ -1,0 +1,9 @@
+pub mod CountLemmas
+pub mod DistinctLemmas
+pub mod IndexLemmas
+pub mod OrderLemmas
+pub mod PlaceLemmas
+pub mod RowIndexLemmas
+pub mod StoreLemmas
+pub mod Tables
+pub mod ValueLemmas

@@ -1,0 +1,88 @@
+// Counts of products, in rising order of products.
+ghost use Rattle.std.specs.Prelude.{◌≡◌, OnOk, OnErr, IfOk};
+ghost use Rattle.std.specs.Option.{option_copied};
+ghost use Rattle.soc_store.specs.Orders.{product_cmp};
+ghost use Rattle.soc_store.specs.Postings.{uncounted};
+ghost use Rattle.soc_store.specs.Stored.{counted};
+ghost use Rattle.soc_store.specs.Tables.{FindsKey, Rising};
+
+use crate::order::compare_products;
+use soc_raw::{NoMemory, Text};
+use std::alloc::Global;
+use std::cmp::Ordering;
+
+/// How many rows there are of a product, or without one.
+#[derive(Debug, Drop)]
+pub struct ProductCount {
+    /// The product, where there is one.
+    pub product: Option<Text>,
+    /// How many rows, at least 1.
+    pub count: u64,
+}
+
+/// Counts one more of the product.
+pub(crate) fn count_one(
+    alloc: Global,
+    counts: &mut Vec<ProductCount>,
+    product: Option<&str>,
+) -> Result<(), NoMemory>
+    requires { Rising (λ c. c.product) product_cmp counts.old.items }
+    ensures ok { OnOk result (counts.new.items ≡ counted (option_copied product.entry) counts.old.items) }
+    ensures err { OnErr result (counts.new.items ≡ counts.old.items) }
+{
+    match place_in(counts.as_slice(), product) {
+        Ok(i) => {
+            let Some(more) = counts[i].count.checked_add(1) else {
+                return Err(NoMemory);
+            };
+            counts[i].count = more;
+        }
+        Err(i) => {
+            let product = copy_of(alloc, product)?;
+            counts.insert(i, ProductCount { product, count: 1 })?;
+        }
+    }
+    Ok(())
+}
+
+/// Counts one less of the product.
+pub(crate) fn count_less(counts: &mut Vec<ProductCount>, product: Option<&str>)
+    requires { Rising (λ c. c.product) product_cmp counts.old.items }
+    ensures { counts.new.items ≡ uncounted (option_copied product.entry) counts.old.items }
+{
+    if let Ok(i) = place_in(counts.as_slice(), product) {
+        if counts[i].count > 1 {
+            counts[i].count -= 1;
+        } else {
+            let _ = counts.remove(i);
+        }
+    }
+}
+
+/// Where the product's count stands, or else where it would stand.
+fn place_in(counts: &[ProductCount], product: Option<&str>) -> Result<usize, usize>
+    requires { Rising (λ c. c.product) product_cmp counts.now }
+    ensures { FindsKey (λ c. c.product) product_cmp (option_copied product.entry) counts.now result }
+{
+    let mut low = 0;
+    let mut high = counts.len();
+    while low < high {
+        let middle = low + (high - low) / 2;
+        match compare_products(&counts[middle].product, product) {
+            Ordering::Less => low = middle + 1,
+            Ordering::Equal => return Ok(middle),
+            Ordering::Greater => high = middle,
+        }
+    }
+    Err(low)
+}
+
+/// The product in memory of its own.
+fn copy_of(alloc: Global, product: Option<&str>) -> Result<Option<Text>, NoMemory>
+    ensures { IfOk result (λ copy. copy ≡ option_copied product.entry) }
+{
+    match product {
+        None => Ok(None),
+        Some(name) => Ok(Some(Text::of(alloc, name)?)),
+    }
+}

@@ -1,0 +1,14 @@
+//! Rows at places, with the places of each value and the running counts by product.
+#![tactic(auto)]
+
+mod counts;
+mod index;
+mod order;
+mod rows;
+mod store;
+mod term;
+mod values;
+
+pub use counts::ProductCount;
+pub use order::compare_values;
+pub use store::Store;

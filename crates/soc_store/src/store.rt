@@ -1,0 +1,217 @@
+//! Rows at places.
+ghost use Rattle.std.specs.Prelude.{slice_index_or, ◌≡◌, ◌<◌, ◌+◌, ℕ, Bool, List, [], Some, OnOk, OnErr, IfErr, IfSome, length, map, slice_get, option_map, filter, All, Contains};
+ghost use Rattle.soc_schema.specs.declared.value.Cell.{Cell};
+ghost use Rattle.soc_schema.specs.Rows.{value_of};
+ghost use Rattle.std.specs.Option.{option_copied};
+ghost use Rattle.soc_store.specs.Orders.{value_cmp};
+ghost use Rattle.soc_store.specs.Stored.{PlacesRise, counts_of, places_of, product_of, row_at, some_has, values_of, with_row, without_row};
+ghost use Rattle.soc_store.specs.Tables.{Rising};
+
+use crate::counts::ProductCount;
+use crate::index::Index;
+use crate::rows::Rows;
+use crate::values::{add_values, remove_values};
+use soc_edge::Steps;
+use soc_raw::NoMemory;
+use soc_schema::{Field, Row, Value};
+use std::alloc::Global;
+use std::marker::Model;
+use std::sync::ledger::Ledger;
+
+/// Rows at places, with the places of each value and running counts by product.
+#[derive(Debug, Drop)]
+pub struct Store {
+    rows: Rows,
+    fields: [Index; 36],
+}
+
+impl Model for Store {
+    ghost use Rattle.std.specs.Prelude.{List, ℕ, ◌≡◌, length};
+    ghost use Rattle.soc_schema.specs.declared.value.Cell.{Cell};
+    ghost use Rattle.soc_store.specs.Stored.{PlacesRise};
+    ghost use Rattle.soc_store.specs.Postings.{AreKept};
+
+    ghost Value = { List (ℕ × List Cell) };
+
+    ghost view = { λ s. s.rows };
+
+    ghost invariant = { λ s. PlacesRise s.rows × AreKept s.fields s.rows × (length s.fields ≡ 36) };
+}
+
+impl Store {
+    /// No rows.
+    pub fn new(alloc: Global) -> Store
+        ensures { result ≡ [] }
+    {
+        Store {
+            rows: Rows::new(alloc),
+            fields: no_values(alloc),
+        }
+    }
+
+    /// How many rows there are. Their places rise.
+    pub fn len(&self) -> usize
+        ensures count { result ≡ length self.now }
+        ensures places_rise { PlacesRise self.now }
+    {
+        self.rows.len()
+    }
+
+    /// The place of the `i`th row, from 0, in rising order of places.
+    pub fn place_at(&self, i: usize) -> u32
+        requires { i < length self.now }
+        ensures { slice_get (map (λ s. s.0) self.now) i ≡ Some result }
+    {
+        self.rows.place_at(i)
+    }
+
+    /// How many distinct values of the field there are.
+    pub fn values(&self, field: Field) -> usize
+        ensures count { result ≡ length (values_of field self.now) }
+
+        // The values rise, each row's is among them, and of some of the rows they are those that one of these has.
+        ensures rising { Rising (λ v. v) value_cmp (values_of field self.now) }
+        ensures each { All (λ s. IfSome (value_of s.1 field) (Contains (values_of field self.now))) self.now }
+        ensures of_some { (test : ℕ × List Cell → Bool) → values_of field (filter test self.now)
+            ≡ filter (some_has field (filter test self.now)) (values_of field self.now) }
+    {
+        self.fields[usize::from(field.place())].len()
+    }
+
+    /// The `i`th of them, from 0, in rising order.
+    pub fn value_at(&self, field: Field, i: usize) -> &Value
+        requires { i < length (values_of field self.now) }
+        ensures { slice_get (values_of field self.now) i ≡ Some result.now }
+    {
+        self.fields[usize::from(field.place())].value_at(i)
+    }
+
+    /// The `i`th of them, from 0, with the places of the rows that have it and how many there are of each product.
+    pub fn term_at(&self, field: Field, i: usize) -> (&Value, &[u32], &[ProductCount])
+        requires { i < length (values_of field self.now) }
+        ensures value { slice_get (values_of field self.now) i ≡ Some result.0.now }
+        ensures places { result.1.now ≡ places_of field result.0.now self.now }
+        ensures counts { result.2.now ≡ counts_of field result.0.now self.now }
+    {
+        let term = self.fields[usize::from(field.place())].term_at(i);
+        (term.value(), term.places(), term.counts())
+    }
+
+    /// The places of the rows that have the value, in rising order.
+    pub fn places(&self, field: Field, value: &Value) -> &[u32]
+        ensures { result.now ≡ places_of field value.now self.now }
+    {
+        match self.fields[usize::from(field.place())].term(value) {
+            Some(term) => term.places(),
+            None => &[],
+        }
+    }
+
+    /// How many of those rows there are of each product: those without a product first, then the products in rising
+    /// byte order.
+    pub fn counts(&self, field: Field, value: &Value) -> &[ProductCount]
+        ensures { result.now ≡ counts_of field value.now self.now }
+    {
+        match self.fields[usize::from(field.place())].term(value) {
+            Some(term) => term.counts(),
+            None => &[],
+        }
+    }
+
+    /// The row at the place. It is one step.
+    pub fn row<L: Ledger>(&self, place: u32, steps: &mut Steps<L>) -> Option<&Row>
+        ensures row { option_copied result ≡ option_map (λ s. s.1) (row_at place self.now) }
+        ensures step { steps.new ≡ steps.old + 1 }
+    {
+        steps.tick();
+        self.rows.get(place)
+    }
+
+    /// Puts a row at a place, in the stead of the one that is there. Where memory is wanting, the row comes back and
+    /// nothing has changed.
+    pub fn put(&mut self, alloc: Global, place: u32, row: Row) -> Result<(), (Row, NoMemory)>
+        ensures ok { OnOk result (self.new ≡ with_row (place, row) self.old) }
+        ensures err { OnErr result (self.new ≡ self.old) }
+        ensures back { IfErr result (λ back. back.0 ≡ row) }
+    {
+        if let Err(error) = add_values(alloc, &mut self.fields, &row, place, product_of(&row)) {
+            return Err((row, error));
+        }
+        match self.rows.put(alloc, place, row) {
+            Ok(None) => Ok(()),
+            Ok(Some(old)) => {
+                remove_values(&mut self.fields, &old, old.len(), place, product_of(&old));
+                Ok(())
+            }
+            Err(row) => {
+                remove_values(&mut self.fields, &row, row.len(), place, product_of(&row));
+                Err((row, NoMemory))
+            }
+        }
+    }
+
+    /// Takes the row at a place out, where there is one. It takes no memory.
+    pub fn take(&mut self, place: u32) -> Option<Row>
+        ensures row { result ≡ option_map (λ s. s.1) (row_at place self.old) }
+        ensures left { self.new ≡ without_row place self.old }
+    {
+        let row = self.rows.take(place)?;
+        remove_values(&mut self.fields, &row, row.len(), place, product_of(&row));
+        Some(row)
+    }
+}
+
+/// A row's product, where it has one.
+fn product_of(row: &Row) -> Option<&str>
+    ensures { option_copied result ≡ product_of row.now }
+{
+    match row.get(Field::PRODUCT) {
+        Some(Value::Text(text)) => Some(text.as_str()),
+        _ => None,
+    }
+}
+
+/// Of each field no value.
+fn no_values(alloc: Global) -> [Index; 36]
+    ensures each { (f : ℕ) → slice_index_or result f [] ≡ [] }
+    ensures len { length result ≡ 36 }
+{
+    [
+        Index::new(alloc),
+        Index::new(alloc),
+        Index::new(alloc),
+        Index::new(alloc),
+        Index::new(alloc),
+        Index::new(alloc),
+        Index::new(alloc),
+        Index::new(alloc),
+        Index::new(alloc),
+        Index::new(alloc),
+        Index::new(alloc),
+        Index::new(alloc),
+        Index::new(alloc),
+        Index::new(alloc),
+        Index::new(alloc),
+        Index::new(alloc),
+        Index::new(alloc),
+        Index::new(alloc),
+        Index::new(alloc),
+        Index::new(alloc),
+        Index::new(alloc),
+        Index::new(alloc),
+        Index::new(alloc),
+        Index::new(alloc),
+        Index::new(alloc),
+        Index::new(alloc),
+        Index::new(alloc),
+        Index::new(alloc),
+        Index::new(alloc),
+        Index::new(alloc),
+        Index::new(alloc),
+        Index::new(alloc),
+        Index::new(alloc),
+        Index::new(alloc),
+        Index::new(alloc),
+        Index::new(alloc),
+    ]
+}

@@ -1,0 +1,134 @@
+// A value with the places of the rows that have it and their counts by product.
+ghost use Rattle.std.specs.Prelude.{◌≡◌, ◌<◌, ◌≤◌, ℕ, List, [], None, IsTrue, ◌↔◌, Some, OnOk, OnErr, IfOk, length, slice_index};
+ghost use Rattle.std.specs.Option.{option_copied};
+ghost use Rattle.soc_store.specs.Postings.{PlacesInOrder, posted, shrunk, without_place};
+
+use crate::counts::{ProductCount, count_less, count_one};
+use soc_raw::NoMemory;
+use soc_schema::Value;
+use std::alloc::Global;
+use std::marker::Model;
+
+/// A value, the places of the rows that have it in rising order, and how many of them there are of each product.
+#[derive(Debug, Drop)]
+pub(crate) struct Term {
+    value: Value,
+    places: Vec<u32>,
+    counts: Vec<ProductCount>,
+}
+
+impl Model for Term {
+    ghost use Rattle.soc_store.specs.Orders.{product_cmp};
+    ghost use Rattle.soc_store.specs.Postings.{Posting, PlacesInOrder};
+    ghost use Rattle.soc_store.specs.Tables.{Rising};
+
+    ghost Value = { Posting };
+
+    ghost view = { λ t. record { value = t.value; places = t.places.items; counts = t.counts.items } };
+
+    ghost invariant = { λ t. PlacesInOrder t.places.items × Rising (λ c. c.product) product_cmp t.counts.items };
+}
+
+impl Term {
+    /// The value with one row.
+    pub(crate) fn new(
+        alloc: Global,
+        value: &Value,
+        place: u32,
+        product: Option<&str>,
+    ) -> Result<Term, NoMemory>
+        ensures { IfOk result (λ term. term ≡ posted value.now place (option_copied product.entry) None) }
+    {
+        let mut places = Vec::new(alloc);
+        places.push(place)?;
+        let mut counts = Vec::new(alloc);
+        count_one(alloc, &mut counts, product)?;
+        Ok(Term {
+            value: value.copy(alloc)?,
+            places,
+            counts,
+        })
+    }
+
+    /// One more row that has the value.
+    pub(crate) fn add(
+        &mut self,
+        alloc: Global,
+        place: u32,
+        product: Option<&str>,
+    ) -> Result<(), NoMemory>
+        ensures ok { OnOk result (self.new ≡ posted self.old.value place (option_copied product.entry) (Some self.old)) }
+        ensures err { OnErr result (self.new ≡ self.old) }
+    {
+        let i = place_after(&self.places, place);
+        self.places.insert(i, place)?;
+        match count_one(alloc, &mut self.counts, product) {
+            Ok(()) => Ok(()),
+            Err(error) => {
+                let _ = self.places.remove(i);
+                Err(error)
+            }
+        }
+    }
+
+    /// One row less that has the value. Answers whether none is left.
+    pub(crate) fn remove(&mut self, place: u32, product: Option<&str>) -> bool
+        ensures left { self.new ≡ shrunk place (option_copied product.entry) self.old }
+        ensures none { IsTrue result ↔ (self.new.places ≡ []) }
+    {
+        remove_place(&mut self.places, place);
+        count_less(&mut self.counts, product);
+        self.places.is_empty()
+    }
+
+    /// The value.
+    pub(crate) fn value(&self) -> &Value
+        ensures { result.now ≡ self.now.value }
+    {
+        &self.value
+    }
+
+    /// The places of the rows that have it, in rising order.
+    pub(crate) fn places(&self) -> &[u32]
+        ensures { result.now ≡ self.now.places }
+    {
+        self.places.as_slice()
+    }
+
+    /// How many of them there are of each product.
+    pub(crate) fn counts(&self) -> &[ProductCount]
+        ensures { result.now ≡ self.now.counts }
+    {
+        self.counts.as_slice()
+    }
+}
+
+/// Takes a place out, where it stands.
+fn remove_place(places: &mut Vec<u32>, place: u32)
+    requires { PlacesInOrder places.old.items }
+    ensures { places.new.items ≡ without_place place places.old.items }
+{
+    if let Ok(i) = places.binary_search(&place) {
+        let _ = places.remove(i);
+    }
+}
+
+/// Where a place goes behind those that are no greater.
+fn place_after(places: &[u32], place: u32) -> usize
+    requires { PlacesInOrder places.now }
+    ensures within { result ≤ length places.now }
+    ensures below { (k : ℕ) → k < result → slice_index places.now k ≤ place }
+    ensures above { (k : ℕ) → result ≤ k → k < length places.now → place < slice_index places.now k }
+{
+    let mut low = 0;
+    let mut high = places.len();
+    while low < high {
+        let middle = low + (high - low) / 2;
+        if places[middle] <= place {
+            low = middle + 1;
+        } else {
+            high = middle;
+        }
+    }
+    low
+}
