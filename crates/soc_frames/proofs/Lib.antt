@@ -1,0 +1,9 @@
+pub mod BoundaryLemmas
+pub mod CountLemmas
+pub mod GroupLemmas
+pub mod PlainLemmas
+pub mod RangeLemmas
+pub mod RustLemmas
+pub mod SpaceLemmas
+pub mod TextLemmas
+pub mod WalkLemmas
