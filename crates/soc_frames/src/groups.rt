@@ -37,7 +37,8 @@ pub fn collapse(alloc: Global, s: &str) -> Result<Text, NoMemory>
             continue;
         }
         out.push_str(&s[kept..start])?;
-        out.push_str(group_text(place))?;
+        let text = group_text(place);
+        out.push_str(text)?;
         kept = walk.place;
     }
 }

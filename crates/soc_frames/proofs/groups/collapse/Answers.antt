@@ -75,8 +75,8 @@ range-requires-clause-end_boundary c =
     let len : length old.text.now ≡ length s = ap (λ (t : List ℕ). length t) i.text in
     boundary_before s old.place place.byte (omega (arith, f.onward, f.within)) (byte_in s old.text.now old.place place.byte i.text f.byte) (opens_ascii place opened)
 
-pub group_text-requires : goal.group_text-requires
-group_text-requires c = sym c.opens.ensures ∙ c.if-not-opens.false
+pub group_text-text-requires : goal.group_text-text-requires
+group_text-text-requires c = sym c.opens.ensures ∙ c.if-not-opens.false
 
 pub places-preserved : goal.places-preserved
 places-preserved c =
@@ -94,7 +94,7 @@ places-preserved c =
       within = omega (arith, f.within);
       same = kept_group _ s (string_bytes c.places.out) (string_bytes c.push_str-in-places.new.self) (string_bytes c.push_str-in-places-2.new.self) c.places.kept old.place new.place (rest_of old) (rest_of new) f.tail place f.here f.rest
           (c.in_ok-push_str-2.ensures.bytes ∙ ap (λ (t : List ℕ). string_bytes c.places.out ++ t) c.range.ensures.value)
-          (c.in_ok-push_str-3.ensures.bytes ∙ ap (λ (t : List ℕ). string_bytes c.push_str-in-places.new.self ++ t) c.group_text.ensures)
+          (c.in_ok-push_str-3.ensures.bytes ∙ ap (λ (t : List ℕ). string_bytes c.push_str-in-places.new.self ++ t) c.group_text-text.ensures)
           i.same;
       boundary = boundary_in s old.text.now new.place i.text (λ utf8. f.boundary utf8 (opens_ascii place opened)) c.utf8.s;
     }
