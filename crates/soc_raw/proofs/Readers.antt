@@ -13,7 +13,8 @@ use Rattle.std.proofs.lemmas.Str.{IsUtf8-from_is_utf8, is_utf8-from_IsUtf8}
 use Rattle.soc_raw.specs.declared.record_error.RecordError.{RecordError}
 use Rattle.soc_raw.specs.declared.record_error.RecordError.TheVariants.{BadRecord, NoMemory}
 use Rattle.soc_raw.specs.Names.{IsRising, with_value}
-use Rattle.soc_raw.specs.inner.Reading.{◌>>=◌, is_above, last_name, pairs_at}
+use Rattle.soc_raw.specs.Options.{◌>>=◌}
+use Rattle.soc_raw.specs.inner.Reading.{is_above, last_name, pairs_at}
 use Rattle.soc_raw.specs.Refusals.{Refuses}
 use Rattle.soc_raw.proofs.PairLists.{some_same}
 

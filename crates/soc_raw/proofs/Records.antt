@@ -21,7 +21,8 @@ use Rattle.soc_raw.specs.Record.{Crash, counted, pair_text, pairs_text, head_tex
 use Rattle.soc_raw.specs.declared.record_error.RecordError.{RecordError}
 use Rattle.soc_raw.specs.declared.record_error.RecordError.TheVariants.{BadRecord, NoMemory}
 use Rattle.soc_raw.specs.RawCrash.{IsRefusal}
-use Rattle.soc_raw.specs.inner.Reading.{◌>>=◌, number_at, bytes_at, blob_at, text_at, id_at, is_moment, moment_at, text_pair_at, blob_pair_at, is_above, pairs_at, counted_pairs_at, crash_at}
+use Rattle.soc_raw.specs.Options.{◌>>=◌}
+use Rattle.soc_raw.specs.inner.Reading.{number_at, bytes_at, blob_at, text_at, id_at, is_moment, moment_at, text_pair_at, blob_pair_at, is_above, pairs_at, counted_pairs_at, crash_at}
 use Rattle.soc_raw.specs.Refusals.{Refuses}
 use Rattle.soc_raw.proofs.PairLists.{some_same}
 use Rattle.soc_raw.proofs.Readers.{Item, Pairs}

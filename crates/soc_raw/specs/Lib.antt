@@ -4,6 +4,7 @@ pub mod Day
 pub mod Digit
 pub mod inner
 pub mod Names
+pub mod Options
 pub mod RawCrash
 pub mod Record
 pub mod Refusals

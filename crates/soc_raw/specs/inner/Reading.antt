@@ -8,12 +8,8 @@ use Rattle.soc_raw.specs.Refusals.{Refuses}
 use Rattle.soc_raw.specs.CrashId.{id_length, is_id}
 use Rattle.soc_raw.specs.Day.{first_moment, last_moment}
 use Rattle.soc_raw.specs.Names.{byte_cmp}
+use Rattle.soc_raw.specs.Options.{◌>>=◌}
 use Rattle.soc_raw.specs.Record.{Crash, MAX_ANNOTATIONS, MAX_DUMPS}
-
-infixl 10 ◌>>=◌
-abbrev pub ◌>>=◌ : {A B : Type 0} → Option A → (A → Option B) → Option B
-None >>= f = None
-(Some x) >>= f = f x
 
 -- what was answered, seen by view, is what is read, unless memory ran out
 abbrev pub Gives : {X Y : Type 0} → (X → Y) → Result X RecordError → Option Y → Type 0
