@@ -4,7 +4,8 @@ use Rattle.std.specs.List.{insert}
 use Rattle.std.proofs.lemmas.Bool.{ltb-true, ltb-false, lt-ltb, le-ltb, eq-eqb, ne_eqb, eqb-true, eqb-false, cond_both, cases_eq, cases_lt}
 use Rattle.soc_schema.specs.declared.value.Value.{Value}
 use Rattle.soc_schema.specs.declared.value.Cell.{Cell}
-use Rattle.soc_schema.specs.Rows.{HasFieldAt, LacksFieldAt, IsCell, RisesFrom, IsRow, kind_of_value, value_of, with_value, cell, fields}
+use Rattle.soc_schema.specs.Rows.{IsCell, RisesFrom, IsRow, kind_of_value, value_of, with_value, cell}
+use Rattle.soc_schema.specs.inner.Places.{HasFieldAt, LacksFieldAt, fields}
 use Rattle.soc_schema.specs.Fields.{IsField, kind_of}
 
 -- no field of a row stands below where it begins

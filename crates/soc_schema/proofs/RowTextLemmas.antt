@@ -1,34 +1,29 @@
 -- What holds of the texts of rows: a text begins with one value, one cell and one list of cells at most.
-use Rattle.std.proofs.Common.{◌≡◌, ◌≢◌, ℕ, suc, ◌+◌, ◌^◌, ◌<◌, ◌≤◌, true, false, List, [], ◌∷◌, ◌++◌, length, get_or, take, drop, refl, sym, ap, ◌∙◌, subst, arith, append_assoc, length-append, append-nil, length-take, slice_index, if◌then◌else◌}
+use Rattle.std.proofs.Common.{◌≡◌, ◌≢◌, ℕ, suc, ◌+◌, ◌^◌, ◌<◌, ◌≤◌, true, false, List, [], ◌∷◌, ◌++◌, length, get_or, take, drop, refl, sym, ap, ◌∙◌, subst, arith, append_assoc, length-append, append-nil, slice_index, if◌then◌else◌}
 use Rattle.std.proofs.lemmas.Grind.{flat_map-append}
 use Rattle.std.specs.Int.{to_le_bytes, from_le_bytes, w32, w64}
 use Rattle.std.specs.List.{AllByRecursion}
-use Rattle.std.specs.Str.{IsUtf8}
 use Rattle.std.proofs.lemmas.Nat.{from_le_bytes-to_le_bytes_4, from_le_bytes-to_le_bytes_8}
-use Rattle.std.proofs.lemmas.List.{take-append-drop, take_all}
+use Rattle.std.proofs.lemmas.List.{take_all}
 use Rattle.std.proofs.lemmas.List.Folds.{length-flat_map-take}
-use Rattle.std.proofs.Math.Nat.{min-eq_left}
 use Rattle.std.proofs.Math.Seq.{drop-append_seam, take-append_seam}
 use Rattle.soc_raw.specs.Record.{counted}
+use Rattle.soc_raw.specs.Refusals.{Refuses}
 use Rattle.soc_raw.specs.declared.record_error.RecordError.{RecordError}
 use Rattle.soc_raw.specs.declared.record_error.RecordError.TheVariants.{BadRecord, NoMemory}
 use Rattle.soc_schema.specs.declared.value.Value.{Value}
 use Rattle.soc_schema.specs.declared.value.Value.TheVariants.{Text, Number, Flag}
 use Rattle.soc_schema.specs.declared.value.Cell.{Cell}
 use Rattle.soc_schema.specs.Rows.{IsCell, IsRow, RisesFrom, cell}
-use Rattle.soc_schema.specs.RowText.{value_text, cell_text, cells_text, row_text, IsShort, IsValue, HasText, ReadsCell, ReadsCells, Refuses}
+use Rattle.soc_schema.specs.RowText.{value_text, cell_text, cells_text, row_text, IsShort, IsValue, HasText}
+use Rattle.soc_schema.specs.inner.Reading.{ReadsCell, ReadsCells}
 
 -- fronts of one length are the same, and so is what follows them
-pub append-split : {A : Type 0} (a b r s : List A) → length a ≡ length b → a ++ r ≡ b ++ s → (a ≡ b) × (r ≡ s)
+append-split : {A : Type 0} (a b r s : List A) → length a ≡ length b → a ++ r ≡ b ++ s → (a ≡ b) × (r ≡ s)
 append-split a b r s same e =
     let front : a ≡ b = sym (take-append_seam a r) ∙ (ap (λ l. take (length a) l) e ∙ (ap (λ n. take n (b ++ s)) same ∙ take-append_seam b s)) in
     let back : r ≡ s = sym (drop-append_seam a r) ∙ (ap (λ l. drop (length a) l) e ∙ (ap (λ n. drop n (b ++ s)) same ∙ drop-append_seam b s)) in
     (front, back)
-
--- a front and what follows it are the whole
-pub front_back : (n : ℕ) (old front rest w : List ℕ) → front ≡ take n old → rest ≡ drop n old → w ≡ front → old ≡ w ++ rest
-front_back n old front rest w e1 e2 e3 =
-    sym (take-append-drop n old) ∙ (ap (λ l. l ++ drop n old) (sym e1 ∙ sym e3) ∙ ap (λ l. w ++ l) (sym e2))
 
 cons-head : (x y : ℕ) (xs ys : List ℕ) → x ∷ xs ≡ y ∷ ys → x ≡ y
 cons-head x y xs ys e = ap (λ l. slice_index l 0) e
@@ -44,17 +39,17 @@ le_32-split n m r s hn hm e =
     let parts = append-split (to_le_bytes w32 n) (to_le_bytes w32 m) r s refl e in
     (sym (from_le_bytes-to_le_bytes_4 n hn) ∙ (ap (from_le_bytes w32) parts.0 ∙ from_le_bytes-to_le_bytes_4 m hm), parts.1)
 
-pub le_64-split : (n m : ℕ) (r s : List ℕ) → n < 2 ^ 64 → m < 2 ^ 64 → to_le_bytes w64 n ++ r ≡ to_le_bytes w64 m ++ s → (n ≡ m) × (r ≡ s)
+le_64-split : (n m : ℕ) (r s : List ℕ) → n < 2 ^ 64 → m < 2 ^ 64 → to_le_bytes w64 n ++ r ≡ to_le_bytes w64 m ++ s → (n ≡ m) × (r ≡ s)
 le_64-split n m r s hn hm e =
     let parts = append-split (to_le_bytes w64 n) (to_le_bytes w64 m) r s refl e in
     (sym (from_le_bytes-to_le_bytes_8 n hn) ∙ (ap (from_le_bytes w64) parts.0 ∙ from_le_bytes-to_le_bytes_8 m hm), parts.1)
 
 -- a length in front of a text fixes how much of what follows is the text
-pub counted-front : (n : ℕ) (bytes rest t s : List ℕ) → bytes ≡ to_le_bytes w32 n ++ rest → bytes ≡ counted t ++ s → n < 2 ^ 32 → length t < 2 ^ 32 → (n ≡ length t) × (rest ≡ t ++ s)
+counted-front : (n : ℕ) (bytes rest t s : List ℕ) → bytes ≡ to_le_bytes w32 n ++ rest → bytes ≡ counted t ++ s → n < 2 ^ 32 → length t < 2 ^ 32 → (n ≡ length t) × (rest ≡ t ++ s)
 counted-front n bytes rest t s e h hn ht =
     le_32-split n (length t) rest (t ++ s) hn ht (sym e ∙ (h ∙ append_assoc (to_le_bytes w32 (length t)) t s))
 
-pub counted-split : (a b r s : List ℕ) → length a < 2 ^ 32 → length b < 2 ^ 32 → counted a ++ r ≡ counted b ++ s → (a ≡ b) × (r ≡ s)
+counted-split : (a b r s : List ℕ) → length a < 2 ^ 32 → length b < 2 ^ 32 → counted a ++ r ≡ counted b ++ s → (a ≡ b) × (r ≡ s)
 counted-split a b r s ha hb e =
     let front = counted-front (length a) (counted a ++ r) (a ++ r) b s (append_assoc (to_le_bytes w32 (length a)) a r) e ha hb in
     append-split a b r s front.0 front.1
@@ -124,20 +119,6 @@ ReadsCells-more low (c ∷ cs) (d ∷ ds) rest s ha hb fits e =
     let parts = cell_text-split c d (cells_text cs ++ rest) (cells_text ds ++ s) ha.0 hb.0 e' in
     let later = ReadsCells-more low cs ds rest s ha.1 hb.1 (omega arith) parts.1 in
     (later.0, ap (λ x. x ∷ ds) (sym parts.0) ∙ ap (λ l. c ∷ l) later.1, later.2)
-
--- the bytes begin with a text where the next n are UTF-8
-pub text-begins : (n : ℕ) (old left bytes rest t : List ℕ) → old ≡ to_le_bytes w32 n ++ left → n < 2 ^ 32 → n ≤ length left → bytes ≡ take n left → rest ≡ drop n left → t ≡ bytes → (length t < 2 ^ 32) × (old ≡ counted t ++ rest)
-text-begins n old left bytes rest t e hn fits front back same =
-    let many : length t ≡ n = ap length (same ∙ front) ∙ (length-take n left ∙ min-eq_left fits) in
-    let whole : left ≡ t ++ rest = sym (take-append-drop n left) ∙ (ap (λ l. l ++ drop n left) (sym (same ∙ front)) ∙ ap (λ l. t ++ l) (sym back)) in
-    (omega arith, e ∙ (ap (λ k. to_le_bytes w32 k ++ left) (sym many) ∙ (ap (λ l. to_le_bytes w32 (length t) ++ l) whole ∙ sym (append_assoc (to_le_bytes w32 (length t)) t rest))))
-
--- and with none where they aren't, or are fewer
-pub text-refused : (n : ℕ) (old left bytes : List ℕ) → old ≡ to_le_bytes w32 n ++ left → n < 2 ^ 32 → bytes ≡ take n left → ¬ (IsUtf8 bytes) → (t s : List ℕ) → IsUtf8 t → length t < 2 ^ 32 → old ≢ counted t ++ s
-text-refused n old left bytes e hn front bad t s good ht h =
-    let parts = counted-front n old left t s e h hn ht in
-    let same : bytes ≡ t = front ∙ (ap (take n) parts.1 ∙ (ap (λ k. take k (t ++ s)) parts.0 ∙ take-append_seam t s)) in
-    bad (subst IsUtf8 (sym same) good)
 
 -- a row has at most as many cells as the table has fields
 pub RisesFrom-few : (low : ℕ) (cells : List Cell) → RisesFrom low cells → low ≤ 36 → low + length cells ≤ 36

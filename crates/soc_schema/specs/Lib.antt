@@ -1,4 +1,5 @@
 pub mod Fields
+pub mod inner
 pub mod Permits
 pub mod Reports
 pub mod RowJson

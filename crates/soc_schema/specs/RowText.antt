@@ -1,15 +1,13 @@
 -- The text of a row, by concatenation: this project's profile. Numbers are little-endian.
-use Rattle.std.specs.Prelude.{◌≡◌, ℕ, ◌^◌, ◌<◌, ◌≤◌, List, ◌∷◌, [], ◌++◌, length, flat_map, if◌then◌else◌, ⊤}
+use Rattle.std.specs.Prelude.{◌≡◌, ℕ, ◌^◌, ◌<◌, List, ◌∷◌, [], ◌++◌, length, flat_map, if◌then◌else◌, ⊤}
 use Rattle.std.specs.Int.{to_le_bytes, w32, w64}
 use Rattle.std.specs.List.{AllByRecursion}
 use Rattle.std.specs.Str.{IsUtf8}
 use Rattle.soc_raw.specs.Record.{counted}
-use Rattle.soc_raw.specs.declared.record_error.RecordError.{RecordError}
-use Rattle.soc_raw.specs.declared.record_error.RecordError.TheVariants.{BadRecord, NoMemory}
 use Rattle.soc_schema.specs.declared.value.Value.{Value}
 use Rattle.soc_schema.specs.declared.value.Value.TheVariants.{Text, Number, Flag}
 use Rattle.soc_schema.specs.declared.value.Cell.{Cell}
-use Rattle.soc_schema.specs.Rows.{IsCell, IsRow, RisesFrom}
+use Rattle.soc_schema.specs.Rows.{IsRow}
 
 -- a tag for the kind, and the value: a text after its length, 8 bytes, or one byte
 abbrev pub value_text : Value → List ℕ
@@ -45,25 +43,3 @@ pub record HasText (cells : List Cell) (text : List ℕ) : Type 0 where
   pub is_row : IsRow cells
   pub values : AllByRecursion (λ c. IsValue c.value) cells
   pub whole : text ≡ row_text cells
-
--- what a reader tells of an error: bytes are bad only where the fact holds, and memory may be wanting at any time
-abbrev pub Refuses : RecordError → Type 0 → Type 0
-Refuses BadRecord P = P
-Refuses NoMemory P = ⊤
-
--- the bytes begin with a value, with a cell, or with so many cells, whose fields rise from `low`
-pub record ReadsValue (bytes : List ℕ) (v : Value) (rest : List ℕ) : Type 0 where
-  pub sound : IsValue v
-  pub begins : bytes ≡ value_text v ++ rest
-
-pub record ReadsCell (low : ℕ) (bytes : List ℕ) (c : Cell) (rest : List ℕ) : Type 0 where
-  pub above : low ≤ c.field
-  pub of_table : IsCell c
-  pub sound : IsValue c.value
-  pub begins : bytes ≡ cell_text c ++ rest
-
-pub record ReadsCells (low count : ℕ) (bytes : List ℕ) (cells : List Cell) (rest : List ℕ) : Type 0 where
-  pub rises : RisesFrom low cells
-  pub sound : AllByRecursion (λ c. IsValue c.value) cells
-  pub many : length cells ≡ count
-  pub begins : bytes ≡ cells_text cells ++ rest

@@ -1,5 +1,5 @@
 -- Rows: what a report says, as a list of fields and values.
-use Rattle.std.specs.Prelude.{◌≡◌, ℕ, ◌+◌, ◌<◌, ◌≤◌, ◌==◌, nat_lt, if◌then◌else◌, List, [], ◌∷◌, Option, None, Some, length, map, slice_index, ⊤}
+use Rattle.std.specs.Prelude.{◌≡◌, ℕ, ◌+◌, ◌≤◌, ◌==◌, nat_lt, if◌then◌else◌, List, [], ◌∷◌, Option, None, Some, ⊤}
 use Rattle.soc_schema.specs.declared.field.FieldKind.{FieldKind}
 use Rattle.soc_schema.specs.declared.field.FieldKind.TheVariants.{Text as TextKind, Number as NumberKind, Flag as FlagKind}
 use Rattle.soc_schema.specs.declared.value.Value.{Value}
@@ -40,19 +40,3 @@ abbrev pub with_value : List Cell → ℕ → Value → List Cell
 with_value [] f v = cell f v ∷ []
 with_value (c ∷ cs) f v =
     if nat_lt c.field f then c ∷ with_value cs f v else (if c.field == f then cell f v ∷ cs else cell f v ∷ c ∷ cs)
-
--- the fields of a row
-abbrev pub fields : List Cell → List ℕ
-fields cells = map (λ c. c.field) cells
-
--- the field stands at that place of a row, those before it are lesser
-pub record HasFieldAt (cells : List Cell) (f p : ℕ) : Type 0 where
-  pub within : p < length cells
-  pub below : (k : ℕ) → k < p → slice_index (fields cells) k < f
-  pub here : slice_index (fields cells) p ≡ f
-
--- the field doesn't stand in the row, and would stand at that place
-pub record LacksFieldAt (cells : List Cell) (f p : ℕ) : Type 0 where
-  pub within : p ≤ length cells
-  pub below : (k : ℕ) → k < p → slice_index (fields cells) k < f
-  pub above : (k : ℕ) → p ≤ k → k < length cells → f < slice_index (fields cells) k

@@ -2,7 +2,8 @@
 ghost use Rattle.std.specs.Prelude.{◌≡◌, ◌≢◌, ◌↔◌, ◌<◌, ◌≤◌, ℕ, [], length, slice_index, slice_get, option_map, IfOk, IsTrue, OnOk, OnErr, Some, MatchResult};
 ghost use Rattle.soc_schema.specs.Fields.{IsField, kind_of};
 ghost use Rattle.soc_schema.specs.Permits.{granted_cells};
-ghost use Rattle.soc_schema.specs.Rows.{HasFieldAt, IsRow, LacksFieldAt, cell, fields, kind_of_value, value_of, with_value};
+ghost use Rattle.soc_schema.specs.Rows.{IsRow, cell, kind_of_value, value_of, with_value};
+ghost use Rattle.soc_schema.specs.inner.Places.{HasFieldAt, LacksFieldAt, fields};
 
 use crate::caller::Caller;
 use crate::field::Field;

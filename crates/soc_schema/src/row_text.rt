@@ -2,16 +2,17 @@
 ghost use Rattle.std.specs.Prelude.{◌≡◌, ◌≢◌, ◌+◌, ◌^◌, ◌<◌, ◌≤◌, ◌↔◌, ◌++◌, ◌∷◌, if◌then◌else◌, ℕ, List, [], length, IsTrue, IfOk, IfErr, OnOk, MatchOption, MatchResult};
 ghost use Rattle.std.specs.Int.{to_le_bytes, w32, w64};
 ghost use Rattle.std.specs.List.{AllByRecursion};
-ghost use Rattle.std.specs.Str.{IsUtf8};
 ghost use Rattle.soc_raw.specs.Record.{counted};
+ghost use Rattle.soc_raw.specs.Refusals.{Refuses};
 ghost use Rattle.soc_schema.specs.declared.value.Cell.{Cell};
 ghost use Rattle.soc_schema.specs.declared.value.Value.{Value};
-ghost use Rattle.soc_schema.specs.RowText.{HasText, IsShort, IsValue, ReadsCell, ReadsCells, ReadsValue, Refuses, cell_text, row_text};
+ghost use Rattle.soc_schema.specs.RowText.{HasText, IsShort, IsValue, cell_text, row_text};
+ghost use Rattle.soc_schema.specs.inner.Reading.{ReadsCell, ReadsCells, ReadsValue};
 
 use crate::field::Field;
 use crate::row::Row;
 use crate::value::{Cell, Value};
-use soc_raw::{Bytes, NoMemory, RecordError, Text};
+use soc_raw::{Bytes, Cursor, NoMemory, RecordError, Text};
 use std::alloc::Global;
 
 /// The tags of the three kinds.
@@ -62,12 +63,12 @@ impl Row {
         ensures only { IfOk result (λ row. (cells : List Cell) → HasText cells b.now → cells ≡ row) }
         ensures bad { IfErr result (λ e. Refuses e ((cells : List Cell) → ¬ (HasText cells b.now))) }
     {
-        let mut reader = Reader { rest: b };
-        let Some(count) = reader.number_32() else {
+        let mut cursor = Cursor::new(b);
+        let Some(count) = cursor.u32() else {
             return Err(RecordError::BadRecord);
         };
-        let cells = reader.cells(alloc, count)?;
-        if !reader.rest.is_empty() {
+        let cells = cells_at(alloc, &mut cursor, count)?;
+        if !cursor.is_empty() {
             return Err(RecordError::BadRecord);
         }
         Ok(Row::of_cells(cells))
@@ -124,137 +125,76 @@ fn push_flag(bytes: &mut Vec<u8>, flag: bool) -> Result<(), NoMemory>
     Ok(())
 }
 
-/// What is left of a text.
-#[derive(Drop)]
-struct Reader<'a> {
-    rest: &'a [u8],
-}
-
-impl<'a> Reader<'a> {
-    fn byte(&mut self) -> Option<u8>
-        ensures { MatchOption result (self.old.rest.now ≡ []) (λ b. self.old.rest.now ≡ b ∷ self.new.rest.now) }
-    {
-        let (first, rest) = self.rest.split_first()?;
-        self.rest = rest;
-        Some(*first)
-    }
-
-    fn number_32(&mut self) -> Option<u32>
-        ensures { MatchOption result (length self.old.rest.now < 4) (λ n. self.old.rest.now ≡ to_le_bytes w32 n ++ self.new.rest.now) }
-    {
-        let (bytes, rest) = self.rest.split_first_chunk::<4>()?;
-        self.rest = rest;
-        Some(number_32_of(*bytes))
-    }
-
-    fn number_64(&mut self) -> Option<u64>
-        ensures { MatchOption result (length self.old.rest.now < 8) (λ n. self.old.rest.now ≡ to_le_bytes w64 n ++ self.new.rest.now) }
-    {
-        let (bytes, rest) = self.rest.split_first_chunk::<8>()?;
-        self.rest = rest;
-        Some(number_64_of(*bytes))
-    }
-
-    fn text(&mut self) -> Option<&'a str>
-        ensures { MatchOption result ((t s : List ℕ) → IsUtf8 t → length t < 2 ^ 32 → self.old.rest.now ≢ counted t ++ s) (λ t. (length t.now < 2 ^ 32) × (self.old.rest.now ≡ counted t.now ++ self.new.rest.now)) }
-    {
-        let length = self.number_32()? as usize;
-        if self.rest.len() < length {
-            return None;
-        }
-        let (bytes, rest) = self.rest.split_at(length);
-        self.rest = rest;
-        match std::str::from_utf8(bytes) {
-            Ok(text) => Some(text),
-            Err(_) => None,
-        }
-    }
-
-    fn value(&mut self, alloc: Global) -> Result<Value, RecordError>
-        ensures { MatchResult result (λ v. ReadsValue self.old.rest.now v self.new.rest.now) (λ e. Refuses e ((v : Value) (s : List ℕ) → ¬ (ReadsValue self.old.rest.now v s))) }
-    {
-        let Some(tag) = self.byte() else {
-            return Err(RecordError::BadRecord);
-        };
-        match tag {
-            TEXT => self.text_value(alloc),
-            NUMBER => self.number_value(),
-            FLAG => self.flag_value(),
-            _ => Err(RecordError::BadRecord),
-        }
-    }
-
-    fn text_value(&mut self, alloc: Global) -> Result<Value, RecordError>
-        ensures { MatchResult result (λ v. ReadsValue (TEXT ∷ self.old.rest.now) v self.new.rest.now) (λ e. Refuses e ((v : Value) (s : List ℕ) → ¬ (ReadsValue (TEXT ∷ self.old.rest.now) v s))) }
-    {
-        match self.text() {
-            Some(text) => Ok(Value::Text(Text::of(alloc, text)?)),
-            None => Err(RecordError::BadRecord),
-        }
-    }
-
-    fn number_value(&mut self) -> Result<Value, RecordError>
-        ensures { MatchResult result (λ v. ReadsValue (NUMBER ∷ self.old.rest.now) v self.new.rest.now) (λ e. Refuses e ((v : Value) (s : List ℕ) → ¬ (ReadsValue (NUMBER ∷ self.old.rest.now) v s))) }
-    {
-        match self.number_64() {
-            Some(number) => Ok(Value::Number(number)),
-            None => Err(RecordError::BadRecord),
-        }
-    }
-
-    fn flag_value(&mut self) -> Result<Value, RecordError>
-        ensures { MatchResult result (λ v. ReadsValue (FLAG ∷ self.old.rest.now) v self.new.rest.now) (λ e. Refuses e ((v : Value) (s : List ℕ) → ¬ (ReadsValue (FLAG ∷ self.old.rest.now) v s))) }
-    {
-        let Some(byte) = self.byte() else {
-            return Err(RecordError::BadRecord);
-        };
-        if byte > 1 {
-            return Err(RecordError::BadRecord);
-        }
-        Ok(Value::Flag(byte == 1))
-    }
-
-    fn cell(&mut self, alloc: Global, low: u8) -> Result<Cell, RecordError>
-        ensures { MatchResult result (λ c. ReadsCell low self.old.rest.now c self.new.rest.now) (λ e. Refuses e ((c : Cell) (s : List ℕ) → ¬ (ReadsCell low self.old.rest.now c s))) }
-    {
-        let Some(place) = self.byte() else {
-            return Err(RecordError::BadRecord);
-        };
-        if place < low || Field::COUNT <= place {
-            return Err(RecordError::BadRecord);
-        }
-        let field = Field::at(place);
-        let value = self.value(alloc)?;
-        if value.kind() != field.kind() {
-            return Err(RecordError::BadRecord);
-        }
-        Ok(Cell { field, value })
-    }
-
-    fn cells(&mut self, alloc: Global, count: u32) -> Result<Vec<Cell>, RecordError>
-        ensures { MatchResult result (λ cells. ReadsCells 0 count self.old.rest.now cells.items self.new.rest.now) (λ e. Refuses e ((cells : List Cell) (s : List ℕ) → ¬ (ReadsCells 0 count self.old.rest.now cells s))) }
-    {
-        let mut cells = Vec::new(alloc);
-        let mut low = 0;
-        for _ in 0..count {
-            let cell = self.cell(alloc, low)?;
-            low = cell.field.place() + 1;
-            push(&mut cells, cell)?;
-        }
-        Ok(cells)
-    }
-}
-
-fn number_32_of(bytes: [u8; 4]) -> u32
-    ensures { to_le_bytes w32 result ≡ bytes }
+fn value_at(alloc: Global, cursor: &mut Cursor<'_>) -> Result<Value, RecordError>
+    ensures { MatchResult result (λ v. ReadsValue cursor.old v cursor.new) (λ e. Refuses e ((v : Value) (s : List ℕ) → ¬ (ReadsValue cursor.old v s))) }
 {
-    u32::from_le_bytes(bytes)
+    let Some(tag) = cursor.byte() else {
+        return Err(RecordError::BadRecord);
+    };
+    match tag {
+        TEXT => text_value_at(alloc, cursor),
+        NUMBER => number_value_at(cursor),
+        FLAG => flag_value_at(cursor),
+        _ => Err(RecordError::BadRecord),
+    }
 }
 
-fn number_64_of(bytes: [u8; 8]) -> u64
-    ensures { to_le_bytes w64 result ≡ bytes }
+fn text_value_at(alloc: Global, cursor: &mut Cursor<'_>) -> Result<Value, RecordError>
+    ensures { MatchResult result (λ v. ReadsValue (TEXT ∷ cursor.old) v cursor.new) (λ e. Refuses e ((v : Value) (s : List ℕ) → ¬ (ReadsValue (TEXT ∷ cursor.old) v s))) }
 {
-    u64::from_le_bytes(bytes)
+    match cursor.text() {
+        Some(text) => Ok(Value::Text(Text::of(alloc, text)?)),
+        None => Err(RecordError::BadRecord),
+    }
+}
+
+fn number_value_at(cursor: &mut Cursor<'_>) -> Result<Value, RecordError>
+    ensures { MatchResult result (λ v. ReadsValue (NUMBER ∷ cursor.old) v cursor.new) (λ e. Refuses e ((v : Value) (s : List ℕ) → ¬ (ReadsValue (NUMBER ∷ cursor.old) v s))) }
+{
+    match cursor.u64() {
+        Some(number) => Ok(Value::Number(number)),
+        None => Err(RecordError::BadRecord),
+    }
+}
+
+fn flag_value_at(cursor: &mut Cursor<'_>) -> Result<Value, RecordError>
+    ensures { MatchResult result (λ v. ReadsValue (FLAG ∷ cursor.old) v cursor.new) (λ e. Refuses e ((v : Value) (s : List ℕ) → ¬ (ReadsValue (FLAG ∷ cursor.old) v s))) }
+{
+    match cursor.byte() {
+        Some(0) => Ok(Value::Flag(false)),
+        Some(1) => Ok(Value::Flag(true)),
+        _ => Err(RecordError::BadRecord),
+    }
+}
+
+fn cell_at(alloc: Global, cursor: &mut Cursor<'_>, low: u8) -> Result<Cell, RecordError>
+    ensures { MatchResult result (λ c. ReadsCell low cursor.old c cursor.new) (λ e. Refuses e ((c : Cell) (s : List ℕ) → ¬ (ReadsCell low cursor.old c s))) }
+{
+    let Some(place) = cursor.byte() else {
+        return Err(RecordError::BadRecord);
+    };
+    if place < low || Field::COUNT <= place {
+        return Err(RecordError::BadRecord);
+    }
+    let field = Field::at(place);
+    let value = value_at(alloc, cursor)?;
+    if value.kind() != field.kind() {
+        return Err(RecordError::BadRecord);
+    }
+    Ok(Cell { field, value })
+}
+
+fn cells_at(alloc: Global, cursor: &mut Cursor<'_>, count: u32) -> Result<Vec<Cell>, RecordError>
+    ensures { MatchResult result (λ cells. ReadsCells 0 count cursor.old cells.items cursor.new) (λ e. Refuses e ((cells : List Cell) (s : List ℕ) → ¬ (ReadsCells 0 count cursor.old cells s))) }
+{
+    let mut cells = Vec::new(alloc);
+    let mut low = 0;
+    for _ in 0..count {
+        let cell = cell_at(alloc, cursor, low)?;
+        low = cell.field.place() + 1;
+        push(&mut cells, cell)?;
+    }
+    Ok(cells)
 }
 
 fn push(cells: &mut Vec<Cell>, cell: Cell) -> Result<(), NoMemory>

@@ -1,5 +1,5 @@
 use Rattle.std.proofs.Common.{ℕ, ◌+◌, ◌-◌, ◌/◌, ◌<◌, ◌≤◌, length, get_or, arith}
-use Rattle.soc_schema.specs.Rows.{fields}
+use Rattle.soc_schema.specs.inner.Places.{fields}
 use Rattle.soc_schema.proofs.RowLemmas.{places_below, places_above}
 use Rattle.soc_schema.proofs.row.place_of.Goals as goal
 

@@ -1,5 +1,5 @@
 use Rattle.std.proofs.Common.{ℕ, ◌-◌, ◌<◌, ◌≤◌, length, get_or}
-use Rattle.soc_schema.specs.Rows.{fields}
+use Rattle.soc_schema.specs.inner.Places.{fields}
 use Rattle.soc_schema.proofs.row.place_of.Given as goal
 
 abbrev pub invariant-loop-low : goal.invariant-loop-low
