@@ -1,6 +1,5 @@
 -- Rows as members of an object.
-use Rattle.std.proofs.Common.{◌≡◌, ℕ, zero, suc, ◌+◌, List, [], ◌∷◌, None, add-one, drop, false, true, Bool, ◌||◌, refl, sym, ap, subst, ◌∙◌, slice_get, Some, length, ◌≤◌, BTreeMap, String, Global}
-use Rattle.std.proofs.lemmas.List.{drop_all}
+use Rattle.std.proofs.Common.{◌≡◌, ℕ, List, [], ◌∷◌, false, true, Bool, ◌||◌, refl, sym, ap, ◌∙◌, BTreeMap, String, Global}
 use Rattle.std.specs.Ordering.{match_ordering}
 use Rattle.std.specs.declared.cmp.Ordering.{Ordering}
 use Rattle.std.specs.declared.cmp.Ordering.TheVariants.{Less, Equal, Greater}
@@ -19,22 +18,8 @@ use Rattle.soc_schema.specs.declared.value.Cell.{Cell}
 use Rattle.soc_schema.specs.declared.value.Value.{Value}
 use Rattle.soc_schema.specs.declared.value.Value.TheVariants.{Text, Number, Flag}
 use Rattle.soc_schema.specs.Fields.{name_of}
-use Rattle.soc_schema.specs.RowJson.{HasCells, data_of, row_json, with_cells}
-
-some_is : {A : Type 0} (x y : A) → Some x ≡ Some y → x ≡ y
-some_is x y e = cc
-
-none_is_some : {A : Type 0} (x : A) → None ≡ Some x → ⊥
-none_is_some x e = cc
-
-drop_suc : {A : Type 0} (xs : List A) (i : ℕ) (x : A) → slice_get xs i ≡ Some x → drop i xs ≡ x ∷ drop (suc i) xs
-drop_suc [] i x e = absurd (none_is_some x e)
-drop_suc (y ∷ ys) zero x e = ap (λ z. z ∷ ys) (some_is y x e)
-drop_suc (y ∷ ys) (suc i) x e = drop_suc ys i x e
-
--- the item at a place is the first of what is left there
-drop_at : {A : Type 0} (xs : List A) (i : ℕ) (x : A) → slice_get xs i ≡ Some x → drop i xs ≡ x ∷ drop (i + 1) xs
-drop_at xs i x e = drop_suc xs i x e ∙ ap (λ n. x ∷ drop n xs) (sym (add-one i))
+use Rattle.soc_schema.specs.RowJson.{data_of, row_json, with_cells}
+use Rattle.soc_schema.specs.inner.Members.{HasCells}
 
 both_false : (a b : Bool) → a ≡ false → b ≡ false → (a || b) ≡ false
 both_false a b p q = rw (p, q) refl
@@ -67,16 +52,11 @@ data_exact (Text text) = refl
 data_exact (Number n) = refl
 data_exact (Flag b) = refl
 
--- the cell at a place is put next
-pub cells_step : (members : Members) (row : List Cell) (all : Members) (i : ℕ) (cell : Cell) → slice_get row i ≡ Some cell
-    → with_cells members (drop i row) ≡ all → with_cells (put (name_of cell.field) (data_of cell.value) members) (drop (i + 1) row) ≡ all
-cells_step members row all i cell at left =
-    let P : List Cell → Type 0 = λ l. with_cells members l ≡ all in subst P (drop_at row i cell at) left
-
-pub cells_at : (members new : Members) (row : List Cell) (all : Members) (i field : ℕ) (value : Value) → slice_get row i ≡ Some (cell field value)
-    → new ≡ put (name_of field) (data_of value) members → with_cells members (drop i row) ≡ all → with_cells new (drop (i + 1) row) ≡ all
-cells_at members new row all i field value at is left =
-    ap (λ ms. with_cells ms (drop (i + 1) row)) is ∙ cells_step members row all i (cell field value) at left
+-- the next cell is put
+pub cells_step : (members new : Members) (left rest all : List Cell) (field : ℕ) (value : Value) → left ≡ cell field value ∷ rest
+    → new ≡ put (name_of field) (data_of value) members → with_cells members left ≡ with_cells no_members all → with_cells new rest ≡ with_cells no_members all
+cells_step members new left rest all field value next is so_far =
+    ap (λ ms. with_cells ms rest) is ∙ (ap (λ l. with_cells members l) (sym next) ∙ so_far)
 
 pub cells_exact : (members new : Members) (name : List ℕ) (value : Value) → new ≡ put name (data_of value) members
     → members_have_float members ≡ false → members_have_float new ≡ false
@@ -84,10 +64,10 @@ cells_exact members new name value is exact =
     ap (λ ms. members_have_float ms) is ∙ put_exact name (data_of value) members (data_exact value) exact
 
 -- no cell is left
-pub cells_done : (members : Members) (row : List Cell) (i : ℕ) → length row ≤ i → with_cells members (drop i row) ≡ with_cells no_members row
-    → members_have_float members ≡ false → HasCells row members
-cells_done members row i past left exact = record {
-  are = ap (λ l. with_cells members l) (sym (drop_all i row past)) ∙ left;
+pub cells_done : (members : Members) (left all : List Cell) → left ≡ [] → with_cells members left ≡ with_cells no_members all
+    → members_have_float members ≡ false → HasCells all members
+cells_done members left all none so_far exact = record {
+  are = ap (λ l. with_cells members l) (sym none) ∙ so_far;
   exact = exact;
 }
 

@@ -1,7 +1,7 @@
 -- A row as a JSON object (RFC 8259): this project's profile.
-use Rattle.std.specs.Prelude.{◌≡◌, ℕ, false, List, [], ◌∷◌}
+use Rattle.std.specs.Prelude.{ℕ, List, [], ◌∷◌}
 use Rattle.serde_json.specs.Data.{Data, string, number, boolean, object, unsigned, Members, no_members, put}
-use Rattle.serde_json.specs.Written.{compact_text, members_have_float}
+use Rattle.serde_json.specs.Written.{compact_text}
 use Rattle.soc_schema.specs.declared.value.Value.{Value}
 use Rattle.soc_schema.specs.declared.value.Value.TheVariants.{Text, Number, Flag}
 use Rattle.soc_schema.specs.declared.value.Cell.{Cell}
@@ -20,8 +20,3 @@ with_cells members (cell ∷ cells) = with_cells (put (name_of cell.field) (data
 -- an object of the row's names and values, in byte order of names
 unfoldable pub row_json : List Cell → List ℕ
 row_json cells = compact_text (object (with_cells no_members cells))
-
--- the members are those of the row, and none of them is a float
-pub record HasCells (row : List Cell) (members : Members) : Type 0 where
-  pub are : members ≡ with_cells no_members row
-  pub exact : members_have_float members ≡ false

@@ -4,7 +4,8 @@ ghost use Rattle.serde_json.specs.Data.{put};
 ghost use Rattle.serde_json.specs.View.{members_view, view};
 ghost use Rattle.serde_json.specs.Written.{has_float, members_have_float};
 ghost use Rattle.soc_schema.specs.Fields.{name_of};
-ghost use Rattle.soc_schema.specs.RowJson.{HasCells, data_of, row_json};
+ghost use Rattle.soc_schema.specs.RowJson.{data_of, row_json};
+ghost use Rattle.soc_schema.specs.inner.Members.{HasCells};
 
 use crate::field::Field;
 use crate::row::Row;
@@ -26,8 +27,7 @@ fn members_of(alloc: Global, row: &Row) -> Result<Map<String, Json>, NoMemory>
     ensures { IfOk result (λ members. HasCells row.now (members_view members.entries)) }
 {
     let mut members = Map::new(alloc);
-    for i in 0..row.len() {
-        let (field, value) = row.at(i);
+    for (field, value) in row {
         put(alloc, &mut members, field, value)?;
     }
     Ok(members)
