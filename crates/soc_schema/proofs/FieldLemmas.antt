@@ -63,18 +63,9 @@ unfolding field_named name_of field_entry field_table
 field_named-absent text all =
     position-absent (λ e. is_text e.name text) field_table nowhere (λ k h. is_text-other (name_of k) text (all k h))
 
-source-same : (text : List ℕ) (o : Option (List ℕ)) → o ≡ Some text → option_map_or (λ s. is_text s text) o false ≡ true
-source-same text None h = cc
-source-same text (Some s) h = let e : s ≡ text = cc in is_text-same s text e
-
 source-other : (text : List ℕ) (o : Option (List ℕ)) → o ≢ Some text → option_map_or (λ s. is_text s text) o false ≡ false
 source-other text None h = refl
 source-other text (Some s) h = is_text-other s text (λ e. h (ap Some e))
-
-pub field_of_annotation-found : (text : List ℕ) (f : ℕ) → IsField f → source_of f ≡ Some text → ((k : ℕ) → k < f → source_of k ≢ Some text) → field_of_annotation text ≡ Some f
-unfolding field_of_annotation source_of field_entry field_table
-field_of_annotation-found text f within here before =
-    position-found (comes_from text) field_table f nowhere within (source-same text (source_of f) here) (λ k h. source-other text (source_of k) (before k h))
 
 pub field_of_annotation-absent : (text : List ℕ) → ((k : ℕ) → IsField k → source_of k ≢ Some text) → field_of_annotation text ≡ None
 unfolding field_of_annotation source_of field_entry field_table
@@ -82,11 +73,11 @@ field_of_annotation-absent text all =
     position-absent (comes_from text) field_table nowhere (λ k h. source-other text (source_of k) (all k h))
 
 -- each name is one field's, by a test over the whole table
-abbrev is_at : ℕ → Option ℕ → Bool
+abbrev pub is_at : ℕ → Option ℕ → Bool
 is_at f None = false
 is_at f (Some g) = eqb g f
 
-is_at-true : (f : ℕ) (o : Option ℕ) → is_at f o ≡ true → o ≡ Some f
+pub is_at-true : (f : ℕ) (o : Option ℕ) → is_at f o ≡ true → o ≡ Some f
 is_at-true f None h = absurd (false≢true h)
 is_at-true f (Some g) h = ap Some (eqb-true g f h)
 

@@ -1,9 +1,11 @@
 //! The fields of a report: one table, in which each has its name, its kind, the permission that it needs and the
 //! annotation that alone makes it.
-ghost use Rattle.std.specs.Prelude.{◌≡◌, ◌≢◌, ◌↔◌, ℕ, IsTrue, None, Some, MatchOption, option_map, length, map};
+ghost use Rattle.std.specs.Prelude.{◌≡◌, ◌≢◌, ℕ, None, Some, MatchOption, option_map, length, map};
 ghost use Rattle.soc_schema.specs.Fields.{IsField, field_table, name_of, kind_of, permission_of, source_of, field_named, field_of_annotation};
+ghost use Rattle.soc_schema.specs.inner.Sources.{annotation_of};
 
 use crate::permission::Permission;
+use crate::sources::field_of;
 use std::marker::Model;
 
 /// What the values of a field are.
@@ -259,13 +261,7 @@ impl Field {
         ensures found { MatchOption result ((f : ℕ) → IsField f → source_of f ≢ Some name.now)
             (λ f. IsField f × (source_of f ≡ Some name.now)) }
     {
-        for place in 0..Field::COUNT {
-            let field = Field::at(place);
-            if field.comes_from(name) {
-                return Some(field);
-            }
-        }
-        None
+        field_of(name)
     }
 
     /// The field's name, as queries and replies write it: no other field has it.
@@ -290,13 +286,11 @@ impl Field {
         self.entry().permission
     }
 
-    fn comes_from(&self, annotation: &str) -> bool
-        ensures { IsTrue result ↔ (source_of self.now ≡ Some annotation.now) }
+    /// The annotation that alone makes the field, or nothing.
+    pub(crate) fn annotation(&self) -> &'static str
+        ensures { result.now ≡ annotation_of self.now }
     {
-        match self.entry().source {
-            Some(source) => source == annotation,
-            None => false,
-        }
+        self.entry().source.unwrap_or("")
     }
 
     fn entry(&self) -> &'static Entry

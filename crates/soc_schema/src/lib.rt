@@ -11,6 +11,7 @@ mod reporter;
 mod row;
 mod row_text;
 mod sight;
+mod sources;
 mod token;
 mod value;
 
