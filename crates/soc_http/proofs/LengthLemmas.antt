@@ -1,51 +1,47 @@
--- Digits that are read one by one, and lines that are gathered one by one.
-use Rattle.std.proofs.Common.{◌≡◌, ℕ, ◌+◌, ◌-◌, ◌*◌, ◌^◌, ◌<◌, ◌≤◌, ◌&&◌, ◌||◌, Bool, true, false, List, [], ◌∷◌, ◌++◌, length, take, get_or, map, filter, refl, sym, ap, subst, ◌∙◌, arith, lit<, if◌then◌else◌, append-nil, codes}
-use Rattle.std.proofs.lemmas.List.{length-take-le, map-append}
+-- Lengths that digits state, and lines that are gathered one by one.
+use Rattle.std.proofs.Common.{◌≡◌, ℕ, ◌<◌, ◌≤◌, ◌&&◌, ◌||◌, Bool, true, false, List, [], ◌∷◌, ◌++◌, length, map, filter, refl, sym, ap, subst, ◌∙◌, arith, nat_le, nat_lt, if◌then◌else◌, append-nil, codes}
+use Rattle.std.proofs.lemmas.List.{map-append}
 use Rattle.std.proofs.lemmas.List.Elements.{filter-append}
-use Rattle.std.proofs.lemmas.List.Folds.{list_all_more, list_any-append}
-use Rattle.std.proofs.lemmas.Int.Digits.{digits_value-lt, digits_value_more, digits_more}
-use Rattle.std.proofs.lemmas.Bool.Decides.{nat_tests}
-use Rattle.std.proofs.Math.Nat.{pow-le-pow_right}
+use Rattle.std.proofs.lemmas.List.Folds.{list_any-append}
+use Rattle.std.proofs.lemmas.Bool.Decides.{Decides-and, Decides-ltb, nat_tests}
 use Rattle.std.specs.List.{list_all, list_any}
 use Rattle.std.specs.Char.{digit_value, is_ascii_digit}
 use Rattle.std.specs.Str.Parse.{digits_value, AllDigits}
+use Rattle.std.specs.Bool.{Decides}
+use Rattle.soc_text.specs.Digits.{IsNumber}
 use Rattle.soc_http.specs.declared.framing.Framing.{Framing}
 use Rattle.soc_http.specs.declared.framing.Stated.{Stated}
-use Rattle.soc_http.specs.declared.framing.Stated.TheVariants.{Length, Bad}
-use Rattle.soc_http.specs.Request.{Line, is_named, values_of, stated, is_length, is_coding, is_close}
+use Rattle.soc_http.specs.declared.framing.Stated.TheVariants.{Nothing, Length, Bad}
+use Rattle.soc_http.specs.Request.{Line, is_named, values_of, stated, digit_limit, is_length, is_coding, is_close}
 use Rattle.soc_http.specs.inner.Framing.{framing_of, stated_more, stated_by_line}
 
--- the first i bytes are digits that write this number
-pub record IsReadTo (bytes : List ℕ) (i value : ℕ) : Type 0 where
-  pub digits : list_all is_ascii_digit (take i bytes) ≡ true
-  pub all : AllDigits 10 (take i bytes)
-  pub is : value ≡ digits_value 10 (take i bytes)
+digit-is : (b : ℕ) → Decides (is_ascii_digit b) (digit_value b < 10)
+digit-is b = grind (arith, nat_tests)
 
--- up to 18 digits write a number below 10 ^ 18
-pub IsReadTo-fits : (bytes : List ℕ) (i value : ℕ) → IsReadTo bytes i value → i < length bytes → length bytes ≤ 19 → value < 10 ^ 18
-IsReadTo-fits bytes i value so_far inside few =
-    let len : length (take i bytes) ≡ i = length-take-le i bytes (omega arith) in
-    let below = rw len at (digits_value-lt 10 (take i bytes) so_far.all) in
-    let power : 10 ^ i ≤ 10 ^ 18 = pow-le-pow_right {n = 10} (lit< tt) {i = i} {j = 18} (omega arith) in
-    let is = so_far.is in
-    omega arith
+digits-are : (bytes : List ℕ) → Decides (list_all is_ascii_digit bytes) (AllDigits 10 bytes)
+digits-are [] = (λ _. tt, λ _. refl)
+digits-are (b ∷ bs) = Decides-and (is_ascii_digit b) (list_all is_ascii_digit bs) (digit-is b) (digits-are bs)
 
-digit_worth : (b : ℕ) → is_ascii_digit b ≡ true → b - 48 ≡ digit_value b
-digit_worth b digit = grind (arith, nat_tests)
+at-most : (a b : ℕ) → Decides (nat_le a b) (a ≤ b)
+at-most a b = grind (arith, nat_tests)
 
-digit_small : (b : ℕ) → is_ascii_digit b ≡ true → digit_value b < 10
-digit_small b digit = grind (arith, nat_tests)
+-- 1 to 19 digits
+length-is : (value : List ℕ) → Decides (is_length value) (IsNumber 19 value)
+length-is value =
+    let parts = Decides-and (nat_lt 0 (length value)) (nat_le (length value) digit_limit && list_all is_ascii_digit value) (Decides-ltb 0 (length value))
+    (Decides-and (nat_le (length value) digit_limit) (list_all is_ascii_digit value) (at-most (length value) digit_limit) (digits-are value)) in
+    (λ e. let p = parts.0 e in (p.1.0, (p.0, p.1.1)), λ p. parts.1 (p.1.0, (p.0, p.1.1)))
 
--- one digit more
-pub IsReadTo-more : (bytes : List ℕ) (i value digit : ℕ) → i < length bytes → is_ascii_digit (get_or bytes i 0) ≡ true
-    → digit ≡ get_or bytes i 0 - 48 → IsReadTo bytes i value → IsReadTo bytes (i + 1) (value * 10 + digit)
-IsReadTo-more bytes i value digit inside test is so_far =
-    let worth = is ∙ digit_worth (get_or bytes i 0) test in
-    record {
-      digits = list_all_more is_ascii_digit bytes i 0 inside ∙ (λ k. so_far.digits k && test k);
-      all = digits_more 10 bytes i inside so_far.all (digit_small (get_or bytes i 0) test);
-      is = rw (digits_value_more 10 bytes i inside, so_far.is, worth) refl;
-    }
+false_from : (b : Bool) → (b ≡ true → ⊥) → b ≡ false
+false_from true h = absurd (h refl)
+false_from false h = refl
+
+-- such a value states its number, another one states nothing that can be taken
+pub stated-number : (so_far : Stated) (value : List ℕ) (n : ℕ) → so_far ≡ Nothing → IsNumber 19 value → n ≡ digits_value 10 value → Length n ≡ stated_more so_far value
+stated-number so_far value n none is e = rw (none, (length-is value).1 is, e) refl
+
+pub stated-other : (so_far : Stated) (value : List ℕ) → so_far ≡ Nothing → ¬ (IsNumber 19 value) → Bad ≡ stated_more so_far value
+stated-other so_far value none not = rw (none, false_from (is_length value) (λ e. not ((length-is value).0 e))) refl
 
 -- ---- lines
 

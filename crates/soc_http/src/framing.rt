@@ -1,15 +1,15 @@
 //! What the lines of a head say of its body and of the connection.
-ghost use Rattle.std.specs.Prelude.{◌≡◌, ◌++◌, ◌∷◌, [], List, ℕ, length, map, Some, None, if◌then◌else◌};
+ghost use Rattle.std.specs.Prelude.{◌≡◌, ◌++◌, ◌∷◌, [], List, ℕ, length, map};
 ghost use Rattle.std.specs.List.{All};
 ghost use Rattle.std.specs.Str.{str_eq_ignore_ascii_case};
-ghost use Rattle.std.specs.Str.Parse.{digits_value};
 ghost use Rattle.httparse.specs.Spans.{IsHeaderWithin, header_bytes};
-ghost use Rattle.soc_http.specs.Request.{is_length, taken_length, is_post, is_close};
+ghost use Rattle.soc_http.specs.Request.{taken_length, is_post, is_close};
 ghost use Rattle.soc_http.specs.inner.Framing.{framing_of, stated_more, stated_by_line};
 
 use crate::head::HeadError;
 use crate::verb::Verb;
 use httparse::spans::HeaderSpan;
+use soc_text::number;
 
 const BODY_LIMIT: u64 = 16_777_216;
 
@@ -41,28 +41,11 @@ fn is_same_word(word: &[u8], other: &[u8]) -> bool
     word.eq_ignore_ascii_case(other)
 }
 
-/// The number that 1 to 19 digits write.
-fn length_in(value: &[u8]) -> Option<u64>
-    ensures { result ≡ (if is_length value.now then Some (digits_value 10 value.now) else None) }
-{
-    if value.is_empty() || value.len() > LENGTH_DIGITS {
-        return None;
-    }
-    let mut length: u64 = 0;
-    for byte in value {
-        if !byte.is_ascii_digit() {
-            return None;
-        }
-        length = length * 10 + u64::from(*byte - b'0');
-    }
-    Some(length)
-}
-
 fn stated_more(stated: Stated, value: &[u8]) -> Stated
     ensures { result ≡ stated_more stated value.now }
 {
     match stated {
-        Stated::Nothing => match length_in(value) {
+        Stated::Nothing => match number(value, LENGTH_DIGITS) {
             Some(length) => Stated::Length(length),
             None => Stated::Bad,
         },
