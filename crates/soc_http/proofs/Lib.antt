@@ -1,6 +1,7 @@
 pub mod SendLemmas
 pub mod RouteLemmas
 pub mod LengthLemmas
+pub mod LineLemmas
 pub mod CountLemmas
 pub mod BlockLemmas
 pub mod WindowLemmas

@@ -1,5 +1,6 @@
 pub mod Block
 pub mod Request
+pub mod Lines
 pub mod Message
 pub mod Reading
 pub mod Reply

@@ -1,6 +1,7 @@
 //! Queries.
 ghost use Rattle.std.specs.Prelude.{◌≡◌, IfOk};
-ghost use Rattle.soc_http.specs.Query.{query_pairs};
+ghost use Rattle.std.specs.Option.{option_copied};
+ghost use Rattle.soc_http.specs.Query.{first_value, query_pairs};
 
 use soc_raw::{NoMemory, Pairs, Text};
 use std::alloc::Global;
@@ -15,4 +16,16 @@ pub fn pairs_of(alloc: Global, query: &[u8]) -> Result<Pairs, NoMemory>
         pairs.push(Text::from(name), Text::from(value))?;
     }
     Ok(pairs)
+}
+
+/// The value of the first pair of this name.
+pub fn first_value<'a>(pairs: &'a Pairs, name: &str) -> Option<&'a str>
+    ensures { option_copied result ≡ first_value name.now pairs.now }
+{
+    for (pair_name, value) in pairs {
+        if pair_name == name {
+            return Some(value);
+        }
+    }
+    None
 }

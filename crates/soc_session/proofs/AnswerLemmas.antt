@@ -8,9 +8,7 @@ use Rattle.soc_http.specs.declared.head.Head.{Head}
 use Rattle.soc_http.specs.declared.reply.Answered.{Answered}
 use Rattle.soc_http.specs.Message.{Message}
 use Rattle.soc_book.specs.declared.desk.Command.{Command}
-use Rattle.soc_book.specs.declared.desk.Command.TheVariants as C
 use Rattle.soc_book.specs.declared.desk.Receipt.{Receipt}
-use Rattle.soc_book.specs.declared.desk.Reply.{Reply}
 use Rattle.soc_book.specs.Kinds.{IsReplyTo}
 use Rattle.soc_session.specs.declared.answers.Handled.{Handled}
 use Rattle.soc_session.specs.declared.rules.Rules.{Rules}

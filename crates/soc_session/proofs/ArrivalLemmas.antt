@@ -1,5 +1,5 @@
 -- A message from its head and its body.
-use Rattle.std.proofs.Common.{◌≡◌, ℕ, ◌<◌, List, [], ◌∷◌, ◌++◌, length, Option, None, Some, Ok, Err, refl, subst, append_assoc, inl, inr, arith}
+use Rattle.std.proofs.Common.{◌≡◌, ℕ, ◌<◌, List, [], ◌∷◌, ◌++◌, length, None, Some, Ok, Err, refl, subst, append_assoc, inl, inr, arith}
 use Rattle.soc_edge.specs.Told.{Told}
 use Rattle.soc_edge.proofs.Told.{Reads-append}
 use Rattle.soc_http.specs.declared.body.BodyError.TheVariants as B

@@ -12,14 +12,13 @@ use Rattle.soc_http.specs.declared.route.Route.{Route}
 use Rattle.soc_http.specs.declared.route.Route.TheVariants as R
 use Rattle.soc_http.specs.declared.route.RouteError.{RouteError}
 use Rattle.soc_http.specs.Message.{Message}
-use Rattle.soc_http.specs.Query.{query_pairs}
+use Rattle.soc_http.specs.Query.{first_value, query_pairs}
 use Rattle.soc_http.specs.Route.{route_of}
 use Rattle.soc_book.specs.declared.desk.Command.TheVariants as C
 use Rattle.soc_session.specs.declared.rules.Rules.{Rules}
 use Rattle.soc_session.specs.declared.tasks.Task.{Task}
 use Rattle.soc_session.specs.declared.tasks.Task.TheVariants.{Say, Ask}
 use Rattle.soc_session.specs.Plan.{Drawn, IsDrawn, IsMalformed, Plan, says, drains, MayDrawFor, Plans, PlansAt, PlansFor, PlansRoute, PlansSubmission, ShowsReport, HoldsSubmission, asker_of, plan_of}
-use Rattle.soc_session.specs.Lines.{first_value}
 use Rattle.soc_session.specs.Replies.{malformed, not_built}
 use Rattle.soc_session.specs.inner.Tasks.{HandsDrawn, IsTask, IsTaskOf, Tasks}
 

@@ -20,13 +20,14 @@ use Rattle.soc_http.specs.declared.route.Route.TheVariants.{Submit, RawCrash, Ra
 use Rattle.soc_http.specs.declared.route.RouteError.{RouteError}
 use Rattle.soc_http.specs.declared.route.RouteError.TheVariants.{NoRoute, WrongVerb, NoMemory}
 use Rattle.soc_http.specs.Message.{Message}
-use Rattle.soc_http.specs.Query.{query_pairs}
+use Rattle.soc_http.specs.Lines.{encoding_of, lines_named}
+use Rattle.soc_http.specs.Query.{first_value, query_pairs}
 use Rattle.soc_http.specs.Request.{values_of}
 use Rattle.soc_http.specs.Route.{route_of}
 use Rattle.soc_book.specs.declared.desk.Command.{Command}
 use Rattle.soc_book.specs.declared.desk.Command.TheVariants as C
 use Rattle.soc_session.specs.declared.rules.Rules.{Rules}
-use Rattle.soc_session.specs.Lines.{caller_by_keys, encoding_of, first_value, lines_named}
+use Rattle.soc_session.specs.Lines.{caller_by_keys}
 use Rattle.soc_session.specs.Replies.{no_route, wrong_method, unknown_token, not_built, not_found, malformed, rejected}
 
 -- what a well-formed submission takes: a moment, then a throttle draw, then an id draw

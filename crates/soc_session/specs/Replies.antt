@@ -1,6 +1,6 @@
 -- What messages are answered: the table of replies, this project's profile. Each reply here goes on with the connection;
 -- `closing` makes it the last one.
-use Rattle.std.specs.Prelude.{ℕ, Bool, false, List, [], ◌∷◌, ◌++◌, codes, decimal, None, Some}
+use Rattle.std.specs.Prelude.{ℕ, Bool, false, List, ◌++◌, codes, decimal, None, Some}
 use Rattle.soc_schema.specs.Permits.{permission_name}
 use Rattle.soc_schema.specs.RowJson.{row_json}
 use Rattle.soc_multipart.specs.declared.reasons.Reason.{Reason}

@@ -6,18 +6,20 @@ ghost use Rattle.soc_multipart.specs.declared.form_error.FormError.TheVariants.{
 ghost use Rattle.soc_multipart.specs.declared.reasons.Reason.{Reason as Why};
 ghost use Rattle.soc_multipart.specs.Fits.{FitsCrash};
 ghost use Rattle.soc_multipart.specs.SubmissionViews.{submission_text};
-ghost use Rattle.soc_http.specs.Query.{query_pairs};
-ghost use Rattle.soc_session.specs.Lines.{first_value};
+ghost use Rattle.soc_http.specs.Query.{first_value, query_pairs};
 ghost use Rattle.soc_session.specs.Plan.{IsDrawn, IsMalformed, Plans, PlansRoute, PlansSubmission, ShowsReport, HoldsSubmission, crash_with, keeps, plan_by, plan_of};
 ghost use Rattle.soc_session.specs.Replies.{malformed, plain, wrong_method};
 ghost use Rattle.soc_session.specs.inner.Tasks.{HandsDrawn, IsTask, IsTaskOf, Tasks, drawn_of};
 
-use crate::lines::{asker, encoding_in, first_value, kinds_in};
+use crate::lines::asker;
 use crate::replies::Room;
 use crate::rules::Rules;
 use soc_book::Command;
 use soc_edge::{Clock, Draws};
-use soc_http::{Answered, Head, Route, RouteError, Routes, Verb, pairs_of};
+use soc_http::{
+    Answered, Head, Route, RouteError, Routes, Verb, encoding_of, first_value, lines_named,
+    pairs_of,
+};
 use soc_multipart::{FormError, Reason, Submission, read_submission};
 use soc_raw::{CrashId, Digit, NoMemory, RawCrash, Text};
 use soc_schema::Caller;
@@ -161,8 +163,8 @@ fn submission_in(alloc: Global, head: &Head, body: &[u8]) -> Result<Submission, 
     ensures fits { IfOk result (λ said. FitsCrash (submission_text said)) }
     ensures refused { IfErr result (λ error. (reason : Why) → error ≡ Malformed reason → IsMalformed (record { head = head.now; body = body.now }) reason) }
 {
-    let kinds = kinds_in(alloc, &head.lines)?;
-    let said = read_submission(alloc, encoding_in(&head.lines), &kinds, body)?;
+    let kinds = lines_named(alloc, &head.lines, "content-type")?;
+    let said = read_submission(alloc, encoding_of(&head.lines), &kinds, body)?;
     Ok(said)
 }
 

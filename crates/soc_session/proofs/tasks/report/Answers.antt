@@ -1,6 +1,5 @@
 use Rattle.std.proofs.Common.{◌∙◌, ap, codes}
-use Rattle.soc_http.specs.Query.{query_pairs}
-use Rattle.soc_session.specs.Lines.{first_value}
+use Rattle.soc_http.specs.Query.{first_value, query_pairs}
 use Rattle.soc_session.proofs.ReportLemmas.{report-missing, report-bad, report-shown}
 use Rattle.soc_session.proofs.tasks.report.Goals as goal
 
