@@ -1,5 +1,5 @@
 -- What tasks are of which plans.
-use Rattle.std.proofs.Common.{◌≡◌, ℕ, List, [], ◌∷◌, Option, Some, Result, Ok, Err, refl, sym, subst, codes}
+use Rattle.std.proofs.Common.{◌≡◌, ℕ, List, [], ◌∷◌, Option, None, Some, Result, Ok, Err, true, false, is_some, refl, sym, ap, subst, ◌∙◌, codes, true≢false}
 use Rattle.std.specs.Prelude.{IfOk}
 use Rattle.soc_raw.specs.declared.no_memory.NoMemory.{NoMemory}
 use Rattle.soc_edge.specs.Ahead.{Outlook}
@@ -19,8 +19,8 @@ use Rattle.soc_session.specs.declared.rules.Rules.{Rules}
 use Rattle.soc_session.specs.declared.tasks.Task.{Task}
 use Rattle.soc_session.specs.declared.tasks.Task.TheVariants.{Say, Ask}
 use Rattle.soc_session.specs.Plan.{Drawn, IsDrawn, IsMalformed, Plan, says, drains, MayDrawFor, Plans, PlansAt, PlansFor, PlansRoute, PlansSubmission, ShowsReport, HoldsSubmission, asker_of, plan_of}
-use Rattle.soc_session.specs.Replies.{malformed, not_built}
-use Rattle.soc_session.specs.inner.Tasks.{HandsDrawn, IsTask, IsTaskOf, Tasks}
+use Rattle.soc_session.specs.Replies.{malformed, not_built, unknown_token}
+use Rattle.soc_session.specs.inner.Tasks.{HandsDrawn, IsTask, IsTaskOf, PlansSubmit, Tasks}
 
 -- nothing was drawn
 pub Tasks-undrawn : (P : List Drawn → Plan → Type 0) (x : Outlook) (result : Result Task NoMemory) → IfOk result (IsTaskOf (P [])) → Tasks P x x result
@@ -82,26 +82,48 @@ pub Plans-for : (rules : Rules) (message : Message) (drawn : List Drawn) (plan :
 Plans-for rules message drawn plan route asker is who plans =
     Plans-at rules message drawn plan (Ok route) is (subst (PlansFor rules message drawn plan route) who plans)
 
-pub Tasks-route : (rules : Rules) (message : Message) (route : Route) (caller : Caller) (x y : Outlook) (result : Result Task NoMemory)
+pub Tasks-route : (rules : Rules) (message : Message) (route : Route) (caller : Caller) (x : Outlook) (result : Result Task NoMemory)
     → route_of message.head.verb message.head.path ≡ Ok route → Some caller ≡ asker_of rules message.head
-    → Tasks (λ drawn plan. PlansRoute rules message drawn plan route caller) x y result → Tasks (Plans rules message) x y result
-Tasks-route rules message route caller x y result is who tasks =
-    Tasks-map (λ drawn plan. PlansRoute rules message drawn plan route caller) (Plans rules message) x y result
-    (λ drawn plan p. Plans-for rules message drawn plan route (Some caller) is who p) tasks
+    → IfOk result (IsTaskOf (λ plan. PlansRoute rules message [] plan route caller)) → Tasks (Plans rules message) x x result
+Tasks-route rules message route caller x result is who task =
+    Tasks-undrawn (Plans rules message) x result
+    (IsTaskOf-map (λ plan. PlansRoute rules message [] plan route caller) (Plans rules message []) result
+    (λ plan p. Plans-for rules message [] plan route (Some caller) is who p) task)
+
+-- a submission's plans are the message's
+pub Tasks-submit : (rules : Rules) (message : Message) (route : Route) (x y : Outlook) (result : Result Task NoMemory)
+    → route_of message.head.verb message.head.path ≡ Ok route → route ≡ R.Submit → Tasks (PlansSubmit rules message) x y result → Tasks (Plans rules message) x y result
+Tasks-submit rules message route x y result is at tasks =
+    Tasks-map (PlansSubmit rules message) (Plans rules message) x y result
+    (λ drawn plan p. Plans-for rules message drawn plan R.Submit (asker_of rules message.head) (is ∙ ap Ok at) refl p) tasks
+
+pub Tasks-unknown : (rules : Rules) (message : Message) (x : Outlook) (result : Result Task NoMemory) → false ≡ is_some (asker_of rules message.head)
+    → IfOk result (λ task. task ≡ Say unknown_token) → Tasks (PlansSubmit rules message) x x result
+Tasks-unknown rules message x result unknown said = at (asker_of rules message.head) unknown
+  where
+    at : (asker : Option Caller) → false ≡ is_some asker → Tasks (λ drawn plan. PlansFor rules message drawn plan R.Submit asker) x x result
+    at None h = Tasks-said (λ drawn plan. PlansFor rules message drawn plan R.Submit None) x result unknown_token said (refl, refl)
+    at (Some caller) h = absurd (true≢false (sym h))
+
+pub Tasks-known : (rules : Rules) (message : Message) (x y : Outlook) (result : Result Task NoMemory) → true ≡ is_some (asker_of rules message.head)
+    → Tasks (PlansSubmission rules message) x y result → Tasks (PlansSubmit rules message) x y result
+Tasks-known rules message x y result known tasks = at (asker_of rules message.head) known
+  where
+    at : (asker : Option Caller) → true ≡ is_some asker → Tasks (λ drawn plan. PlansFor rules message drawn plan R.Submit asker) x y result
+    at None h = absurd (true≢false h)
+    at (Some caller) h = tasks
 
 -- the report's plans are those of its route
-pub Tasks-report : (rules : Rules) (message : Message) (route : Route) (caller : Caller) (found : Option (List ℕ)) (x : Outlook) (result : Result Task NoMemory)
+pub report-at : (rules : Rules) (message : Message) (route : Route) (caller : Caller) (found : Option (List ℕ)) (result : Result Task NoMemory)
     → found ≡ first_value (codes "crash_id") (query_pairs message.head.query) → route ≡ R.ProcessedCrash → IfOk result (IsTaskOf (ShowsReport caller found))
-    → Tasks (λ drawn plan. PlansRoute rules message drawn plan route caller) x x result
-Tasks-report rules message route caller found x result is at tasks =
-    Tasks-undrawn (λ drawn plan. PlansRoute rules message drawn plan route caller) x result
-    (IsTaskOf-map (ShowsReport caller found) (λ plan. PlansRoute rules message [] plan route caller) result
-    (λ plan p. subst (λ r. PlansRoute rules message [] plan r caller) (sym at) (refl, subst (λ f. ShowsReport caller f plan) is p)) tasks)
+    → IfOk result (IsTaskOf (λ plan. PlansRoute rules message [] plan route caller))
+report-at rules message route caller found result is at =
+    IsTaskOf-map (ShowsReport caller found) (λ plan. PlansRoute rules message [] plan route caller) result
+    (λ plan p. subst (λ r. PlansRoute rules message [] plan r caller) (sym at) (refl, subst (λ f. ShowsReport caller f plan) is p))
 
-pub Tasks-drain : (rules : Rules) (message : Message) (route : Route) (caller : Caller) (x : Outlook) → route ≡ R.Drain
-    → Tasks (λ drawn plan. PlansRoute rules message drawn plan route caller) x x (Ok (Ask (C.Drain caller)))
-Tasks-drain rules message route caller x at =
-    Tasks-undrawn (λ drawn plan. PlansRoute rules message drawn plan route caller) x (Ok (Ask (C.Drain caller)))
+pub drain-at : (rules : Rules) (message : Message) (route : Route) (caller : Caller) → route ≡ R.Drain
+    → IsTaskOf (λ plan. PlansRoute rules message [] plan route caller) (Ask (C.Drain caller))
+drain-at rules message route caller at =
     (drains caller, subst (λ r. PlansRoute rules message [] (drains caller) r caller) (sym at) (refl, refl), refl)
 
 not_built-at : (rules : Rules) (message : Message) (route : Route) (caller : Caller) → (route ≡ R.Submit → ⊥) → (route ≡ R.ProcessedCrash → ⊥) → (route ≡ R.Drain → ⊥)
@@ -120,7 +142,7 @@ not_built-at rules message R.Stop caller a b c = (refl, refl)
 not_built-at rules message (R.Report id) caller a b c = (refl, refl)
 not_built-at rules message R.Search caller a b c = (refl, refl)
 
-pub Tasks-not_built : (rules : Rules) (message : Message) (route : Route) (caller : Caller) (x : Outlook) (result : Result Task NoMemory) → (route ≡ R.Submit → ⊥) → (route ≡ R.ProcessedCrash → ⊥)
-    → (route ≡ R.Drain → ⊥) → IfOk result (λ task. task ≡ Say not_built) → Tasks (λ drawn plan. PlansRoute rules message drawn plan route caller) x x result
-Tasks-not_built rules message route caller x result a b c said =
-    Tasks-said (λ drawn plan. PlansRoute rules message drawn plan route caller) x result not_built said (not_built-at rules message route caller a b c)
+pub not_built-task : (rules : Rules) (message : Message) (route : Route) (caller : Caller) (result : Result Task NoMemory) → (route ≡ R.Submit → ⊥) → (route ≡ R.ProcessedCrash → ⊥)
+    → (route ≡ R.Drain → ⊥) → IfOk result (λ task. task ≡ Say not_built) → IfOk result (IsTaskOf (λ plan. PlansRoute rules message [] plan route caller))
+not_built-task rules message route caller (Ok task) a b c said = (says not_built, not_built-at rules message route caller a b c, say-is not_built task said)
+not_built-task rules message route caller (Err error) a b c said = tt

@@ -7,11 +7,11 @@ ghost use Rattle.soc_multipart.specs.declared.reasons.Reason.{Reason as Why};
 ghost use Rattle.soc_multipart.specs.Fits.{FitsCrash};
 ghost use Rattle.soc_multipart.specs.SubmissionViews.{submission_text};
 ghost use Rattle.soc_http.specs.Query.{first_value, query_pairs};
-ghost use Rattle.soc_session.specs.Plan.{IsDrawn, IsMalformed, Plans, PlansRoute, PlansSubmission, ShowsReport, HoldsSubmission, crash_with, keeps, plan_by, plan_of};
+ghost use Rattle.soc_session.specs.Plan.{IsDrawn, IsMalformed, Plans, PlansSubmission, ShowsReport, HoldsSubmission, crash_with, keeps, plan_by, plan_of};
 ghost use Rattle.soc_session.specs.Replies.{malformed, plain, wrong_method};
-ghost use Rattle.soc_session.specs.inner.Tasks.{HandsDrawn, IsTask, IsTaskOf, Tasks, drawn_of};
+ghost use Rattle.soc_session.specs.inner.Tasks.{HandsDrawn, IsTask, IsTaskOf, PlansSubmit, Tasks, TasksAt, drawn_of};
 
-use crate::lines::asker;
+use crate::lines::{asker, is_known};
 use crate::replies::Room;
 use crate::rules::Rules;
 use soc_book::Command;
@@ -84,31 +84,40 @@ pub(crate) fn task_of<C: Clock, W: Draws>(
         Err(RouteError::WrongVerb { allow }) => return say_wrong_method(alloc, allow),
         Err(RouteError::NoMemory) => return Err(NoMemory),
     };
+    if let Route::Submit = route {
+        return submit(alloc, rules, head, body, clock, draws);
+    }
     let Some(caller) = asker(alloc, rules, &head.lines)? else {
         return say(alloc, 403, "unknown token");
     };
-    at_route(alloc, rules, route, caller, head, body, clock, draws)
+    at_route(alloc, route, caller, head)
 }
 
-/// What a message of a known caller comes to at its route.
-fn at_route<C: Clock, W: Draws>(
+/// What a submission comes to. Only whether its key is known matters, and not whose it is.
+fn submit<C: Clock, W: Draws>(
     alloc: Global,
     rules: &Rules,
-    route: Route,
-    caller: Caller,
     head: &Head,
     body: &[u8],
     clock: &mut C,
     draws: &mut W,
 ) -> Result<Task, NoMemory>
     requires { length body.now ≤ 16777216 }
-    ensures { Tasks (λ drawn plan. PlansRoute rules.now (record { head = head.now; body = body.now }) drawn plan route caller)
+    ensures { Tasks (PlansSubmit rules.now (record { head = head.now; body = body.now }))
         (outlook (C.told clock.old) (W.told draws.old))
         (outlook (C.told clock.new) (W.told draws.new)) result }
 {
-    if let Route::Submit = route {
-        return submission(alloc, rules, head, body, clock, draws);
+    if !is_known(rules, &head.lines) {
+        return say(alloc, 403, "unknown token");
     }
+    submission(alloc, rules, head, body, clock, draws)
+}
+
+/// What a message of a known caller comes to at its route, where it is no submission.
+fn at_route(alloc: Global, route: Route, caller: Caller, head: &Head) -> Result<Task, NoMemory>
+    requires { ¬ (route ≡ Route.Submit) }
+    ensures { TasksAt head.now route caller result }
+{
     if let Route::ProcessedCrash = route {
         return report(alloc, head, caller);
     }
@@ -132,7 +141,7 @@ fn report(alloc: Global, head: &Head, caller: Caller) -> Result<Task, NoMemory>
     Ok(Task::Ask(Command::Processed { caller, id }))
 }
 
-/// What a submission comes to.
+/// What a submission of a known caller comes to.
 fn submission<C: Clock, W: Draws>(
     alloc: Global,
     rules: &Rules,

@@ -1,9 +1,12 @@
 -- The tasks of the code beside the plans that they carry out.
-use Rattle.std.specs.Prelude.{◌≡◌, ℕ, List, map, Option, None, Some, Result, MatchResult, ⊤}
+use Rattle.std.specs.Prelude.{◌≡◌, ℕ, List, [], map, IfOk, Option, None, Some, Result, MatchResult, ⊤}
 use Rattle.soc_raw.specs.declared.no_memory.NoMemory.{NoMemory}
 use Rattle.soc_edge.specs.Ahead.{Outlook, Hands}
 use Rattle.soc_http.specs.declared.head.Head.{Head}
 use Rattle.soc_http.specs.declared.reply.Answered.{Answered}
+use Rattle.soc_http.specs.declared.route.Route.{Route}
+use Rattle.soc_http.specs.declared.route.Route.TheVariants.{Submit}
+use Rattle.soc_schema.specs.declared.caller.Caller.{Caller}
 use Rattle.soc_book.specs.declared.desk.Command.{Command}
 use Rattle.soc_book.specs.declared.desk.Receipt.{Receipt}
 use Rattle.soc_book.specs.Kinds.{IsReplyTo}
@@ -14,7 +17,7 @@ use Rattle.soc_session.specs.declared.answers.Handled.{Handled}
 use Rattle.soc_session.specs.declared.rules.Rules.{Rules}
 use Rattle.soc_http.specs.Message.{Message}
 use Rattle.soc_session.specs.Desk.{Asking, Exchange, IsExchange, StepsDesk, says_stopped}
-use Rattle.soc_session.specs.Plan.{Drawn, Plan, says, keeps, shows, drains, IsAsked, MayDrawFor}
+use Rattle.soc_session.specs.Plan.{Drawn, Plan, says, keeps, shows, drains, IsAsked, MayDrawFor, PlansFor, PlansRoute, asker_of}
 use Rattle.soc_session.specs.Replies.{desk_reply, no_memory}
 use Rattle.soc_session.specs.Rows.{IsRow}
 
@@ -47,6 +50,14 @@ pub record Tasks (P : List Drawn → Plan → Type 0) (before after : Outlook) (
   pub drawn : List Drawn
   pub hands : HandsDrawn before after drawn
   pub task : MatchResult result (IsTaskOf (P drawn)) (λ _. MayDrawFor P drawn)
+
+-- what a submission comes to, by whether its key is known
+abbrev pub PlansSubmit : Rules → Message → List Drawn → Plan → Type 0
+PlansSubmit rules message drawn plan = PlansFor rules message drawn plan Submit (asker_of rules message.head)
+
+-- what a message with this head comes to at a route that draws nothing, whatever its body and the rules
+abbrev pub TasksAt : Head → Route → Caller → Result Task NoMemory → Type 0
+TasksAt head route caller result = (rules : Rules) (body : List ℕ) → IfOk result (IsTaskOf (λ plan. PlansRoute rules (message_of head body) [] plan route caller))
 
 -- ---- the desk
 
