@@ -23,7 +23,7 @@ use Rattle.soc_schema.specs.declared.caller.Caller.{Caller}
 use Rattle.soc_book.specs.View.{view_of}
 use Rattle.soc_book.specs.Basis.{Basis}
 use Rattle.soc_book.specs.Log.{Change, keep, done, stop, accept, ask, withdraw, report, Accepted, is_accept_of, was_accepted, was_withdrawn, is_of_run, raw_of, due_since, due_since_back, row_in, row_back, due_of, is_due_at_once, IsLegal, IsLegalBack, IsLegalNext, accept_count, accepted_in, crashes_of, has_stop, is_ask, rows_of}
-use Rattle.soc_book.specs.Memory.{log_of, change_of, place_of, has_row, IsMemoryDesk}
+use Rattle.soc_book.specs.inner.Entries.{log_of, change_of, place_of, has_row, IsMemoryDesk}
 use Rattle.soc_book.proofs.LogLemmas.{reverse-more, row_in-more, due_of-accept, due_of-first_done, first_is_due}
 use Rattle.soc_book.proofs.PlaceLemmas.{none-some, or_left, or_right, list_any-reverse, find-none, position_from-new, none-position_from, position_from-other, position_from-at, FoundAt}
 use Rattle.soc_book.proofs.ViewLemmas.{value_of-with_value, turned_eq, has_id, IsApart, seen_at, view_finds}

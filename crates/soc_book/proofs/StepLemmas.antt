@@ -19,7 +19,8 @@ use Rattle.soc_book.specs.Basis.{Basis}
 use Rattle.soc_book.specs.Desk.{processed_reply, after_turns}
 use Rattle.soc_book.specs.Log.{Change, done, is_accept_of, was_accepted, was_withdrawn, accepted_in, raw_of, row_in, due_of, IsLegal}
 use Rattle.soc_book.specs.Laws.{IsDrained}
-use Rattle.soc_book.specs.Memory.{MemoryDesk, TurnsFirst, desk_basis}
+use Rattle.soc_book.specs.Memory.{MemoryDesk, desk_basis}
+use Rattle.soc_book.specs.inner.Entries.{TurnsFirst}
 use Rattle.soc_book.specs.View.{view_of, seen_of}
 use Rattle.soc_book.proofs.LogLemmas.{due_of-first_done, row_in-more}
 use Rattle.soc_book.proofs.MemoryLemmas.{view_has}

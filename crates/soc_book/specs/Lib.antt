@@ -1,5 +1,6 @@
 pub mod Basis
 pub mod Desk
+pub mod inner
 pub mod Kinds
 pub mod Laws
 pub mod Log

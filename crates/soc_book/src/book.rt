@@ -6,7 +6,8 @@ ghost use Rattle.soc_schema.specs.declared.caller.Caller.{Caller};
 ghost use Rattle.soc_book.specs.Desk.{DrainsBy, StepProcessed, accepting, settled};
 ghost use Rattle.soc_book.specs.Kinds.{IsReplyTo};
 ghost use Rattle.soc_book.specs.Log.{IsLegal, keep, accept_count, due_of, has_stop, is_ask, is_due_at_once, raw_of, rows_of, was_accepted, was_withdrawn};
-ghost use Rattle.soc_book.specs.Memory.{IsFound, StepsInMemory, TurnsFirst, desk_basis, has_row, log_of, place_of};
+ghost use Rattle.soc_book.specs.Memory.{StepsInMemory, desk_basis};
+ghost use Rattle.soc_book.specs.inner.Entries.{IsFound, TurnsFirst, has_row, log_of, place_of};
 
 use crate::desk::{Command, Desk, Limits, Receipt, Refusal, Reply};
 use crate::entry::Entry;
@@ -33,7 +34,8 @@ pub struct Book<'a, R: Reporter> {
 }
 
 impl<'a, R: Reporter> Model for Book<'a, R> {
-    ghost use Rattle.soc_book.specs.Memory.{MemoryDesk, basis_of, log_of, IsMemoryDesk};
+    ghost use Rattle.soc_book.specs.Memory.{MemoryDesk, basis_of};
+    ghost use Rattle.soc_book.specs.inner.Entries.{IsMemoryDesk, log_of};
 
     ghost Value = { MemoryDesk R };
 

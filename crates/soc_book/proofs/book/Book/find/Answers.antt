@@ -2,7 +2,8 @@ use Rattle.std.proofs.Common.{◌∙◌, ap, sym, subst}
 use Rattle.std.specs.Option.{option_map}
 use Rattle.soc_raw.specs.RawCrash.{crash_of}
 use Rattle.soc_book.specs.Log.{was_accepted, was_withdrawn, raw_of, IsLegal}
-use Rattle.soc_book.specs.Memory.{IsFound, log_of, desk_basis}
+use Rattle.soc_book.specs.Memory.{desk_basis}
+use Rattle.soc_book.specs.inner.Entries.{IsFound, log_of}
 use Rattle.soc_book.proofs.MemoryLemmas.{not_indexed, indexed, no_withdrawal}
 use Rattle.soc_book.proofs.book.Book.find.Goals as goal
 

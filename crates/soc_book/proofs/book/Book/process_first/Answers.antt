@@ -2,7 +2,8 @@ use Rattle.std.proofs.Common.{◌∙◌, ◌++◌, ◌∷◌, [], ap, sym, rules
 use Rattle.soc_raw.specs.RawCrash.{crash_of}
 use Rattle.soc_book.specs.declared.entry.Entry.TheVariants.{Done}
 use Rattle.soc_book.specs.Log.{raw_of, was_accepted}
-use Rattle.soc_book.specs.Memory.{basis_of, log_of}
+use Rattle.soc_book.specs.Memory.{basis_of}
+use Rattle.soc_book.specs.inner.Entries.{log_of}
 use Rattle.soc_book.proofs.MemoryLemmas.{done_keeps, desk_along, due_is_accepted, first_and_rest}
 use Rattle.soc_book.proofs.book.Book.process_first.Goals as goal
 

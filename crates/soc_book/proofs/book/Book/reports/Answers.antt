@@ -1,7 +1,8 @@
 use Rattle.std.proofs.Common.{◌∙◌, ap, length}
 use Rattle.std.specs.List.{count_by}
 use Rattle.soc_book.specs.Log.{rows_of}
-use Rattle.soc_book.specs.Memory.{basis_of, desk_basis, has_row}
+use Rattle.soc_book.specs.Memory.{basis_of, desk_basis}
+use Rattle.soc_book.specs.inner.Entries.{has_row}
 use Rattle.soc_book.proofs.MemoryLemmas.{reports_counted}
 use Rattle.soc_book.proofs.book.Book.reports.Goals as goal
 
