@@ -1,9 +1,10 @@
 //! An entry as it is written.
 ghost use Rattle.std.specs.Prelude.{◌≡◌, ◌≤◌, length, IsTrue, IfOk};
-ghost use Rattle.soc_journal.specs.Entries.{IsEntryOf, has_kind, second_version, max_body, sealed};
+ghost use Rattle.soc_raw.specs.RawCrash.{record_text};
+ghost use Rattle.soc_journal.specs.Entries.{IsEntryOf, accept_kind, has_kind, second_version, max_body, sealed};
 
-use crate::format::{CLOSED_GATE, ENTRY_HEAD, OPEN_GATE};
-use soc_raw::NoMemory;
+use crate::format::{ACCEPT, CLOSED_GATE, ENTRY_HEAD, OPEN_GATE};
+use soc_raw::{NoMemory, RawCrash};
 use std::alloc::Global;
 use std::marker::Model;
 
@@ -37,6 +38,21 @@ impl EntryText {
         text.push(kind)?;
         text.extend_from_slice(&(body.len() as u32).to_le_bytes())?;
         text.extend_from_slice(body)?;
+        text.push(CLOSED_GATE)?;
+        Ok(EntryText { text })
+    }
+
+    /// The entry of an accepted crash. Its record is written into the entry's own text, and stands nowhere else.
+    pub fn of_crash(alloc: Global, raw: &RawCrash) -> Result<EntryText, NoMemory>
+        ensures { IfOk result (λ entry. entry ≡ record { kind = accept_kind; body = record_text raw.now }) }
+    {
+        raw.is_crash();
+        let length = raw.record_len();
+        let mut text = Vec::with_capacity(alloc, ENTRY_HEAD + length + 1)?;
+        text.push(OPEN_GATE)?;
+        text.push(ACCEPT)?;
+        text.extend_from_slice(&(length as u32).to_le_bytes())?;
+        raw.encode_into(&mut text)?;
         text.push(CLOSED_GATE)?;
         Ok(EntryText { text })
     }

@@ -10,6 +10,7 @@ use crate::{
     WITHDRAW,
 };
 use soc_edge::{Disk, Failed, MemDisk, Numbers};
+use soc_raw::RawCrash;
 use std::alloc::{AllocError, Global};
 use std::test::Fail;
 
@@ -40,6 +41,20 @@ fn entries_on<D: Disk>(disk: &mut D) -> Result<usize, OpenError> {
         }
     }
     Ok(9)
+}
+
+/// The record of a crash without annotations and dumps, accepted at the start of 18 September 2016.
+const RECORD: &[u8] =
+    b"de1bb258-cbbf-4589-a673-34f800160918\x00\xd9\xddW\x00\x00\x00\x00\x00\x00\x00\x00\x00\x00\x00\x00\x0a\x00\x00\x00accept_all\x00\x00\x00\x00\x00\x00\x00\x00";
+
+#[test]
+fn a_crash_is_written_into_its_entry(rt: HostRuntime) -> Result<(), Fail> {
+    let alloc = rt.alloc();
+    let raw = RawCrash::decode(alloc, RECORD)?;
+    let entry = EntryText::of_crash(alloc, &raw)?;
+    let other = EntryText::new(alloc, ACCEPT, RECORD)?;
+    assert_eq!(rt; entry.as_slice(), other.as_slice());
+    Ok(())
 }
 
 #[test]

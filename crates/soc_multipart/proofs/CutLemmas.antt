@@ -13,7 +13,8 @@ use Rattle.soc_multipart.specs.Delimiters.{IsBoundary, mark_of, EndsOpening, End
 use Rattle.soc_text.specs.Lines.{crlf}
 use Rattle.soc_text.specs.Blanks.{is_blank}
 use Rattle.soc_multipart.specs.Parts.{parts_limit, PartText, IsPart, MayBePart, ReadsPart, HoldsParts, Cut, OpensAfter, BeginsBadPart, PartFault, CutFault, IsOneFault}
-use Rattle.soc_multipart.specs.PartViews.{part_text, part_texts, MeetsPart}
+use Rattle.soc_multipart.specs.PartViews.{part_text, part_texts}
+use Rattle.soc_multipart.specs.inner.Meeting.{MeetsPart}
 use Rattle.soc_multipart.proofs.Basics.{Stops, stops_cons, run_once}
 use Rattle.soc_multipart.proofs.ChainLemmas.{chain_once, chain_goes_on, chain_grow}
 use Rattle.soc_multipart.proofs.DelimiterLemmas.{at_from_is}

@@ -7,7 +7,7 @@ use Rattle.soc_multipart.specs.declared.heads.Named.{Named}
 use Rattle.soc_multipart.specs.declared.heads.Named.TheVariants.{Never, Once, Often}
 use Rattle.soc_multipart.specs.Params.{ParamText, ReadsParam, AreParams, value_of}
 use Rattle.soc_multipart.specs.Heads.{LineText, IsDisposition, IsHead, IsKind, MayBeHead, MayDispose, values_of}
-use Rattle.soc_multipart.specs.Views.{HasValues}
+use Rattle.soc_multipart.specs.inner.Views.{HasValues}
 use Rattle.soc_multipart.proofs.ChainLemmas.{chain_once}
 use Rattle.soc_multipart.proofs.ParamLemmas.{param_once, no_param_at_end}
 

@@ -3,7 +3,7 @@ use Rattle.std.proofs.Common.{◌≡◌, ℕ, ◌+◌, ◌<◌, List, [], ◌∷
 use Rattle.std.proofs.lemmas.List.{at_drop_more, map_push}
 use Rattle.soc_multipart.specs.declared.params.Param.{Param}
 use Rattle.soc_multipart.specs.Params.{lower, value_of}
-use Rattle.soc_multipart.specs.Views.{param_text, param_texts}
+use Rattle.soc_multipart.specs.inner.Views.{param_text, param_texts}
 use Rattle.soc_multipart.proofs.ParamLemmas.{value_named, value_other}
 
 step : (name : List ℕ) (ps : List Param) (i : ℕ) (x : Param) → i < length ps → x ≡ get_or ps i x

@@ -16,7 +16,7 @@ use Rattle.soc_multipart.specs.Params.{lower}
 use Rattle.soc_text.specs.Tokens.{is_token_byte, IsToken}
 use Rattle.soc_multipart.specs.Heads.{head_limit, LineText, is_line_byte, ReadsLine, values_of, EndsInContent, IsHeadEnd}
 use Rattle.soc_text.specs.Blanks.{trimmed}
-use Rattle.soc_multipart.specs.Views.{line_text, line_texts, HasValues, EndsSo}
+use Rattle.soc_multipart.specs.inner.Views.{line_text, line_texts, HasValues, EndsSo}
 use Rattle.soc_multipart.proofs.Basics.{Stops, stops_cons, parts_once}
 use Rattle.soc_multipart.proofs.ChainLemmas.{chain_once, chain_end}
 

@@ -4,7 +4,7 @@ use Rattle.std.proofs.lemmas.List.{append_cancel_left, take-append-drop, drop_at
 use Rattle.memchr.specs.Find.{OccursAt, FindsNeedle, IsFirst}
 use Rattle.std.proofs.Common.{Bor}
 use Rattle.soc_multipart.specs.declared.heads.Line.{Line}
-use Rattle.soc_multipart.specs.Views.{line_texts}
+use Rattle.soc_multipart.specs.inner.Views.{line_texts}
 use Rattle.soc_multipart.specs.declared.heads.HeadEnd.{HeadEnd}
 use Rattle.soc_multipart.specs.declared.heads.HeadEnd.TheVariants.{Content, Open}
 use Rattle.soc_multipart.specs.Chains.{Chain, HasNoStep}

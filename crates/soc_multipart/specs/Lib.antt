@@ -1,16 +1,15 @@
 pub mod Chains
 pub mod Delimiters
 pub mod Extras
-pub mod FieldViews
 pub mod Fields
 pub mod Fits
 pub mod FormErrors
 pub mod FormLines
 pub mod Heads
+pub mod inner
 pub mod Params
 pub mod PartViews
 pub mod Parts
 pub mod Reasons
 pub mod SubmissionViews
 pub mod Submissions
-pub mod Views

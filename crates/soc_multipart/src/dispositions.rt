@@ -4,7 +4,7 @@ ghost use Rattle.std.specs.Option.{option_map};
 ghost use Rattle.std.specs.Str.Lossy.{utf8_lossy};
 ghost use Rattle.soc_multipart.specs.Heads.{IsDisposition, IsHead, IsKind, MayBeHead, values_of};
 ghost use Rattle.soc_multipart.specs.Params.{value_of};
-ghost use Rattle.soc_multipart.specs.Views.{line_texts, param_texts};
+ghost use Rattle.soc_multipart.specs.inner.Views.{line_texts, param_texts};
 
 use crate::heads::{Line, Named, values_named};
 use crate::params::{Param, find_param, params};

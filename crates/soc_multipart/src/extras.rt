@@ -5,7 +5,7 @@ ghost use Rattle.serde_json.specs.Find.{as_object};
 ghost use Rattle.serde_json.specs.View.{items_view, members_view, view};
 ghost use Rattle.serde_json.specs.Written.{has_float, items_have_float, members_have_float};
 ghost use Rattle.soc_multipart.specs.Extras.{IsExtra, text_of, with_members};
-ghost use Rattle.soc_multipart.specs.FieldViews.{fields_text};
+ghost use Rattle.soc_multipart.specs.inner.FieldViews.{fields_text};
 
 use crate::fields::{Fields, put};
 use serde_json::{Map, Value};

@@ -1,7 +1,7 @@
 //! What the parts of a form add up to: annotations and dumps.
 ghost use Rattle.std.specs.Prelude.{◌≡◌, IfOk};
 ghost use Rattle.soc_multipart.specs.Fields.{dump_step, dumps_of, is_dump, is_extra, is_plain, no_fields, plain_fields, plain_step, put};
-ghost use Rattle.soc_multipart.specs.FieldViews.{fields_text};
+ghost use Rattle.soc_multipart.specs.inner.FieldViews.{fields_text};
 ghost use Rattle.soc_multipart.specs.PartViews.{part_text, part_texts};
 
 use crate::dispositions::lossy_text;

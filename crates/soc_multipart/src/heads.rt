@@ -6,7 +6,7 @@ ghost use Rattle.soc_multipart.specs.Delimiters.{PartsRun};
 ghost use Rattle.soc_text.specs.Blanks.{is_blank};
 ghost use Rattle.soc_multipart.specs.Heads.{IsHeadEnd, LineText, ReadsLine, head_limit, is_line_byte, values_of};
 ghost use Rattle.soc_text.specs.Blanks.{trimmed};
-ghost use Rattle.soc_multipart.specs.Views.{EndsSo, HasValues, line_text, line_texts};
+ghost use Rattle.soc_multipart.specs.inner.Views.{EndsSo, HasValues, line_text, line_texts};
 
 use crate::params::split_token;
 use soc_raw::NoMemory;

@@ -5,7 +5,7 @@ ghost use Rattle.soc_multipart.specs.Delimiters.{PartsRun};
 ghost use Rattle.soc_text.specs.Blanks.{is_blank};
 ghost use Rattle.soc_multipart.specs.Params.{AreParams, EndsQuoted, EndsToken, ParamText, ReadsName, ReadsParam, ReadsValue, SkipsGap, SpellsByte, value_of};
 ghost use Rattle.soc_text.specs.Tokens.{is_token_byte as passes_token};
-ghost use Rattle.soc_multipart.specs.Views.{param_text, param_texts};
+ghost use Rattle.soc_multipart.specs.inner.Views.{param_text, param_texts};
 
 use crate::delimiters::split_blanks;
 use soc_raw::NoMemory;

@@ -4,7 +4,8 @@ ghost use Rattle.soc_multipart.specs.declared.parts.PartsError.TheVariants.{NoMe
 ghost use Rattle.soc_multipart.specs.Delimiters.{mark_of};
 ghost use Rattle.soc_multipart.specs.Heads.{IsHeadEnd, LineText};
 ghost use Rattle.soc_multipart.specs.Parts.{Cut, CutFault, HasNoLineEnd, HoldsHead, IsOneCut, IsOneFault, IsPart, MayBePart, PartFault, PartText, parts_limit};
-ghost use Rattle.soc_multipart.specs.PartViews.{MeetsPart, part_text, part_texts};
+ghost use Rattle.soc_multipart.specs.PartViews.{part_text, part_texts};
+ghost use Rattle.soc_multipart.specs.inner.Meeting.{MeetsPart};
 
 use crate::delimiters::{Ending, Found, first_delimiter, is_boundary, next_delimiter};
 use crate::dispositions::{Head, head_of, may_be_head};

@@ -3,7 +3,7 @@ ghost use Rattle.std.specs.Prelude.{◌≡◌, ◌≢◌, ◌≤◌, ◌⊎◌, 
 ghost use Rattle.std.specs.Option.{option_copied};
 ghost use Rattle.soc_multipart.specs.declared.parts.PartsError.TheVariants.{NoMemory as WantsMemory};
 ghost use Rattle.soc_multipart.specs.Delimiters.{IsBoundary};
-ghost use Rattle.soc_multipart.specs.FieldViews.{fields_text};
+ghost use Rattle.soc_multipart.specs.inner.FieldViews.{fields_text};
 ghost use Rattle.soc_multipart.specs.Fields.{is_extra as is_extra_text, is_plain as is_plain_text};
 ghost use Rattle.soc_multipart.specs.Fits.{FitsCrash};
 ghost use Rattle.soc_multipart.specs.Parts.{CutFault};

@@ -2,7 +2,7 @@ use Rattle.std.proofs.Common.{◌≡◌, false}
 use Rattle.serde_json.specs.View.{members_view}
 use Rattle.serde_json.specs.Written.{members_have_float}
 use Rattle.soc_multipart.specs.Extras.{with_members}
-use Rattle.soc_multipart.specs.FieldViews.{fields_text}
+use Rattle.soc_multipart.specs.inner.FieldViews.{fields_text}
 use Rattle.soc_multipart.proofs.extras.with_members.Given as goal
 
 -- the fields so far with what is left of the members are the fields with all of them

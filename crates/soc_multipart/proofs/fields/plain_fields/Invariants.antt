@@ -1,6 +1,6 @@
 use Rattle.std.proofs.Common.{◌≡◌, take}
 use Rattle.soc_multipart.specs.Fields.{plain_fields}
-use Rattle.soc_multipart.specs.FieldViews.{fields_text}
+use Rattle.soc_multipart.specs.inner.FieldViews.{fields_text}
 use Rattle.soc_multipart.specs.PartViews.{part_texts}
 use Rattle.soc_multipart.proofs.fields.plain_fields.Given as goal
 

@@ -1,5 +1,5 @@
 use Rattle.std.proofs.Common.{subst}
-use Rattle.soc_multipart.specs.Views.{HasValues}
+use Rattle.soc_multipart.specs.inner.Views.{HasValues}
 use Rattle.soc_multipart.proofs.HeadLemmas.{once_more, often_more}
 use Rattle.soc_multipart.proofs.heads.one_more.Goals as goal
 

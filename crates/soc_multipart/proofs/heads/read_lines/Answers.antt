@@ -2,7 +2,7 @@ use Rattle.std.proofs.Common.{[], ◌∷◌, refl, ap, ◌∙◌}
 use Rattle.std.proofs.lemmas.List.{map_push}
 use Rattle.std.proofs.lemmas.Slice.{pushed}
 use Rattle.soc_multipart.specs.Heads.{ReadsLine}
-use Rattle.soc_multipart.specs.Views.{line_text, line_texts}
+use Rattle.soc_multipart.specs.inner.Views.{line_text, line_texts}
 use Rattle.soc_multipart.proofs.ChainLemmas.{chain_grow}
 use Rattle.soc_multipart.proofs.heads.read_lines.Goals as goal
 

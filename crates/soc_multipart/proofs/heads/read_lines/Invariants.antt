@@ -1,7 +1,7 @@
 use Rattle.std.proofs.Common.{length}
 use Rattle.soc_multipart.specs.Chains.{Chain}
 use Rattle.soc_multipart.specs.Heads.{ReadsLine}
-use Rattle.soc_multipart.specs.Views.{line_texts}
+use Rattle.soc_multipart.specs.inner.Views.{line_texts}
 use Rattle.soc_multipart.proofs.heads.read_lines.Given as goal
 
 -- the lines so far stand in the text up to the rest

@@ -1,6 +1,6 @@
 use Rattle.std.proofs.Common.{take}
 use Rattle.soc_multipart.specs.Heads.{values_of}
-use Rattle.soc_multipart.specs.Views.{line_texts, HasValues}
+use Rattle.soc_multipart.specs.inner.Views.{line_texts, HasValues}
 use Rattle.soc_multipart.proofs.heads.values_named.Given as goal
 
 -- the values of the lines so far

@@ -1,7 +1,7 @@
 use Rattle.std.proofs.Common.{[], ◌∷◌, sym, subst, refl}
 use Rattle.std.proofs.lemmas.Slice.{pushed}
 use Rattle.soc_multipart.specs.Params.{ReadsParam, AreDistinct}
-use Rattle.soc_multipart.specs.Views.{param_text}
+use Rattle.soc_multipart.specs.inner.Views.{param_text}
 use Rattle.soc_multipart.proofs.Basics.{match_none, match_some, some_from_test}
 use Rattle.soc_multipart.proofs.ChainLemmas.{chain_grow}
 use Rattle.soc_multipart.proofs.FindLemmas.{texts_push}

@@ -1,7 +1,7 @@
 use Rattle.std.proofs.Common.{length}
 use Rattle.soc_multipart.specs.Chains.{Chain}
 use Rattle.soc_multipart.specs.Params.{AreDistinct, ReadsParam}
-use Rattle.soc_multipart.specs.Views.{param_texts}
+use Rattle.soc_multipart.specs.inner.Views.{param_texts}
 use Rattle.soc_multipart.proofs.SeenLemmas.{HasNames}
 use Rattle.soc_multipart.proofs.params.params.Given as goal
 

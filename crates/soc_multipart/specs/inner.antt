@@ -1,0 +1,4 @@
+-- Words of private contracts and of proofs: what they see of values that borrow from a body.
+pub mod FieldViews
+pub mod Meeting
+pub mod Views
