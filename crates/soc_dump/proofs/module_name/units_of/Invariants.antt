@@ -2,7 +2,7 @@ use Rattle.std.proofs.Common.{◌+◌, ◌-◌, ◌*◌, ◌/◌, [], length, dr
 use Rattle.byteorder.specs.Endian.{little_number}
 use Rattle.soc_dump.specs.Part.{places}
 use Rattle.soc_dump.proofs.ListLemmas.{Reading}
-use Rattle.soc_dump.proofs.modules.units_of.Given as goal
+use Rattle.soc_dump.proofs.module_name.units_of.Given as goal
 
 abbrev pub invariant-loop-index : goal.invariant-loop-index
 invariant-loop-index l =

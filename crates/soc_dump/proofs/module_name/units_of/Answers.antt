@@ -1,6 +1,6 @@
 use Rattle.std.proofs.Common.{◌*◌, ◌/◌, length, arith}
 use Rattle.soc_dump.proofs.ListLemmas.{number_read}
-use Rattle.soc_dump.proofs.modules.units_of.Goals as goal
+use Rattle.soc_dump.proofs.module_name.units_of.Goals as goal
 
 pub loop-index-preserved : goal.loop-index-preserved
 loop-index-preserved c =
