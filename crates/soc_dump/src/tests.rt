@@ -327,7 +327,8 @@ fn made_process(rt: HostRuntime) -> Result<(), Fail> {
     assert_eq!(rt; thread.id, 1);
     let registers = amd64_registers(thread.context).ok_or("no registers")?;
     assert_eq!(rt; registers[16], 0x10000100);
-    assert_eq!(rt; amd64_registers(&thread.context[..1231]).is_some(), false);
+    let short = thread.context.get(..1231).ok_or("no context")?;
+    assert_eq!(rt; amd64_registers(short).is_some(), false);
     let table = dump.module_table(rt.alloc())?;
     assert_eq!(rt; table.at(0x10000000), Some(0));
     assert_eq!(rt; table.at(0x10000FFF), Some(0));
@@ -405,14 +406,34 @@ fn words_of_memory(rt: HostRuntime) -> Result<(), Fail> {
         (0x0FFC, 8, None),
         (0x1044, 4, None),
         (0xFFFF_FFFF_FFFF_FFFC, 8, None),
-        (0x1043, 1, Some(0)),
-        (0x1000, 3, Some(0x11_1111)),
     ];
     for (address, width, word) in rows {
         assert_eq!(rt; dump.word_at(address, width), word, "at {address:x}");
-        let words = dump.words(rt.alloc(), width)?;
-        assert_eq!(rt; words.at(address), word, "found at {address:x}");
     }
+    Ok(())
+}
+
+#[test]
+fn found_words(rt: HostRuntime) -> Result<(), Fail> {
+    let file = memory_file(rt.alloc())?;
+    let dump = Dump::read(rt.alloc(), file.as_slice())?;
+    let rows = [
+        (0x1000, Some(0x2222_2222_1111_1111)),
+        (0x1004, Some(0x7777_7777_6666_6666)),
+        (0x1008, Some(0x4444_4444_3333_3333)),
+        (0x1010, Some(0x5555_5555_4444_4444)),
+        (0x0FFF, None),
+        (0x103C, Some(0)),
+        (0x103D, None),
+        (u64::MAX, None),
+    ];
+    let words = dump.words(rt.alloc(), 8)?;
+    for (address, word) in rows {
+        assert_eq!(rt; words.at(address), word, "at {address:x}");
+    }
+    let bytes = dump.words(rt.alloc(), 1)?;
+    assert_eq!(rt; bytes.at(0x1007), Some(0x22));
+    assert_eq!(rt; bytes.at(0x1044), None);
     Ok(())
 }
 
@@ -452,7 +473,8 @@ fn first_intervals(rt: HostRuntime) -> Result<(), Fail> {
     for (number, index) in rows {
         assert_eq!(rt; table.at(number), index, "of {number}");
     }
-    let fewer = FirstCovering::new(alloc, &intervals.as_slice()[..4])?;
+    intervals.truncate(4);
+    let fewer = FirstCovering::new(alloc, intervals.as_slice())?;
     assert_eq!(rt; fewer.at(4), None);
     assert_eq!(rt; fewer.at(29), Some(1));
     assert_eq!(rt; fewer.at(30), None);
@@ -486,7 +508,8 @@ fn x86_contexts(rt: HostRuntime) -> Result<(), Fail> {
         x86_registers(context.as_slice()),
         Some([1, 2, 3, 4, 5, 6, 7, 8, 9])
     );
-    assert_eq!(rt; x86_registers(&context.as_slice()[..715]), None);
+    let short = context.as_slice().get(..715).ok_or("no context")?;
+    assert_eq!(rt; x86_registers(short), None);
     Ok(())
 }
 
