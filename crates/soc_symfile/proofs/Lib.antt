@@ -3,6 +3,7 @@ pub mod IndexLemmas
 pub mod LineLemmas
 pub mod NumberLemmas
 pub mod OwnerLemmas
+pub mod PathLemmas
 pub mod PlaceLemmas
 pub mod ReadingLemmas
 pub mod RecordLemmas
