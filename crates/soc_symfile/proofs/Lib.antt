@@ -9,3 +9,4 @@ pub mod ReadingLemmas
 pub mod RecordLemmas
 pub mod TableLemmas
 pub mod WordLemmas
+pub mod SourceLemmas

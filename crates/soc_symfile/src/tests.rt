@@ -384,3 +384,14 @@ fn paths(rt: HostRuntime) -> Result<(), Fail> {
     }
     Ok(())
 }
+
+/// What threads may share and hand over.
+fn threads_share<T: Send + Sync>(_value: &T) {}
+
+#[test]
+fn threads_share_a_file(rt: HostRuntime) -> Result<(), Fail> {
+    let file = SymFile::read(rt.alloc(), b"MODULE a b c d\n")?;
+    threads_share(&file);
+    assert_eq!(rt; file.in_func(0), false);
+    Ok(())
+}

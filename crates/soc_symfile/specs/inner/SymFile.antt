@@ -1,9 +1,9 @@
--- How a symbol file holds its records. No public clause cites these.
+-- How a symbol file holds its records.
 use Rattle.std.specs.Prelude.{map}
 use Rattle.soc_symfile.specs.declared.symfile.SymFile.TheInside.{Inside}
 use Rattle.soc_symfile.specs.Records.{Records}
-use Rattle.soc_symfile.specs.Tables.{owner_address, label_address, file_number}
-use Rattle.soc_symfile.specs.Places.{IsIndex}
+use Rattle.soc_symfile.specs.inner.Tables.{owner_address, label_address, file_number}
+use Rattle.soc_symfile.specs.inner.Places.{IsIndex}
 
 abbrev pub records_in_file : Inside → Records
 records_in_file s = s.tables

@@ -1,4 +1,4 @@
--- How the tables hold the records, and how a line adds to them. No public clause cites these.
+-- How the tables hold the records, and how a line adds to them.
 use Rattle.std.specs.Prelude.{◌≡◌, ℕ, ◌≤◌, true, false, List, [], ◌∷◌, ◌++◌, length, map, filter_map, slice_get, slice_range, Option, Some, Result, Ok, Err, ⊤}
 use Rattle.soc_symfile.specs.declared.entries.Owner.{Owner}
 use Rattle.soc_symfile.specs.declared.entries.Owned.{Owned}

@@ -1,5 +1,5 @@
 -- Sorted places of records, and what a look-up among them gives of the records' keys, which stand in the order of the
--- file. No public clause cites these.
+-- file.
 use Rattle.std.specs.Prelude.{◌≡◌, ℕ, ◌<◌, ◌≤◌, List, length, slice_index, slice_index_or}
 use Rattle.std.specs.List.Sorted.{IsNonDecreasingBy}
 use Rattle.soc_symfile.specs.declared.places.Place.{Place}
