@@ -1,0 +1,5 @@
+pub mod PatternLemmas
+pub mod MakeLemmas
+pub mod LineLemmas
+pub mod FileLemmas
+pub mod FrameLemmas

@@ -1,0 +1,21 @@
+//! Lists of patterns that decide which frames of a stack count in signatures.
+#![tactic(auto)]
+
+mod error;
+mod failing_maker;
+mod lines;
+mod lists;
+mod maker;
+mod matchers;
+mod pattern;
+mod reading;
+mod regex_maker;
+#[cfg(test)]
+mod tests;
+
+pub use error::{ListError, ListName};
+pub use failing_maker::FailingMaker;
+pub use lists::Lists;
+pub use maker::{MakeError, Maker};
+pub use matchers::ListMatchers;
+pub use regex_maker::RegexMaker;

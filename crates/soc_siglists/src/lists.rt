@@ -1,0 +1,88 @@
+//! The three lists.
+ghost use Rattle.std.specs.Prelude.{◌≡◌, ◌≤◌, IfOk, IsErrOf};
+ghost use Rattle.soc_edge.specs.Faults.{Rose};
+ghost use Rattle.soc_siglists.specs.Lists.{ListTexts, is_irrelevant, is_prefix, sentinel_place};
+ghost use Rattle.soc_siglists.specs.Reading.{Gives};
+
+use crate::error::{ListError, ListName};
+use crate::maker::Maker;
+use crate::matchers::{ListMatchers, first_match, matchers_of, matches_one};
+use crate::pattern::Pattern;
+use crate::reading::read_list;
+use soc_raw::{NoMemory, TextList};
+use std::alloc::Global;
+use std::marker::Model;
+
+/// Which frames signatures pass over, which they go on behind, and at which they begin. Contracts see the texts of the
+/// patterns.
+#[derive(Drop)]
+pub struct Lists {
+    irrelevant: Vec<Pattern>,
+    prefix: Vec<Pattern>,
+    sentinel: Vec<Pattern>,
+}
+
+impl Model for Lists {
+    ghost Value = { ListTexts };
+
+    ghost view = { λ l. record { irrelevant = l.irrelevant.items; prefix = l.prefix.items; sentinel = l.sentinel.items } };
+}
+
+impl Lists {
+    /// Reads three list files: one pattern a line, without the spaces, tabs and carriage returns at its end. Empty
+    /// lines and lines that begin with `#` are passed over. The first bad line refuses all.
+    pub fn read<P: Maker>(
+        alloc: Global,
+        maker: &mut P,
+        irrelevant: &[u8],
+        prefix: &[u8],
+        sentinel: &[u8],
+    ) -> Result<Lists, ListError>
+        ensures reads { Gives result irrelevant.now prefix.now sentinel.now }
+        ensures never_fall { P.faults maker.old ≤ P.faults maker.new }
+        ensures cause { IsErrOf result ListError.MakerFault → Rose (P.faults maker.old) (P.faults maker.new) }
+    {
+        let irrelevant = read_list(alloc, maker, ListName::Irrelevant, irrelevant)?;
+        let prefix = read_list(alloc, maker, ListName::Prefix, prefix)?;
+        let sentinel = read_list(alloc, maker, ListName::Sentinel, sentinel)?;
+        Ok(Lists {
+            irrelevant,
+            prefix,
+            sentinel,
+        })
+    }
+
+    /// What asks the lists of many frames. To make it costs far more than one question.
+    pub fn matchers(&self, alloc: Global) -> Result<ListMatchers<'_>, NoMemory>
+        ensures { IfOk result (λ matchers. matchers ≡ self.now) }
+    {
+        let irrelevant = matchers_of(alloc, &self.irrelevant)?;
+        let prefix = matchers_of(alloc, &self.prefix)?;
+        let sentinel = matchers_of(alloc, &self.sentinel)?;
+        Ok(ListMatchers::of(irrelevant, prefix, sentinel))
+    }
+
+    /// Whether a pattern of the irrelevant list matches where the frame begins.
+    pub fn is_irrelevant(&self, alloc: Global, frame: &str) -> Result<bool, NoMemory>
+        ensures { IfOk result (λ answer. answer ≡ is_irrelevant self.now frame.now) }
+    {
+        let mut matchers = matchers_of(alloc, &self.irrelevant)?;
+        Ok(matches_one(&mut matchers, frame))
+    }
+
+    /// Whether a pattern of the prefix list matches where the frame begins.
+    pub fn is_prefix(&self, alloc: Global, frame: &str) -> Result<bool, NoMemory>
+        ensures { IfOk result (λ answer. answer ≡ is_prefix self.now frame.now) }
+    {
+        let mut matchers = matchers_of(alloc, &self.prefix)?;
+        Ok(matches_one(&mut matchers, frame))
+    }
+
+    /// Where the first frame stands that a sentinel matches where it begins, counted from 0.
+    pub fn sentinel_at(&self, alloc: Global, frames: &TextList) -> Result<Option<usize>, NoMemory>
+        ensures { IfOk result (λ place. place ≡ sentinel_place self.now frames.now) }
+    {
+        let mut matchers = matchers_of(alloc, &self.sentinel)?;
+        Ok(first_match(&mut matchers, frames))
+    }
+}

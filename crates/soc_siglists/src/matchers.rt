@@ -1,0 +1,99 @@
+//! Lists that can be asked again and again.
+ghost use Rattle.std.specs.Prelude.{◌≡◌, IfOk};
+ghost use Rattle.std.specs.List.{position};
+ghost use Rattle.soc_siglists.specs.Lists.{ListTexts, matches_one, is_irrelevant, is_prefix, is_sentinel};
+
+use crate::pattern::{Pattern, PatternMatcher};
+use soc_raw::{NoMemory, TextList};
+use std::alloc::Global;
+use std::marker::Model;
+
+/// What asks each of the patterns.
+pub fn matchers_of(alloc: Global, patterns: &[Pattern]) -> Result<Vec<PatternMatcher<'_>>, NoMemory>
+    ensures { IfOk result (λ matchers. matchers.items ≡ patterns.now) }
+{
+    let mut matchers = Vec::new(alloc);
+    for pattern in patterns {
+        matchers.push(pattern.matcher(alloc)?)?;
+    }
+    Ok(matchers)
+}
+
+/// Whether one of the patterns matches where the frame begins.
+pub fn matches_one(matchers: &mut [PatternMatcher<'_>], frame: &str) -> bool
+    ensures value { result ≡ matches_one matchers.old frame.now }
+    ensures same { matchers.new ≡ matchers.old }
+{
+    for matcher in matchers.iter_mut() {
+        if matcher.matches_start(frame) {
+            return true;
+        }
+    }
+    false
+}
+
+/// Where the first frame stands that one of the patterns matches where it begins.
+pub fn first_match(matchers: &mut [PatternMatcher<'_>], frames: &TextList) -> Option<usize>
+    ensures { result ≡ position (matches_one matchers.old) frames.now }
+{
+    for place in 0..frames.len() {
+        if matches_one(matchers, frames.at(place)) {
+            return Some(place);
+        }
+    }
+    None
+}
+
+/// Lists, ready to be asked of many frames. Contracts see the texts of the patterns.
+#[derive(Drop)]
+pub struct ListMatchers<'a> {
+    irrelevant: Vec<PatternMatcher<'a>>,
+    prefix: Vec<PatternMatcher<'a>>,
+    sentinel: Vec<PatternMatcher<'a>>,
+}
+
+impl<'a> Model for ListMatchers<'a> {
+    ghost Value = { ListTexts };
+
+    ghost view = { λ m. record { irrelevant = m.irrelevant.items; prefix = m.prefix.items; sentinel = m.sentinel.items } };
+}
+
+impl<'a> ListMatchers<'a> {
+    pub(crate) fn of(
+        irrelevant: Vec<PatternMatcher<'a>>,
+        prefix: Vec<PatternMatcher<'a>>,
+        sentinel: Vec<PatternMatcher<'a>>,
+    ) -> ListMatchers<'a>
+        ensures { result ≡ record { irrelevant = irrelevant.entry.items; prefix = prefix.entry.items; sentinel = sentinel.entry.items } }
+    {
+        ListMatchers {
+            irrelevant,
+            prefix,
+            sentinel,
+        }
+    }
+
+    /// Whether a pattern of the irrelevant list matches where the frame begins.
+    pub fn is_irrelevant(&mut self, frame: &str) -> bool
+        ensures value { result ≡ is_irrelevant self.old frame.now }
+        ensures same { self.new ≡ self.old }
+    {
+        matches_one(&mut self.irrelevant, frame)
+    }
+
+    /// Whether a pattern of the prefix list matches where the frame begins.
+    pub fn is_prefix(&mut self, frame: &str) -> bool
+        ensures value { result ≡ is_prefix self.old frame.now }
+        ensures same { self.new ≡ self.old }
+    {
+        matches_one(&mut self.prefix, frame)
+    }
+
+    /// Whether a sentinel matches where the frame begins.
+    pub fn is_sentinel(&mut self, frame: &str) -> bool
+        ensures value { result ≡ is_sentinel self.old frame.now }
+        ensures same { self.new ≡ self.old }
+    {
+        matches_one(&mut self.sentinel, frame)
+    }
+}

@@ -1,0 +1,80 @@
+//! One pattern of a list.
+ghost use Rattle.std.specs.Prelude.{◌≡◌, IfOk};
+ghost use Rattle.regex.specs.Strings.{regex_source};
+ghost use Rattle.soc_siglists.specs.Patterns.{matches_start};
+ghost use Rattle.soc_siglists.specs.inner.Compiled.{IsOwn};
+
+use regex::{Matcher, Regex};
+use soc_raw::NoMemory;
+use std::alloc::Global;
+use std::marker::Model;
+
+/// A pattern. Contracts see its text.
+#[derive(Drop)]
+pub struct Pattern {
+    made: Regex,
+}
+
+impl Model for Pattern {
+    ghost use Rattle.std.specs.Prelude.{List, ℕ};
+    ghost use Rattle.regex.specs.Strings.{regex_source};
+    ghost use Rattle.soc_siglists.specs.inner.Compiled.{IsOwn};
+
+    ghost Value = { List ℕ };
+
+    ghost view = { λ p. regex_source p.made };
+
+    ghost invariant = { λ p. IsOwn p.made };
+}
+
+impl Pattern {
+    pub fn of(made: Regex) -> Pattern
+        requires { IsOwn made }
+        ensures { result ≡ regex_source made }
+    {
+        Pattern { made }
+    }
+
+    /// What asks the pattern.
+    pub fn matcher(&self, alloc: Global) -> Result<PatternMatcher<'_>, NoMemory>
+        ensures { IfOk result (λ matcher. matcher ≡ self.now) }
+    {
+        let matcher = self.made.matcher(alloc)?;
+        Ok(PatternMatcher {
+            text: self.made.as_str(),
+            matcher,
+        })
+    }
+}
+
+/// A pattern that can be asked again and again. Contracts see its text.
+#[derive(Drop)]
+pub struct PatternMatcher<'a> {
+    text: &'a str,
+    matcher: Matcher<'a>,
+}
+
+impl<'a> Model for PatternMatcher<'a> {
+    ghost use Rattle.std.specs.Prelude.{List, ℕ};
+    ghost use Rattle.regex.specs.Strings.{matcher_pattern};
+    ghost use Rattle.soc_siglists.specs.inner.Compiled.{MatchesAs};
+
+    ghost Value = { List ℕ };
+
+    ghost view = { λ m. m.text.now };
+
+    ghost invariant = { λ m. MatchesAs m.text.now (matcher_pattern m.matcher) };
+}
+
+impl<'a> PatternMatcher<'a> {
+    /// Whether the leftmost match begins where the frame does.
+    pub fn matches_start(&mut self, frame: &str) -> bool
+        ensures value { result ≡ matches_start frame.now self.old }
+        ensures same { self.new ≡ self.old }
+    {
+        let Some(found) = self.matcher.find(frame) else {
+            return false;
+        };
+        found.start() == 0
+    }
+}

@@ -1,0 +1,10 @@
+pub mod CharLemmas
+pub mod JoinLemmas
+pub mod ProtoLemmas
+pub mod ModuleLemmas
+pub mod SpaceLemmas
+pub mod RuleLemmas
+pub mod ShutdownLemmas
+pub mod StackLemmas
+pub mod SummaryLemmas
+pub mod OrderLemmas
