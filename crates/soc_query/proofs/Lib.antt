@@ -1,0 +1,11 @@
+pub mod AnswerLemmas
+pub mod BitLemmas
+pub mod FacetLemmas
+pub mod HitLemmas
+pub mod JsonLemmas
+pub mod OrderLemmas
+pub mod QueryLemmas
+pub mod ReadingLemmas
+pub mod SelectionLemmas
+pub mod SortLemmas
+pub mod TextLemmas

@@ -1,0 +1,5 @@
+pub mod Queries
+pub mod Places
+pub mod Answers
+pub mod Json
+pub mod inner
