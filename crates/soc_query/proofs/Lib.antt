@@ -1,6 +1,7 @@
 pub mod AnswerLemmas
 pub mod BitLemmas
 pub mod FacetLemmas
+pub mod GrantLemmas
 pub mod HitLemmas
 pub mod JsonLemmas
 pub mod OrderLemmas

@@ -1,6 +1,6 @@
 -- What a query asks for, and how pairs of names and values say it: this project's profile.
 use Rattle.std.specs.Prelude.{ℕ, nat_lt, ◌==◌, ◌&&◌, not, Bool, true, false, if◌then◌else◌, List, [], ◌∷◌, ◌++◌, length, Option, None, Some, Result, Ok, Err, codes, ◌≡◌}
-use Rattle.std.specs.List.{list_any, list_all}
+use Rattle.std.specs.List.{AllByRecursion, list_any, list_all}
 use Rattle.std.specs.Option.{option_map_or, ok_or}
 use Rattle.std.specs.Char.{is_digit}
 use Rattle.std.specs.Str.{bytes_eq}
@@ -11,7 +11,7 @@ use Rattle.soc_schema.specs.declared.field.FieldKind.TheVariants as kind
 use Rattle.soc_schema.specs.declared.value.Value.{Value}
 use Rattle.soc_schema.specs.declared.value.Value.TheVariants.{Text, Number, Flag}
 use Rattle.soc_schema.specs.Fields.{field_named, kind_of, permission_of}
-use Rattle.soc_schema.specs.Permits.{is_granted}
+use Rattle.soc_schema.specs.Permits.{Granted, is_granted}
 use Rattle.soc_query.specs.declared.condition.Comparison.{Comparison}
 use Rattle.soc_query.specs.declared.condition.Comparison.TheVariants as compare
 use Rattle.soc_query.specs.declared.condition.Test.TheVariants.{Absent, Compares}
@@ -168,6 +168,12 @@ with_pairs q (p ∷ ps) = and_then (with_pair q p.0 p.1) (λ more. with_pairs mo
 -- the query that the pairs of a caller are
 abbrev pub query_of : Caller → List (List ℕ × List ℕ) → Result Asked QueryError
 query_of caller pairs = with_pairs (asked_by caller) pairs
+
+-- each field that the query names is granted to its caller
+abbrev pub AreGranted : Asked → Type 0
+AreGranted q =
+    AllByRecursion (λ c. Granted q.caller c.field) q.conditions × AllByRecursion (λ s. Granted q.caller s.field) q.sorts
+    × AllByRecursion (Granted q.caller) q.columns × AllByRecursion (Granted q.caller) q.facets
 
 -- it is refused so; want of memory says nothing of the input
 abbrev pub IsRefusal : {A : Type 0} → Result A QueryError → QueryError → Type 0

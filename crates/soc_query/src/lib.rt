@@ -4,6 +4,7 @@
 mod answer;
 mod answering;
 mod condition;
+mod draft;
 mod error;
 mod facet;
 mod hits;

@@ -14,7 +14,7 @@ use Rattle.soc_query.proofs.selection.matching.Goals.{then-not-is_exact+in_ok-na
 pub loop-condition-init : goal.loop-condition-init
 loop-condition-init c =
     let saw : List Cell → Bool = sees c.args.query.now.caller in (
-      selects_same (selected c.in_ok-set.set) (selected c.in_ok-set.set) saw (λ row. saw row && list_all (holds_of c.conditions-conditions.result.now row) (take 0 c.conditions-conditions.result.now)) c.args.store.now (λ p. refl) (λ row. sym (and_true (saw row))) (subst (λ k. Selects (selected c.in_ok-set.set) (sees k) c.args.store.now) c.caller.ensures c.in_ok-set.ensures),
+      selects_same (selected c.in_ok-set.set) (selected c.in_ok-set.set) saw (λ row. saw row && list_all (holds_of c.conditions-conditions.result.now row) (take 0 c.conditions-conditions.result.now)) c.args.store.now (λ p. refl) (λ row. sym (and_true (saw row))) (subst (λ k. Selects (selected c.in_ok-set.set) (sees k) c.args.store.now) c.caller.ensures.caller c.in_ok-set.ensures),
       λ f e. absurd (none_met 36 f e),
     )
 

@@ -1,6 +1,6 @@
 use Rattle.std.proofs.Common.{◌≡◌, nat_eq, drop}
 use Rattle.std.specs.List.{list_any}
-use Rattle.soc_query.proofs.query.add_sort.Given as goal
+use Rattle.soc_query.proofs.draft.add_sort.Given as goal
 
 -- it is among those that are left exactly where it is among all
 abbrev pub invariant-loop-earlier : goal.invariant-loop-earlier

@@ -1,6 +1,6 @@
 use Rattle.std.proofs.Common.{◌≡◌, drop}
 use Rattle.soc_query.specs.Queries.{query_of, with_pairs}
-use Rattle.soc_query.proofs.query.Query.read.Given as goal
+use Rattle.soc_query.proofs.draft.Draft.read.Given as goal
 
 -- the query so far with the pairs that are left
 abbrev pub invariant-loop-i : goal.invariant-loop-i

@@ -1,6 +1,6 @@
 use Rattle.std.proofs.Common.{arith, ◌∙◌, sym, ◌≡◌, get_or, length}
 use Rattle.soc_query.proofs.QueryLemmas.{at_any, field_kept, field_put}
-use Rattle.soc_query.proofs.query.place_among.Goals as goal
+use Rattle.soc_query.proofs.draft.place_among.Goals as goal
 
 pub returns-then-place : goal.returns-then-place
 returns-then-place c =
