@@ -7,6 +7,7 @@ pub mod JsonLemmas
 pub mod OrderLemmas
 pub mod QueryLemmas
 pub mod ReadingLemmas
+pub mod SeenLemmas
 pub mod SelectionLemmas
 pub mod SortLemmas
 pub mod TextLemmas

@@ -170,7 +170,7 @@ put_map g R x [] = refl
 put_map g R x (y ∷ ys) =
     elim (is_gt (R (g x) (g y))) as (λ b. map g (if b then y ∷ put_in_order (λ a c. R (g a) (g c)) x ys else x ∷ y ∷ ys) ≡ (if b then g y ∷ put_in_order R (g x) (map g ys) else g x ∷ g y ∷ map g ys)) [ true ↦ ap (λ l. g y ∷ l) (put_map g R x ys) | false ↦ refl ]
 
-order_map : {X Y : Type 0} (g : X → Y) (R : Y → Y → Ordering) (xs : List X) → map g (in_order (λ a b. R (g a) (g b)) xs) ≡ in_order R (map g xs)
+pub order_map : {X Y : Type 0} (g : X → Y) (R : Y → Y → Ordering) (xs : List X) → map g (in_order (λ a b. R (g a) (g b)) xs) ≡ in_order R (map g xs)
 order_map g R [] = refl
 order_map g R (x ∷ xs) = put_map g R x (in_order (λ a b. R (g a) (g b)) xs) ∙ ap (put_in_order R (g x)) (order_map g R xs)
 

@@ -14,6 +14,7 @@ mod part;
 mod places;
 mod query;
 mod reading;
+mod seen;
 mod selection;
 
 pub use answer::{Answer, Facet, Facets, Fields, Hits, Term, Terms};
@@ -24,3 +25,4 @@ pub use items::Items;
 pub use part::Sort;
 pub use places::{Meeting, PlaceSet};
 pub use query::Query;
+pub use seen::answers_by_what_is_seen;
