@@ -1,0 +1,13 @@
+pub mod AnswerLemmas
+pub mod BitLemmas
+pub mod FacetLemmas
+pub mod GrantLemmas
+pub mod HitLemmas
+pub mod JsonLemmas
+pub mod OrderLemmas
+pub mod QueryLemmas
+pub mod ReadingLemmas
+pub mod SeenLemmas
+pub mod SelectionLemmas
+pub mod SortLemmas
+pub mod TextLemmas

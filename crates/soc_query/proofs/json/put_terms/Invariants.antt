@@ -1,0 +1,6 @@
+use Rattle.std.proofs.Common.{◌≡◌, ◌++◌, take}
+use Rattle.soc_query.specs.Json.{joined, term_json}
+use Rattle.soc_query.proofs.json.put_terms.Given as goal
+
+abbrev pub invariant-loop-i : goal.invariant-loop-i
+invariant-loop-i l = l.out.items ≡ l.initial.out.items ++ joined term_json (take l.i l.terms)

@@ -1,0 +1,28 @@
+//! Search over the rows of a store: which rows a caller's query asks for, and the answer.
+#![tactic(auto)]
+
+mod answer;
+mod answering;
+mod condition;
+mod draft;
+mod error;
+mod facet;
+mod hits;
+mod items;
+mod json;
+mod part;
+mod places;
+mod query;
+mod reading;
+mod seen;
+mod selection;
+
+pub use answer::{Answer, Facet, Facets, Fields, Hits, Term, Terms};
+pub use answering::answer_of;
+pub use condition::{Comparison, Condition, Test};
+pub use error::QueryError;
+pub use items::Items;
+pub use part::Sort;
+pub use places::{Meeting, PlaceSet};
+pub use query::Query;
+pub use seen::answers_by_what_is_seen;
