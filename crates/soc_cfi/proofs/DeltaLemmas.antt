@@ -21,19 +21,19 @@ chosen : (b : Bool) (rules more : List Rule) (register : List ℕ) → rule_of (
 chosen true rules more register = rule_of-append rules more register
 chosen false rules more register = refl
 
-with_delta_rule : (offset : ℕ) (rules : List Rule) (delta : LabelEntry) (register : List ℕ) → rule_of (with_delta offset rules delta) register ≡ option_or (delta_rule offset delta register) (rule_of rules register)
+pub with_delta_rule : (offset : ℕ) (rules : List Rule) (delta : LabelEntry) (register : List ℕ) → rule_of (with_delta offset rules delta) register ≡ option_or (delta_rule offset delta register) (rule_of rules register)
 with_delta_rule offset rules delta register = chosen (nat_le delta.address offset) rules (rules_of delta.text) register
 
 -- the rules of the INIT and of the first deltas
 abbrev pub rules_up_to : Span → ℕ → ℕ → List Rule
 rules_up_to span offset count = fold (with_delta offset) (rules_of span.init) (take count span.deltas)
 
-up_to_more : (span : Span) (offset i : ℕ) (delta : LabelEntry) → slice_get span.deltas i ≡ Some delta → rules_up_to span offset (i + 1) ≡ with_delta offset (rules_up_to span offset i) delta
+pub up_to_more : (span : Span) (offset i : ℕ) (delta : LabelEntry) → slice_get span.deltas i ≡ Some delta → rules_up_to span offset (i + 1) ≡ with_delta offset (rules_up_to span offset i) delta
 up_to_more span offset i delta at =
     fold_more (with_delta offset) (rules_of span.init) span.deltas i delta (slice_get_within span.deltas i delta at)
     ∙ ap (with_delta offset (rules_up_to span offset i)) (get_or_from_slice_get span.deltas i delta delta at)
 
-none_inside : {A : Type 0} (xs : List A) (i : ℕ) → slice_get xs i ≡ None → i < length xs → ⊥
+pub none_inside : {A : Type 0} (xs : List A) (i : ℕ) → slice_get xs i ≡ None → i < length xs → ⊥
 none_inside [] i none inside = omega arith
 none_inside (x ∷ xs) i none inside = let there = slice_get-get_or (x ∷ xs) i x inside in cc
 

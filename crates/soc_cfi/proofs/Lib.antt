@@ -1,4 +1,5 @@
 pub mod DeltaLemmas
+pub mod AllLemmas
 pub mod FindLemmas
 pub mod NameLemmas
 pub mod OperandLemmas

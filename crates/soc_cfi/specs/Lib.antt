@@ -8,3 +8,4 @@ pub mod Rules
 pub mod TokenRules
 pub mod Views
 pub mod Words
+pub mod inner

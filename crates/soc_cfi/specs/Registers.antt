@@ -18,6 +18,24 @@ abbrev pub names_of : Arch → List (List ℕ)
 names_of X86 = x86_names
 names_of Amd64 = amd64_names
 
+-- the registers that have a part of their own in a walk
+abbrev pub stack_pointer_of : Arch → List ℕ
+stack_pointer_of X86 = codes "$esp"
+stack_pointer_of Amd64 = codes "$rsp"
+
+abbrev pub frame_pointer_of : Arch → List ℕ
+frame_pointer_of X86 = codes "$ebp"
+frame_pointer_of Amd64 = codes "$rbp"
+
+abbrev pub instruction_pointer_of : Arch → List ℕ
+instruction_pointer_of X86 = codes "$eip"
+instruction_pointer_of Amd64 = codes "$rip"
+
+-- those that a function keeps for its caller
+abbrev pub kept_of : Arch → List (List ℕ)
+kept_of X86 = codes "$ebx" ∷ codes "$ebp" ∷ codes "$esi" ∷ codes "$edi" ∷ []
+kept_of Amd64 = codes "$rbx" ∷ codes "$rbp" ∷ codes "$r12" ∷ codes "$r13" ∷ codes "$r14" ∷ codes "$r15" ∷ []
+
 -- the bytes of a word
 abbrev pub width_of : Arch → ℕ
 width_of X86 = 4

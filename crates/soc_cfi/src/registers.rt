@@ -1,5 +1,5 @@
 //! The registers of x86 and AMD64, by their names in rules.
-ghost use Rattle.std.specs.Prelude.{◌≡◌, ◌<◌, length, IfSome, position};
+ghost use Rattle.std.specs.Prelude.{◌≡◌, ◌<◌, Some, length, map, IfSome, position};
 ghost use Rattle.std.specs.Str.{bytes_eq};
 ghost use Rattle.soc_cfi.specs.Registers as spec;
 
@@ -22,6 +22,61 @@ const AMD64_NAMES: [&str; 17] = [
     "$rax", "$rcx", "$rdx", "$rbx", "$rsp", "$rbp", "$rsi", "$rdi", "$r8", "$r9", "$r10", "$r11",
     "$r12", "$r13", "$r14", "$r15", "$rip",
 ];
+
+impl Arch {
+    /// The names of the registers, in the order of their values in `Registers`.
+    pub fn names(self) -> &'static [&'static str]
+        ensures { map (λ name. name.now) result.now ≡ spec.names_of self }
+    {
+        match self {
+            Arch::X86 => &X86_NAMES,
+            Arch::Amd64 => &AMD64_NAMES,
+        }
+    }
+
+    /// Where the value of the stack pointer stands.
+    pub fn stack_pointer(self) -> usize
+        ensures place { spec.place_of self (spec.stack_pointer_of self) ≡ Some result }
+        ensures within { result < 17 }
+    {
+        match self {
+            Arch::X86 => 8,
+            Arch::Amd64 => 4,
+        }
+    }
+
+    /// Where the value of the frame pointer stands.
+    pub fn frame_pointer(self) -> usize
+        ensures place { spec.place_of self (spec.frame_pointer_of self) ≡ Some result }
+        ensures within { result < 17 }
+    {
+        match self {
+            Arch::X86 => 6,
+            Arch::Amd64 => 5,
+        }
+    }
+
+    /// Where the value of the instruction pointer stands.
+    pub fn instruction_pointer(self) -> usize
+        ensures place { spec.place_of self (spec.instruction_pointer_of self) ≡ Some result }
+        ensures within { result < 17 }
+    {
+        match self {
+            Arch::X86 => 7,
+            Arch::Amd64 => 16,
+        }
+    }
+
+    /// Where the values stand of the registers that a function keeps for its caller.
+    pub fn kept(self) -> &'static [usize]
+        ensures places { map Some result.now ≡ map (spec.place_of self) (spec.kept_of self) }
+    {
+        match self {
+            Arch::X86 => &[2, 6, 1, 0],
+            Arch::Amd64 => &[3, 5, 12, 13, 14, 15],
+        }
+    }
+}
 
 /// The registers of a frame.
 #[derive(Clone, Copy, Debug, PartialEq, Eq)]

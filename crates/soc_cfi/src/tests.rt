@@ -234,3 +234,56 @@ fn finds_the_rules_in_force(rt: HostRuntime) -> Result<(), Fail> {
     assert_eq!(rt; file.cfi(0x110).is_some(), false);
     Ok(())
 }
+
+#[test]
+fn finds_all_rules_at_once(rt: HostRuntime) -> Result<(), Fail> {
+    let names = [".cfa", ".ra", "$rbx", "$rbp", ".cfa"];
+    let file = SymFile::read(rt.alloc(), FILE.as_bytes())?;
+    for offset in 0x100..0x110 {
+        let span = file.cfi(offset).ok_or("no rules")?;
+        let rules = Rules::at(span, offset);
+        let all = rules.all(rt.alloc(), &names)?;
+        assert_eq!(rt; all.len(), 5);
+        for (name, rule) in names.iter().zip(all.iter()) {
+            assert_eq!(rt; *rule, rules.rule(name), "{name} at {offset}");
+        }
+    }
+    let span = file.cfi(0x10f).ok_or("no rules")?;
+    let none = Rules::at(span, 0x10f).all(rt.alloc(), &[])?;
+    assert_eq!(rt; none.is_empty(), true);
+    Ok(())
+}
+
+#[test]
+fn names_registers(rt: HostRuntime) -> Result<(), Fail> {
+    let rows = [
+        (
+            Arch::X86,
+            "$esp",
+            "$ebp",
+            "$eip",
+            ["$ebx", "$ebp", "$esi", "$edi"].as_slice(),
+        ),
+        (
+            Arch::Amd64,
+            "$rsp",
+            "$rbp",
+            "$rip",
+            ["$rbx", "$rbp", "$r12", "$r13", "$r14", "$r15"].as_slice(),
+        ),
+    ];
+    for (arch, stack, frame, instruction, kept) in rows {
+        let names = arch.names();
+        assert_eq!(rt; names.get(arch.stack_pointer()).copied(), Some(stack));
+        assert_eq!(rt; names.get(arch.frame_pointer()).copied(), Some(frame));
+        assert_eq!(rt;
+            names.get(arch.instruction_pointer()).copied(),
+            Some(instruction)
+        );
+        assert_eq!(rt; arch.kept().len(), kept.len());
+        for (place, name) in arch.kept().iter().zip(kept.iter()) {
+            assert_eq!(rt; names.get(*place), Some(name));
+        }
+    }
+    Ok(())
+}

@@ -3,5 +3,7 @@ pub mod CheckLemmas
 pub mod DirectoryLemmas
 pub mod ListLemmas
 pub mod WordLemmas
+pub mod CoveringLemmas
+pub mod TableLemmas
 pub mod IdentityLemmas
 pub mod RegisterLemmas

@@ -1,20 +1,14 @@
--- The fields of a context's registers are numbers that lie in it.
-use Rattle.std.proofs.Common.{◌≡◌, ℕ, ◌+◌, ◌<◌, ◌≤◌, Bool, true, List, length, get_or, ◌&&◌, arith}
-use Rattle.std.specs.Prelude.{nat_le}
-use Rattle.std.specs.List.{list_all}
-use Rattle.std.proofs.lemmas.List.Sums.{AllPass-from_list_all}
+-- The registers of a context that is long enough, and of one that isn't.
+use Rattle.std.proofs.Common.{◌≡◌, ℕ, ◌<◌, ◌≤◌, List, length, Some, None, refl}
+use Rattle.std.specs.Prelude.{map}
+use Rattle.std.proofs.lemmas.Bool.{le-leb, lt-leb}
 use Rattle.soc_dump.specs.declared.field.Field.{Field}
+use Rattle.soc_dump.specs.Number.{number_of}
+use Rattle.soc_dump.specs.Registers.{context_registers}
 
-abbrev pub lies : Field → Bool
-lies f = nat_le 1 f.width && (nat_le f.width 8 && nat_le (f.offset + f.width) 256)
+module _ (size : ℕ) (registers : List Field) (context : List ℕ) where
+  pub registers-some : size ≤ length context → Some (map (number_of context) registers) ≡ context_registers size registers context
+  registers-some long = let test = le-leb size (length context) long in rw test refl
 
-pub record Lies (f : Field) : Type 0 where
-  pub some : 1 ≤ f.width
-  pub fits : f.width ≤ 8
-  pub within : f.offset + f.width ≤ 256
-
-lies-true : (f : Field) → lies f ≡ true → Lies f
-lies-true f is = record { some = grind arith; fits = grind arith; within = grind arith }
-
-pub register_lies : (fields : List Field) (index : ℕ) (other : Field) → list_all lies fields ≡ true → index < length fields → Lies (get_or fields index other)
-register_lies fields index other all below = lies-true _ (AllPass-from_list_all lies fields all index other below)
+  pub registers-none : length context < size → None ≡ context_registers size registers context
+  registers-none short = let test = lt-leb size (length context) short in rw test refl

@@ -1,6 +1,8 @@
 -- Words of regions, found among the program's values.
-use Rattle.std.proofs.Common.{◌≡◌, ℕ, Bool, true, false, List, [], ◌∷◌, ◌++◌, None, Some, refl, sym, ◌∙◌, ap, cond, IsTrue}
-use Rattle.std.specs.Prelude.{map, find, option_map}
+use Rattle.std.proofs.Common.{◌≡◌, ℕ, zero, suc, ◌-◌, ◌<◌, ◌≤◌, Bool, true, false, List, [], ◌∷◌, ◌++◌, length, get_or, None, Some, refl, sym, ◌∙◌, ap, cond, IsTrue, arith}
+use Rattle.std.proofs.lemmas.List.{length-map}
+use Rattle.std.proofs.lemmas.Option.{slice_get-map, slice_get-get_or}
+use Rattle.std.specs.Prelude.{map, find, option_map, slice_get}
 use Rattle.soc_dump.specs.declared.memory.Region.{Region}
 use Rattle.soc_dump.specs.declared.thread.Thread.{Thread}
 use Rattle.soc_dump.specs.Entries.{MemoryEntry}
@@ -70,3 +72,20 @@ module _ (memory : List Region) (threads : List Thread) (address width : ℕ) wh
       → None ≡ find (λ t. holds_word address width (stack_of (thread_entry t))) threads
       → None ≡ word_in (map memory_entry memory ++ map stack_of (map thread_entry threads)) address width
   word_in-none none nowhere = sym (stacks none ∙ ap (λ o. option_map (word_of address width) (option_map stack_of (option_map thread_entry o))) (sym nowhere))
+
+slice_get-behind : {A : Type 0} (xs ys : List A) (i : ℕ) → length xs ≤ i → slice_get (xs ++ ys) i ≡ slice_get ys (i - length xs)
+slice_get-behind [] ys i le = let same : i - 0 ≡ i = omega arith in rw same refl
+slice_get-behind (x ∷ xs) ys zero le = absurd (omega arith)
+slice_get-behind (x ∷ xs) ys (suc i) le =
+    let same : suc i - suc (length xs) ≡ i - length xs = omega arith in rw same (slice_get-behind xs ys i (omega arith))
+
+-- a stack stands behind the regions of the memory list
+pub stack_behind : (memory : List Region) (threads : List Thread) (index : ℕ) (d : Thread) → length memory ≤ index → index - length memory < length threads
+    → slice_get (map memory_entry memory ++ map stack_of (map thread_entry threads)) index ≡ Some (stack_of (thread_entry (get_or threads (index - length memory) d)))
+stack_behind memory threads index d behind inside =
+    let count : length (map memory_entry memory) ≡ length memory = length-map memory memory_entry in
+    slice_get-behind (map memory_entry memory) (map stack_of (map thread_entry threads)) index (omega (arith, count))
+    ∙ ap (slice_get (map stack_of (map thread_entry threads))) (ap (λ n. index - n) count)
+    ∙ slice_get-map stack_of (map thread_entry threads) (index - length memory)
+    ∙ ap (option_map stack_of) (slice_get-map thread_entry threads (index - length memory))
+    ∙ ap (λ o. option_map stack_of (option_map thread_entry o)) (slice_get-get_or threads (index - length memory) d inside)

@@ -55,8 +55,11 @@ string_size file place = number_of (drop place file) string_length
 abbrev pub units : List ℕ → List ℕ
 units bytes = map (λ at. little_number 2 (drop at bytes)) (places 0 2 (length bytes / 2))
 
+abbrev pub utf16_text : List ℕ → List ℕ
+utf16_text bytes = encode_utf8_all (utf16_lossy_chars (units bytes))
+
 abbrev pub string_at : List ℕ → ℕ → List ℕ
-string_at file place = encode_utf8_all (utf16_lossy_chars (units (part file (place + string_head) (string_size file place))))
+string_at file place = utf16_text (part file (place + string_head) (string_size file place))
 
 abbrev pub name_checks : List ℕ → ℕ → List Check
 name_checks file place =

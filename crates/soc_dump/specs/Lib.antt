@@ -7,7 +7,9 @@ pub mod Entries
 pub mod Dump
 pub mod Views
 pub mod Memory
+pub mod Covering
 pub mod Identity
 pub mod Registers
 pub mod Names
 pub mod Examples
+pub mod inner

@@ -1,5 +1,5 @@
 -- Where the registers stand in a processor's context (the Windows headers' CONTEXT).
-use Rattle.std.specs.Prelude.{ℕ, ◌+◌, nat_le, if◌then◌else◌, List, [], ◌∷◌, length, Option, None, Some, slice_get, option_map}
+use Rattle.std.specs.Prelude.{ℕ, nat_le, if◌then◌else◌, List, [], ◌∷◌, length, map, Option, None, Some}
 use Rattle.soc_dump.specs.declared.field.Field.{Field}
 use Rattle.soc_dump.specs.Layout.{field}
 use Rattle.soc_dump.specs.Number.{number_of}
@@ -98,18 +98,13 @@ abbrev pub x86_registers : List Field
 x86_registers =
     x86_edi ∷ x86_esi ∷ x86_ebx ∷ x86_edx ∷ x86_ecx ∷ x86_eax ∷ x86_ebp ∷ x86_eip ∷ x86_esp ∷ []
 
--- a register of a context; none where the context ends before it
-abbrev pub register_of : List ℕ → Field → Option ℕ
-register_of context register =
-    if nat_le (register.offset + register.width) (length context) then Some (number_of context register) else None
+-- the registers of a context of so many bytes or more, in the list's order; none where it is shorter
+abbrev pub context_registers : ℕ → List Field → List ℕ → Option (List ℕ)
+context_registers size registers context =
+    if nat_le size (length context) then Some (map (number_of context) registers) else None
 
--- the registers of a context of the needed size, in the list's order; none where it is shorter
-abbrev pub listed_register : ℕ → List Field → List ℕ → ℕ → Option ℕ
-listed_register size registers context index =
-    if nat_le size (length context) then option_map (number_of context) (slice_get registers index) else None
+abbrev pub amd64_registers_of : List ℕ → Option (List ℕ)
+amd64_registers_of context = context_registers amd64_context_size amd64_registers context
 
-abbrev pub amd64_register_of : List ℕ → ℕ → Option ℕ
-amd64_register_of context index = listed_register amd64_context_size amd64_registers context index
-
-abbrev pub x86_register_of : List ℕ → ℕ → Option ℕ
-x86_register_of context index = listed_register x86_context_size x86_registers context index
+abbrev pub x86_registers_of : List ℕ → Option (List ℕ)
+x86_registers_of context = context_registers x86_context_size x86_registers context

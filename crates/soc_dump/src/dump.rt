@@ -1,24 +1,28 @@
 //! A whole dump.
-ghost use Rattle.std.specs.Prelude.{◌≡◌, ◌<◌, ◌≤◌, ◌^◌, IfSome, map, option_map};
+ghost use Rattle.std.specs.Prelude.{◌≡◌, ℕ, ◌<◌, ◌≤◌, ◌^◌, IfOk, IfSome, None, map, option_map, position};
 ghost use Rattle.soc_dump.specs.Checks.{IsRead};
 ghost use Rattle.soc_dump.specs.Dump.{dump_checks, contents_of, contents_checks, contents_in};
 ghost use Rattle.soc_dump.specs.Directory.{AllInside};
+ghost use Rattle.soc_dump.specs.Covering.{owner_from};
 ghost use Rattle.soc_dump.specs.Views.{thread_entry, module_entry, exception_entry};
-ghost use Rattle.soc_dump.specs.Memory.{word_in, regions_of};
+ghost use Rattle.soc_dump.specs.Memory.{word_in, regions_of, holds_address};
 
+use crate::covering::FirstCovering;
 use crate::directory::{Stream, read_header, read_streams};
 use crate::error::DumpError;
 use crate::exception::Exception;
 use crate::memory::Region;
-use crate::modules::Module;
+use crate::modules::{Module, intervals_of_modules};
 use crate::streams::{find_exception, find_memory, find_modules, find_system, find_threads};
 use crate::system::System;
 use crate::thread::Thread;
 use crate::word::find_word;
+use crate::words::Words;
+use soc_raw::NoMemory;
 use std::alloc::Global;
 use std::marker::Model;
 
-/// A minidump. It borrows the file; only the modules' names are copied.
+/// A minidump. It borrows the file.
 #[derive(Debug, Drop)]
 pub struct Dump<'a> {
     threads: Vec<Thread<'a>>,
@@ -119,5 +123,28 @@ impl<'a> Dump<'a> {
             address,
             width as usize,
         )
+    }
+    /// The words of `width` bytes, made ready for many look-ups by address. They are those of
+    /// `word_at`.
+    pub fn words(&self, alloc: Global, width: u8) -> Result<Words<'_>, NoMemory>
+        requires some { 1 ≤ width }
+        requires fits { width ≤ 8 }
+        ensures { IfOk result (λ words. words ≡ record { regions = regions_of self.now; width = width }) }
+    {
+        Words::new(
+            alloc,
+            self.memory.as_slice(),
+            self.threads.as_slice(),
+            width as usize,
+        )
+    }
+
+    /// Which module is the first that has an address, made ready for many look-ups. The table gives
+    /// the module's index.
+    pub fn module_table(&self, alloc: Global) -> Result<FirstCovering, NoMemory>
+        ensures { IfOk result (λ table. (address : ℕ) → address < 2 ^ 64 → owner_from None table address ≡ position (holds_address address) self.now.modules) }
+    {
+        let intervals = intervals_of_modules(alloc, self.modules.as_slice())?;
+        FirstCovering::new(alloc, intervals.as_slice())
     }
 }

@@ -13,6 +13,18 @@ pub struct Field {
     pub width: usize,
 }
 
+/// A field by its offset and its width.
+macro_rules! field {
+    ($offset:literal, $width:literal) => {
+        Field {
+            offset: $offset,
+            width: $width,
+        }
+    };
+}
+
+pub(crate) use field;
+
 /// The number of a field of at most eight bytes.
 pub fn wide(structure: &[u8], field: Field) -> u64
     requires some { 1 ≤ field.width }

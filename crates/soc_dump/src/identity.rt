@@ -1,12 +1,13 @@
 //! How a module names its debug file.
 ghost use Rattle.std.specs.Prelude.{◌≡◌, ◌==◌, IfOk, IsTrue, map, slice_index, string_bytes};
-ghost use Rattle.std.specs.List.{before_first, position_or_len};
+ghost use Rattle.std.specs.List.{before_first};
 ghost use Rattle.soc_dump.specs.Identity.{is_pdb, is_build_id, guid_text, pdb_id_of, build_id_of, pdb_path_of, debug_id_of, debug_file_of};
 ghost use Rattle.soc_dump.specs.Views.{module_entry};
 
 use crate::field::narrow;
 use crate::layout::*;
 use crate::modules::Module;
+use memchr::memchr;
 use soc_raw::{NoMemory, Text};
 use soc_text::base_name;
 use std::alloc::Global;
@@ -85,16 +86,14 @@ pub fn debug_id(alloc: Global, module: &Module<'_>) -> Result<Text, NoMemory>
     Text::of(alloc, "")
 }
 
-/// Where the first NUL stands, or the length.
-fn nul_place(bytes: &[u8]) -> usize
-    ensures { result ≡ position_or_len (λ byte. byte == 0) bytes.now }
+/// What stands before the first NUL, or all.
+fn before_nul(bytes: &[u8]) -> &[u8]
+    ensures { result.now ≡ before_first (λ byte. byte == 0) bytes.now }
 {
-    for (at, byte) in bytes.iter().enumerate() {
-        if *byte == 0 {
-            return at;
-        }
+    match memchr(0, bytes) {
+        Some(end) => &bytes[..end],
+        None => bytes,
     }
-    bytes.len()
 }
 
 /// The path that the record of a PDB file names.
@@ -102,9 +101,7 @@ fn pdb_path(alloc: Global, bytes: &[u8]) -> Result<Text, NoMemory>
     requires { IsTrue (is_pdb bytes.now) }
     ensures { IfOk result (λ path. path ≡ pdb_path_of bytes.now) }
 {
-    let rest = &bytes[PDB_FILE..];
-    let name = &rest[..nul_place(rest)];
-    Text::lossy(alloc, name)
+    Text::lossy(alloc, before_nul(&bytes[PDB_FILE..]))
 }
 
 /// The name of a module's debug file: the base name of a PDB file's path, or of the module's own
@@ -118,7 +115,8 @@ pub fn debug_file(alloc: Global, module: &Module<'_>) -> Result<Text, NoMemory>
         return Text::of(alloc, base_name(path.as_str()));
     }
     if holds_build_id(bytes) {
-        return Text::of(alloc, base_name(module.name.as_str()));
+        let path = module.name.to_text(alloc)?;
+        return Text::of(alloc, base_name(path.as_str()));
     }
     Text::of(alloc, "")
 }

@@ -1,6 +1,7 @@
 //! Minidumps: what a crashed process left of its memory, read without trust in one byte of it.
 #![tactic(auto)]
 
+mod covering;
 mod directory;
 mod dump;
 mod error;
@@ -10,23 +11,29 @@ mod identity;
 mod layout;
 mod list;
 mod memory;
+mod module_name;
 mod modules;
 mod names;
 mod part;
-pub mod registers;
+mod pieces;
+mod registers;
 mod streams;
 mod system;
 #[cfg(test)]
 mod tests;
 mod thread;
 mod word;
+mod words;
 
+pub use covering::{FirstCovering, Interval};
 pub use dump::Dump;
 pub use error::DumpError;
 pub use exception::Exception;
-pub use field::Field;
 pub use identity::{debug_file, debug_id};
+pub use module_name::ModuleName;
 pub use modules::Module;
 pub use names::{architecture_name, crash_reason, platform_name};
+pub use registers::{amd64_registers, x86_registers};
 pub use system::System;
 pub use thread::Thread;
+pub use words::Words;

@@ -1,9 +1,8 @@
 //! Dumps made by hand, one for each refusal and edge, and a whole one.
-use crate::registers::{AMD64_RIP, amd64_register, register, x86_register};
 use crate::{
-    Dump, DumpError, Module, architecture_name, crash_reason, debug_file, debug_id, platform_name,
+    Dump, DumpError, FirstCovering, Interval, Module, ModuleName, amd64_registers,
+    architecture_name, crash_reason, debug_file, debug_id, platform_name, x86_registers,
 };
-use soc_raw::Text;
 use std::alloc::{AllocError, Global};
 use std::test::Fail;
 
@@ -323,12 +322,17 @@ fn made_process(rt: HostRuntime) -> Result<(), Fail> {
     let dump = Dump::read(rt.alloc(), file.as_slice())?;
     let module = dump.modules().first().ok_or("no module")?;
     assert_eq!(rt; module.base, 0x10000000);
-    assert_eq!(rt; module.name.as_str(), "made0.dll");
+    assert_eq!(rt; module.name.to_text(rt.alloc())?.as_str(), "made0.dll");
     let thread = dump.threads().first().ok_or("no thread")?;
     assert_eq!(rt; thread.id, 1);
-    assert_eq!(rt; register(thread.context, AMD64_RIP), Some(0x10000100));
-    assert_eq!(rt; amd64_register(thread.context, 16), Some(0x10000100));
-    assert_eq!(rt; x86_register(thread.context, 9), None);
+    let registers = amd64_registers(thread.context).ok_or("no registers")?;
+    assert_eq!(rt; registers[16], 0x10000100);
+    let short = thread.context.get(..1231).ok_or("no context")?;
+    assert_eq!(rt; amd64_registers(short).is_some(), false);
+    let table = dump.module_table(rt.alloc())?;
+    assert_eq!(rt; table.at(0x10000000), Some(0));
+    assert_eq!(rt; table.at(0x10000FFF), Some(0));
+    assert_eq!(rt; table.at(0x10001000), None);
     Ok(())
 }
 
@@ -409,6 +413,106 @@ fn words_of_memory(rt: HostRuntime) -> Result<(), Fail> {
     Ok(())
 }
 
+#[test]
+fn found_words(rt: HostRuntime) -> Result<(), Fail> {
+    let file = memory_file(rt.alloc())?;
+    let dump = Dump::read(rt.alloc(), file.as_slice())?;
+    let rows = [
+        (0x1000, Some(0x2222_2222_1111_1111)),
+        (0x1004, Some(0x7777_7777_6666_6666)),
+        (0x1008, Some(0x4444_4444_3333_3333)),
+        (0x1010, Some(0x5555_5555_4444_4444)),
+        (0x0FFF, None),
+        (0x103C, Some(0)),
+        (0x103D, None),
+        (u64::MAX, None),
+    ];
+    let words = dump.words(rt.alloc(), 8)?;
+    for (address, word) in rows {
+        assert_eq!(rt; words.at(address), word, "at {address:x}");
+    }
+    let bytes = dump.words(rt.alloc(), 1)?;
+    assert_eq!(rt; bytes.at(0x1007), Some(0x22));
+    assert_eq!(rt; bytes.at(0x1044), None);
+    Ok(())
+}
+
+// Intervals that overlap, that are empty and that reach to the last number.
+const INTERVALS: [(u64, u64); 8] = [
+    (10, 19),
+    (15, 29),
+    (5, 12),
+    (40, 39),
+    (0, u64::MAX - 10),
+    (0, 0),
+    (u64::MAX, u64::MAX),
+    (u64::MAX - 20, u64::MAX),
+];
+
+#[test]
+fn first_intervals(rt: HostRuntime) -> Result<(), Fail> {
+    let alloc = rt.alloc();
+    let mut intervals = Vec::new(alloc);
+    for (first, last) in INTERVALS {
+        intervals.push(Interval { first, last })?;
+    }
+    let rows = [
+        (0, Some(4)),
+        (5, Some(2)),
+        (9, Some(2)),
+        (10, Some(0)),
+        (19, Some(0)),
+        (20, Some(1)),
+        (30, Some(4)),
+        (40, Some(4)),
+        (u64::MAX - 10, Some(4)),
+        (u64::MAX - 9, Some(7)),
+        (u64::MAX, Some(6)),
+    ];
+    let table = FirstCovering::new(alloc, intervals.as_slice())?;
+    for (number, index) in rows {
+        assert_eq!(rt; table.at(number), index, "of {number}");
+    }
+    intervals.truncate(4);
+    let fewer = FirstCovering::new(alloc, intervals.as_slice())?;
+    assert_eq!(rt; fewer.at(4), None);
+    assert_eq!(rt; fewer.at(29), Some(1));
+    assert_eq!(rt; fewer.at(30), None);
+    assert_eq!(rt;
+        Interval::from_count(u64::MAX, 3),
+        Interval {
+            first: u64::MAX,
+            last: u64::MAX
+        }
+    );
+    let none = FirstCovering::new(alloc, &[])?;
+    assert_eq!(rt; none.at(0), None);
+    Ok(())
+}
+
+#[test]
+fn x86_contexts(rt: HostRuntime) -> Result<(), Fail> {
+    let words = [
+        (156, 1),
+        (160, 2),
+        (164, 3),
+        (168, 4),
+        (172, 5),
+        (176, 6),
+        (180, 7),
+        (184, 8),
+        (196, 9),
+    ];
+    let context = file_of(rt.alloc(), 716, &words)?;
+    assert_eq!(rt;
+        x86_registers(context.as_slice()),
+        Some([1, 2, 3, 4, 5, 6, 7, 8, 9])
+    );
+    let short = context.as_slice().get(..715).ok_or("no context")?;
+    assert_eq!(rt; x86_registers(short), None);
+    Ok(())
+}
+
 const PDB: &[u8; 32] =
     b"RSDS\x00\x01\x02\x03\x04\x05\x06\x07\x08\x09\x0a\x0b\x0c\x0d\x0e\x0f\x1a\x00\x00\x00a\\b.pdb\x00";
 
@@ -433,7 +537,7 @@ fn debug_files(rt: HostRuntime) -> Result<(), Fail> {
         let module = Module {
             base: 0,
             size: 0,
-            name: Text::of(rt.alloc(), "/usr/lib/libxul.so")?,
+            name: ModuleName::from_utf16(b"/\0u\0s\0r\0/\0l\0i\0b\0x\0u\0l\0.\0s\0o\0"),
             code_view,
         };
         assert_eq!(rt; debug_id(rt.alloc(), &module)?.as_str(), id);

@@ -20,7 +20,7 @@ fn holds(region: Region<'_>, address: u64, width: usize) -> bool
 }
 
 /// A word of a region.
-fn word_of_region(region: Region<'_>, address: u64, width: usize) -> u64
+pub fn word_of_region(region: Region<'_>, address: u64, width: usize) -> u64
     requires some { 1 ≤ width }
     requires fits { width ≤ 8 }
     requires held { IsTrue (holds_word address width (memory_entry region)) }
@@ -32,7 +32,7 @@ fn word_of_region(region: Region<'_>, address: u64, width: usize) -> u64
 }
 
 /// The stack of a thread.
-fn stack_region<'a>(thread: Thread<'a>) -> Region<'a>
+pub fn stack_region<'a>(thread: Thread<'a>) -> Region<'a>
     ensures { memory_entry result ≡ stack_of (thread_entry thread.entry) }
 {
     Region {

@@ -52,6 +52,10 @@ Values = List (Option ℕ)
 unfoldable pub values_by : (ℕ → Option ℕ) → Values
 values_by value = map value (range_with_len 0 33)
 
+-- registers that are all known
+abbrev pub known_values : List ℕ → Values
+known_values registers = values_by (slice_get registers)
+
 -- the registers of a frame
 pub record Registers : Type 0 where
   pub machine : Machine

@@ -14,7 +14,7 @@ use soc_cfi::{Rules, eval_bank};
 
 /// The address that is looked up for a frame: the instruction pointer's value in the first, one
 /// less in a caller, where it then lies within the call.
-fn lookup_address(first: bool, instruction: u64) -> u64
+pub fn lookup_address(first: bool, instruction: u64) -> u64
     ensures { result ≡ spec.lookup_address first instruction }
 {
     if first {

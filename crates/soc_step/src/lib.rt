@@ -11,8 +11,11 @@ mod step;
 mod surroundings;
 #[cfg(test)]
 mod tests;
+mod values;
 
+pub use cfi::lookup_address;
 pub use machine::{Machine, PLACES, Register, Width};
 pub use registers::Registers;
 pub use step::Caller;
 pub use surroundings::Surroundings;
+pub use values::known_values;

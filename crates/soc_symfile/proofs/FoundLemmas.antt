@@ -8,8 +8,8 @@ use Rattle.soc_symfile.specs.declared.entries.SourceLine.{SourceLine}
 use Rattle.soc_symfile.specs.Line.{ExtentEntry, LabelEntry, FileEntry}
 use Rattle.soc_symfile.specs.Records.{Records}
 use Rattle.soc_symfile.specs.Found.{greatest, nearest, only_if, covers, owner_at, file_named, is_hidden, public_at}
-use Rattle.soc_symfile.specs.Places.{IsLastOf, IsNearest, HasNone, AllAbove}
-use Rattle.soc_symfile.specs.Tables.{owner_address, label_address, file_number}
+use Rattle.soc_symfile.specs.inner.Places.{IsLastOf, IsNearest, HasNone, AllAbove}
+use Rattle.soc_symfile.specs.inner.Tables.{owner_address, label_address, file_number}
 
 -- the first record whose key passes
 find-at : {R : Type 0} (key : R → ℕ) (test : ℕ → Bool) (rs : List R) (at : ℕ) → at < length (map key rs) → test (get_or (map key rs) at 0) ≡ true

@@ -1,7 +1,7 @@
 -- The places of all records, sorted, are an index of their keys.
 use Rattle.std.proofs.Common.{◌≡◌, ℕ, ◌+◌, ◌<◌, ◌≤◌, false, List, [], ◌∷◌, length, map, get_or, refl, ◌∙◌, ap, arith, zero-add}
 use Rattle.std.specs.List.{enumerate_from, All, Contains}
-use Rattle.std.specs.List.Sorted.{IsPermutation, IsSorted}
+use Rattle.std.specs.List.Sorted.{IsPermutation, IsSorted, IsNonDecreasingBy}
 use Rattle.std.specs.Ordering.{is_lt, ordering_then, nat_cmp}
 use Rattle.std.specs.Cmp.{IsTotalOrder, then_total, on_total, nat_cmp_total}
 use Rattle.std.proofs.lemmas.Bool.Decides.{nat_tests}
@@ -11,7 +11,7 @@ use Rattle.std.proofs.lemmas.List.MinMax.{ranks_by}
 use Rattle.std.proofs.lemmas.List.Sorted.{sorted_far, All-permutation, Contains-permutation}
 use Rattle.std.proofs.lemmas.List.Elements.{Contains-get_or}
 use Rattle.soc_symfile.specs.declared.places.Place.{Place}
-use Rattle.soc_symfile.specs.Places.{IsIndex}
+use Rattle.soc_symfile.specs.inner.Places.{IsIndex}
 
 place_total : IsTotalOrder (λ (x y : Place). ordering_then (nat_cmp x.key y.key) (nat_cmp x.at y.at))
 place_total = then_total (on_total (λ (p : Place). p.key) nat_cmp_total) (on_total (λ (p : Place). p.at) nat_cmp_total)
@@ -71,3 +71,25 @@ pub index_of : {R : Type 0} (key_of : R → ℕ) (records : List R) (unsorted so
     → IsSorted (λ (x y : Place). ordering_then (nat_cmp x.key y.key) (nat_cmp x.at y.at)) sorted → IsIndex sorted (map key_of records)
 index_of key_of records unsorted sorted is moved order =
     index_by_keys (map key_of records) sorted (rw (is ∙ by_keys key_of 0 records) at moved) order
+
+-- the places of keys that are in order are an index of them as they stand
+index_in_order : (keys : List ℕ) → IsNonDecreasingBy (λ (p : Place). p.key) (places_of keys) → IsIndex (places_of keys) keys
+index_in_order keys order =
+    let within = λ (i : ℕ) (below : i < length (places_of keys)).
+    let inside : i < length keys = omega (arith, length-map (enumerate_from 0 keys) placed, length-enumerate_from 0 keys) in inside in
+    record {
+      sorted = order;
+      ties = λ i j d low high same. rw (place_at keys i d (within i (omega arith)), place_at keys j d (within j high)) low;
+      real = λ i d inside. all_real keys i d inside;
+      whole = λ at inside.
+          let e : Place = record { key = 0; at = 0 } in
+          let below : at < length (places_of keys) = omega (arith, length-map (enumerate_from 0 keys) placed, length-enumerate_from 0 keys) in
+          (at, below, λ d. ap (λ (p : Place). p.at) (place_at keys at d inside));
+    }
+
+pub index_as_is : {R : Type 0} (key_of : R → ℕ) (records : List R) (places : List Place)
+    → places ≡ map (λ (r : ℕ × R). record { key = key_of r.1; at = r.0 }) (enumerate_from 0 records)
+    → IsNonDecreasingBy (λ (p : Place). p.key) places → IsIndex places (map key_of records)
+index_as_is key_of records places is order =
+    let same = is ∙ by_keys key_of 0 records in
+    rw same (index_in_order (map key_of records) (rw same at order))

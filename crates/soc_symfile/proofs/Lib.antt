@@ -3,8 +3,10 @@ pub mod IndexLemmas
 pub mod LineLemmas
 pub mod NumberLemmas
 pub mod OwnerLemmas
+pub mod PathLemmas
 pub mod PlaceLemmas
 pub mod ReadingLemmas
 pub mod RecordLemmas
 pub mod TableLemmas
 pub mod WordLemmas
+pub mod SourceLemmas

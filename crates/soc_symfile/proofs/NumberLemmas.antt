@@ -1,6 +1,8 @@
 -- Numbers digit by digit.
 use Rattle.std.proofs.Common.{◌≡◌, ◌==◌, ℕ, ◌+◌, ◌*◌, ◌^◌, ◌<◌, ◌≤◌, Bool, true, false, List, [], ◌∷◌, length, take, get_or, Some, None, refl, arith, lit<, zero, suc, take_all}
-use Rattle.std.specs.Prelude.{nat_lt}
+use Rattle.std.specs.Prelude.{nat_lt, nat_le, ◌&&◌, ◌||◌}
+use Rattle.std.proofs.lemmas.Bool.{agree_below_at}
+use Rattle.soc_symfile.specs.declared.numbers.TheConstants.{DIGITS}
 use Rattle.std.specs.List.{list_all}
 use Rattle.std.specs.Char.{digit_value}
 use Rattle.std.specs.Str.Parse.{digits_value, digits_value_after, AllDigits}
@@ -91,3 +93,22 @@ room bytes i value inside short so_far =
     let power : 16 ^ i ≤ 16 ^ 15 = pow-le-pow_right {n = 16} (lit< tt) {i = i} {j = 15} (omega arith) in
     let is = so_far.1 in
     omega arith
+
+-- the table of digits
+is_right : ℕ → Bool
+is_right b = (get_or DIGITS b 0 == digit_value b) || (nat_le 16 (get_or DIGITS b 0) && nat_le 16 (digit_value b))
+
+all_right : (b : ℕ) → b < 256 → is_right b ≡ true
+unfolding is_right
+all_right b below = agree_below_at is_right (λ _. true) 256 b refl below
+
+digit_cases : (d value : ℕ) → ((d == value) || (nat_le 16 d && nat_le 16 value)) ≡ true → (d < 16 → d ≡ value) × (16 ≤ d → 16 ≤ value)
+digit_cases d value right = (λ low. grind (arith, nat_tests), λ high. grind (arith, nat_tests))
+
+pub table_digit : (b : ℕ) → b < 256 → (get_or DIGITS b 0 < 16 → get_or DIGITS b 0 ≡ digit_value b) × (16 ≤ get_or DIGITS b 0 → 16 ≤ digit_value b)
+unfolding is_right
+table_digit b below = digit_cases (get_or DIGITS b 0) (digit_value b) (all_right b below)
+
+pub hexadecimal-numeral : (bytes : List ℕ) (n : ℕ) → Some n ≡ hexadecimal bytes → is_numeral 16 bytes ≡ true
+unfolding hexadecimal
+hexadecimal-numeral bytes n is = grind (arith, nat_tests)

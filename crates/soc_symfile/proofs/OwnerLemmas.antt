@@ -4,7 +4,7 @@ use Rattle.std.specs.Prelude.{filter_map, take_while, is_none}
 use Rattle.std.specs.List.{cons_option}
 use Rattle.std.proofs.lemmas.List.Sums.{take_while-cons}
 use Rattle.soc_symfile.specs.Records.{onto_owner, owners_in}
-use Rattle.soc_symfile.specs.Tables.{onto_last}
+use Rattle.soc_symfile.specs.inner.Tables.{onto_last}
 
 -- the parts of an item and of those behind it, up to the next owner
 abbrev pub parts_from : {O P : Type 0} → Option O → Option P → List P → List P

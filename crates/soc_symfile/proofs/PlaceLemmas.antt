@@ -5,7 +5,7 @@ use Rattle.std.proofs.lemmas.Bool.Decides.{nat_tests}
 use Rattle.std.specs.List.Sorted.{IsPartitionPoint}
 use Rattle.std.proofs.Math.Nat.{lt_of_not-le}
 use Rattle.soc_symfile.specs.declared.places.Place.{Place}
-use Rattle.soc_symfile.specs.Places.{IsIndex, IsFirstOf, IsLastOf, IsNearest, HasNone, AllAbove}
+use Rattle.soc_symfile.specs.inner.Places.{IsIndex, IsFirstOf, IsLastOf, IsNearest, HasNone, AllAbove}
 
 lt_from_test : (a b : ℕ) → nat_lt a b ≡ true → a < b
 lt_from_test a b h = grind (arith, nat_tests)
@@ -133,6 +133,28 @@ nearest-there places keys offset n d (Some at) index point within some first = r
       let order = index.sorted p.0 (n - 1) d before (omega arith) in
       omega (arith, first.is);
 }
+
+-- the place before the count, where its key is above the one before it
+pub nearest-alone : (places : List Place) (keys : List ℕ) (offset n : ℕ) (d : Place) → IsIndex places keys
+    → IsPartitionPoint (λ place. place.key ≤ offset) (λ place. offset < place.key) places n → n ≤ length places → ¬ (n ≡ 0)
+    → (1 < n → (get_or places (n - 2) d).key < (get_or places (n - 1) d).key) → IsNearest keys offset (get_or places (n - 1) d).at
+nearest-alone places keys offset n d index point within some alone =
+    let real = index.real (n - 1) d (omega arith) in
+    nearest-there places keys offset n d (Some (get_or places (n - 1) d).at) index point within some (record {
+      inside = real.0;
+      is = real.1;
+      first = λ other inside same.
+          let p = place_of places keys other index inside in
+          let their_key = p.1.key d in
+          let early : p.0 < n = lt_of_not-le {n = n} {m = p.0} (λ (late : n ≤ p.0).
+          let high = point.1 p.0 d late p.1.inside in let low = point.0 (n - 1) d (omega arith) (omega arith) in omega arith) in
+          let last : n < p.0 + 2 = lt_of_not-le {n = p.0 + 2} {m = n} (λ (before : p.0 + 2 ≤ n).
+          let step = alone (omega arith) in
+          let order = index.sorted p.0 (n - 2) d (omega arith) (omega arith) in omega arith) in
+          let is : p.0 ≡ n - 1 = omega arith in
+          let here : (get_or places (n - 1) d).at ≡ other = rw is at (p.1.is d) in
+          omega arith;
+    })
 
 -- what a search for the first key at or above the key counts, and for the first one above it
 pub below_point : (places : List Place) (key n : ℕ) → IsPartitionPoint (λ place. nat_lt place.key key ≡ true) (λ place. nat_lt place.key key ≡ false) places n

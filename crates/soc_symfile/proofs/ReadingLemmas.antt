@@ -9,7 +9,7 @@ use Rattle.soc_symfile.specs.declared.error.SymError.TheVariants.{BadLine, NoMem
 use Rattle.soc_symfile.specs.Line.{LineEntry, Other, line_of, module_line}
 use Rattle.soc_symfile.specs.Records.{Records, records_in, records_of, owners_in, is_bad}
 use Rattle.soc_symfile.specs.Reading.{IsRefusal}
-use Rattle.soc_symfile.specs.Tables.{IsBadLine, outcome_after}
+use Rattle.soc_symfile.specs.inner.Tables.{IsBadLine, outcome_after}
 
 -- where a reader of a text stands: this was said, and what the whole text gives is what this and the lines that are left give
 pub record ReadsOn (whole : Result Records ℕ) (tables : Records) (number : ℕ) (left : List ℕ) (said : List LineEntry) : Type 0 where

@@ -7,7 +7,7 @@ use Rattle.std.proofs.lemmas.Bool.Decides.{nat_tests}
 use Rattle.soc_symfile.specs.declared.entries.SourceLine.{SourceLine}
 use Rattle.soc_symfile.specs.Line.{ExtentEntry, LabelEntry, FileEntry, LineEntry, Other, File, Function, Source, Public, Init, Delta}
 use Rattle.soc_symfile.specs.Records.{Records, records_in, owners_in, onto_owner, is_said, is_bad, function_in, source_in, public_in, file_in, init_in, delta_in}
-use Rattle.soc_symfile.specs.Tables.{Adds, onto_last, with_functions, with_publics, with_files, with_inits}
+use Rattle.soc_symfile.specs.inner.Tables.{Adds, onto_last, with_functions, with_publics, with_files, with_inits}
 use Rattle.soc_symfile.proofs.OwnerLemmas.{groups, groups_are, groups-owner, groups-other, groups-part, first_parts}
 
 none_more : {A Y : Type 0} (h : A → Option Y) (said : List A) (line : A) → h line ≡ None → filter_map h (said ++ line ∷ []) ≡ filter_map h said

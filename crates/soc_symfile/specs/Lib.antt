@@ -6,7 +6,5 @@ pub mod Cfi
 pub mod Path
 pub mod Views
 pub mod Reading
-pub mod Places
-pub mod Tables
-pub mod SymFile
 pub mod Examples
+pub mod inner

@@ -22,5 +22,5 @@ mod words;
 pub use cfi_span::CfiSpan;
 pub use error::SymError;
 pub use found::Found;
-pub use path::symbol_path;
+pub use path::{is_symbol_path, symbol_path};
 pub use symfile::SymFile;

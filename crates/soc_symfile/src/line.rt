@@ -1,13 +1,22 @@
 //! One line.
 ghost use Rattle.std.specs.Prelude.{◌≡◌, is_some, option_map};
-ghost use Rattle.soc_symfile.specs.Line.{fits, module_line, file_line, function_line, source_line, public_line, init_line, delta_line, stack_line, line_of};
+ghost use Rattle.soc_symfile.specs.Line.{fits, module_line, file_line, function_line, public_line, init_line, delta_line, stack_line, line_of};
 ghost use Rattle.soc_symfile.specs.Views.{line_entry};
+ghost use Rattle.soc_symfile.specs.inner.Sources.{source_behind, record_line};
 
 use crate::entries::{Extent, File, Label, Line, SourceLine};
 use crate::numbers::{decimal_number, hexadecimal, is_hexadecimal};
 use crate::words::{split_word, text_of, unmarked};
 
 const MODULE: &[u8] = b"MODULE";
+
+const FILE: &[u8] = b"FILE";
+
+const FUNC: &[u8] = b"FUNC";
+
+const PUBLIC: &[u8] = b"PUBLIC";
+
+const STACK: &[u8] = b"STACK";
 
 const CFI: &[u8] = b"CFI";
 
@@ -68,14 +77,12 @@ fn function_line(items: &[u8]) -> Option<Line<'_>>
     }))
 }
 
-#[tactic(auto, unfolding(crate::specs::Line::source_line))]
-fn source_line(items: &[u8]) -> Option<Line<'_>>
-    ensures { option_map line_entry result ≡ source_line items.now }
+/// A source line, of which the address is read, and these items stand behind it.
+fn source_behind(address: u64, items: &[u8]) -> Option<Line<'_>>
+    ensures { option_map line_entry result ≡ source_behind address items.now }
 {
-    let (address, items) = split_word(items);
     let (size, items) = split_word(items);
     let (line, file) = split_word(items);
-    let address = hexadecimal(address)?;
     let size = hexadecimal(size)?;
     let line = decimal_number(line)?;
     let file = decimal_number(file)?;
@@ -150,23 +157,33 @@ fn stack_line(items: &[u8]) -> Option<Line<'_>>
     }
 }
 
+/// What a line says that doesn't begin with an address, by its first word and what stands behind it.
+#[tactic(auto, unfolding(crate::specs::inner::Sources::record_line))]
+fn record_line<'a>(first: &[u8], items: &'a [u8]) -> Option<Line<'a>>
+    ensures { option_map line_entry result ≡ record_line first.now items.now }
+{
+    if first == FILE {
+        file_line(items)
+    } else if first == FUNC {
+        function_line(unmarked(items))
+    } else if first == PUBLIC {
+        public_line(unmarked(items))
+    } else if first == STACK {
+        stack_line(items)
+    } else if is_hexadecimal(first) {
+        None
+    } else {
+        Some(Line::Other)
+    }
+}
+
 /// What a line behind the first says, or nothing where it is bad.
-#[tactic(auto, unfolding(crate::specs::Line::line_of))]
 pub fn line_of(line: &[u8]) -> Option<Line<'_>>
     ensures { option_map line_entry result ≡ line_of line.now }
 {
     let (first, items) = split_word(line);
-    match first {
-        b"FILE" => file_line(items),
-        b"FUNC" => function_line(unmarked(items)),
-        b"PUBLIC" => public_line(unmarked(items)),
-        b"STACK" => stack_line(items),
-        _ => {
-            if is_hexadecimal(first) {
-                source_line(line)
-            } else {
-                Some(Line::Other)
-            }
-        }
+    match hexadecimal(first) {
+        Some(address) => source_behind(address, items),
+        None => record_line(first, items),
     }
 }

@@ -7,16 +7,31 @@ ghost use Rattle.soc_symfile.specs.Words.{is_numeral, hexadecimal, decimal_numbe
 /// The most digits that a hexadecimal number has.
 const MOST_DIGITS: usize = 16;
 
+/// The value of each byte as a hexadecimal digit, in either case; 255 of those that are none. A look
+/// into a table costs less than the branches on a digit's kind, which nobody can foresee.
+const DIGITS: [u8; 256] = [
+    255, 255, 255, 255, 255, 255, 255, 255, 255, 255, 255, 255, 255, 255, 255, 255, 255, 255, 255,
+    255, 255, 255, 255, 255, 255, 255, 255, 255, 255, 255, 255, 255, 255, 255, 255, 255, 255, 255,
+    255, 255, 255, 255, 255, 255, 255, 255, 255, 255, 0, 1, 2, 3, 4, 5, 6, 7, 8, 9, 255, 255, 255,
+    255, 255, 255, 255, 10, 11, 12, 13, 14, 15, 255, 255, 255, 255, 255, 255, 255, 255, 255, 255,
+    255, 255, 255, 255, 255, 255, 255, 255, 255, 255, 255, 255, 255, 255, 255, 255, 10, 11, 12, 13,
+    14, 15, 255, 255, 255, 255, 255, 255, 255, 255, 255, 255, 255, 255, 255, 255, 255, 255, 255,
+    255, 255, 255, 255, 255, 255, 255, 255, 255, 255, 255, 255, 255, 255, 255, 255, 255, 255, 255,
+    255, 255, 255, 255, 255, 255, 255, 255, 255, 255, 255, 255, 255, 255, 255, 255, 255, 255, 255,
+    255, 255, 255, 255, 255, 255, 255, 255, 255, 255, 255, 255, 255, 255, 255, 255, 255, 255, 255,
+    255, 255, 255, 255, 255, 255, 255, 255, 255, 255, 255, 255, 255, 255, 255, 255, 255, 255, 255,
+    255, 255, 255, 255, 255, 255, 255, 255, 255, 255, 255, 255, 255, 255, 255, 255, 255, 255, 255,
+    255, 255, 255, 255, 255, 255, 255, 255, 255, 255, 255, 255, 255, 255, 255, 255, 255, 255, 255,
+    255, 255, 255, 255, 255, 255, 255, 255, 255, 255, 255, 255, 255, 255, 255, 255, 255, 255, 255,
+    255, 255, 255,
+];
+
 /// The value of a hexadecimal digit, in either case.
 fn hexadecimal_digit(byte: u8) -> Option<u8>
     ensures { MatchOption result (16 ≤ digit_value byte) (λ digit. (digit ≡ digit_value byte) × (digit < 16)) }
 {
-    match byte {
-        b'0'..=b'9' => Some(byte - b'0'),
-        b'a'..=b'f' => Some(byte - b'a' + 10),
-        b'A'..=b'F' => Some(byte - b'A' + 10),
-        _ => None,
-    }
+    let digit = DIGITS[byte as usize];
+    if digit < 16 { Some(digit) } else { None }
 }
 
 fn decimal_digit(byte: u8) -> Option<u8>
@@ -31,7 +46,7 @@ fn decimal_digit(byte: u8) -> Option<u8>
 fn is_hexadecimal_digit(byte: u8) -> bool
     ensures { result ≡ nat_lt (digit_value byte) 16 }
 {
-    matches!(byte, b'0'..=b'9' | b'a'..=b'f' | b'A'..=b'F')
+    hexadecimal_digit(byte).is_some()
 }
 
 fn are_hexadecimal_digits(bytes: &[u8]) -> bool

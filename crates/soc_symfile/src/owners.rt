@@ -1,6 +1,6 @@
 //! Records that own others, which stand together in a table.
 ghost use Rattle.std.specs.Prelude.{◌≡◌, ◌≤◌, ◌<◌, ◌++◌, ◌∷◌, [], length, vec_len, slice_get, Some, OnOk, OnErr};
-ghost use Rattle.soc_symfile.specs.Tables.{AreLaidOut, Owns, with_end};
+ghost use Rattle.soc_symfile.specs.inner.Tables.{AreLaidOut, Owns, with_end};
 
 use crate::entries::{Extent, Owned, Owner};
 use soc_raw::NoMemory;

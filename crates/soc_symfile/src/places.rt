@@ -1,8 +1,8 @@
 //! Places of records, sorted by their addresses or numbers.
-ghost use Rattle.std.specs.Prelude.{◌≡◌, ◌<◌, ◌≤◌, ℕ, List, length, map, IfOk, MatchOption};
+ghost use Rattle.std.specs.Prelude.{◌≡◌, ◌<◌, ◌≤◌, ℕ, List, length, map, IfOk, IsTrue, MatchOption};
 ghost use Rattle.std.specs.List.{enumerate_from};
 ghost use Rattle.std.specs.List.Sorted.{IsNonDecreasingBy, IsPartitionPoint};
-ghost use Rattle.soc_symfile.specs.Places.{IsIndex, IsFirstOf, IsLastOf, IsNearest, HasNone, AllAbove};
+ghost use Rattle.soc_symfile.specs.inner.Places.{IsIndex, IsFirstOf, IsLastOf, IsNearest, HasNone, AllAbove};
 
 use crate::entries::Keyed;
 use soc_raw::NoMemory;
@@ -30,11 +30,27 @@ fn places_of<R: Keyed>(alloc: Global, records: &[R]) -> Result<Vec<Place>, NoMem
     Ok(places)
 }
 
+/// Whether no key is below the one before it.
+fn are_in_order(places: &[Place]) -> bool
+    ensures { IsTrue result → IsNonDecreasingBy (λ place. place.key) places.now }
+{
+    for at in 1..places.len() {
+        if places[at].key < places[at - 1].key {
+            return false;
+        }
+    }
+    true
+}
+
 /// The places of the records, sorted by their keys; those of one key stand in the records' order.
+/// Most tables are in order as they are.
 pub fn index<R: Keyed>(alloc: Global, records: &[R]) -> Result<Vec<Place>, NoMemory>
     ensures { IfOk result (λ places. IsIndex places.items (map R.key_of records.now)) }
 {
     let mut places = places_of(alloc, records)?;
+    if are_in_order(places.as_slice()) {
+        return Ok(places);
+    }
     places.sort_unstable();
     Ok(places)
 }
@@ -95,5 +111,9 @@ pub fn nearest(places: &[Place], offset: u64) -> Option<usize>
     if count == 0 {
         return None;
     }
-    first_of(places, places[count - 1].key)
+    let place = places[count - 1];
+    if count == 1 || places[count - 2].key < place.key {
+        return Some(place.at);
+    }
+    first_of(places, place.key)
 }

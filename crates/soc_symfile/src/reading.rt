@@ -4,7 +4,7 @@ ghost use Rattle.std.specs.Str.Lines.{lines};
 ghost use Rattle.soc_symfile.specs.Line.{Other, line_of};
 ghost use Rattle.soc_symfile.specs.Records.{records_in, records_of};
 ghost use Rattle.soc_symfile.specs.Reading.{Gives};
-ghost use Rattle.soc_symfile.specs.Tables.{outcome_after};
+ghost use Rattle.soc_symfile.specs.inner.Tables.{outcome_after};
 
 use crate::error::SymError;
 use crate::line::{is_module_line, line_of};

@@ -33,7 +33,7 @@ impl<'a> Model for SymFile<'a> {
 
     ghost Value = { Records };
 
-    ghost use Rattle.soc_symfile.specs.SymFile.{records_in_file, IsIndexed};
+    ghost use Rattle.soc_symfile.specs.inner.SymFile.{records_in_file, IsIndexed};
 
     ghost view = { records_in_file };
 

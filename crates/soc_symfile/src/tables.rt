@@ -28,7 +28,7 @@ impl<'a> Model for Tables<'a> {
 
     ghost Value = { Records };
 
-    ghost use Rattle.soc_symfile.specs.Tables.{records_held, AreTables};
+    ghost use Rattle.soc_symfile.specs.inner.Tables.{records_held, AreTables};
 
     ghost view = { records_held };
 
@@ -50,9 +50,9 @@ impl<'a> Tables<'a> {
         }
     }
 
-    ghost use Rattle.soc_symfile.specs.Places.{IsIndex};
-    ghost use Rattle.soc_symfile.specs.Tables.{owner_address, label_address, file_number};
-    ghost use Rattle.soc_symfile.specs.Tables.{Adds, onto_last, with_functions, with_publics, with_files, with_inits};
+    ghost use Rattle.soc_symfile.specs.inner.Places.{IsIndex};
+    ghost use Rattle.soc_symfile.specs.inner.Tables.{owner_address, label_address, file_number};
+    ghost use Rattle.soc_symfile.specs.inner.Tables.{Adds, onto_last, with_functions, with_publics, with_files, with_inits};
     ghost use Rattle.soc_symfile.specs.Views.{extent_entry, label_entry, file_entry, line_entry};
 
     /// Adds a function that has no source lines yet.

@@ -1,5 +1,5 @@
 //! Symbol files written by hand: each rule of a line, look-ups with their edges, and paths.
-use crate::{Found, SymError, SymFile, symbol_path};
+use crate::{Found, SymError, SymFile, is_symbol_path, symbol_path};
 use std::alloc::{AllocError, Global};
 use std::test::Fail;
 
@@ -368,6 +368,30 @@ fn paths(rt: HostRuntime) -> Result<(), Fail> {
     ] {
         let text = symbol_path(rt.alloc(), file, "ABC1")?;
         assert_eq!(rt; text.as_str(), path);
+        assert_eq!(rt; is_symbol_path(path, file, "ABC1"), true, "{path}");
     }
+    for path in [
+        "",
+        "xul.pdb",
+        "xul.pdb/ABC1/",
+        "xul.pdb/ABC1/xul.pdb.sym",
+        "xul.pdb/ABC1/xul.symb",
+        "xul.pdb/abc1/xul.sym",
+        "xul.pdb/ABC10/xul.sym",
+        "XUL.pdb/ABC1/xul.sym",
+    ] {
+        assert_eq!(rt; is_symbol_path(path, "xul.pdb", "ABC1"), false, "{path}");
+    }
+    Ok(())
+}
+
+/// What threads may share and hand over.
+fn threads_share<T: Send + Sync>(_value: &T) {}
+
+#[test]
+fn threads_share_a_file(rt: HostRuntime) -> Result<(), Fail> {
+    let file = SymFile::read(rt.alloc(), b"MODULE a b c d\n")?;
+    threads_share(&file);
+    assert_eq!(rt; file.in_func(0), false);
     Ok(())
 }

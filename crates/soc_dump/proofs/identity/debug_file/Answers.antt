@@ -14,7 +14,7 @@ pub returns-then-holds_build_id : goal.returns-then-holds_build_id
 returns-then-holds_build_id c =
     let pdb = sym c.names_pdb.ensures ∙ c.if-names_pdb.false in
     let build = sym c.holds_build_id.ensures ∙ c.if-holds_build_id.true in
-    let name = c.base_name-then-holds_build_id.ensures ∙ ap base_name_of c.as_str-then-holds_build_id.ensures in
+    let name = c.base_name-then-holds_build_id.ensures ∙ ap base_name_of (c.as_str-then-holds_build_id.ensures ∙ c.in_ok-path-2.ensures) in
     rw (debug_file_of-build (module_entry c.args.module.now) pdb build) (rw name at c.of-then-holds_build_id.ensures)
 
 pub returns : goal.returns

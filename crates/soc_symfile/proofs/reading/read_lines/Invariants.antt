@@ -1,7 +1,7 @@
 use Rattle.std.proofs.Common.{◌∷◌, [], ◌+◌, ◌≤◌, List, length, map}
 use Rattle.std.specs.Str.Lines.{lines}
 use Rattle.soc_symfile.specs.Line.{LineEntry, Other, line_of}
-use Rattle.soc_symfile.specs.Tables.{outcome_after}
+use Rattle.soc_symfile.specs.inner.Tables.{outcome_after}
 use Rattle.soc_symfile.proofs.ReadingLemmas.{ReadsOn}
 use Rattle.soc_symfile.proofs.reading.read_lines.Given as goal
 

@@ -1,5 +1,5 @@
 use Rattle.std.proofs.Common.{map}
-use Rattle.soc_symfile.specs.Tables.{file_number}
+use Rattle.soc_symfile.specs.inner.Tables.{file_number}
 use Rattle.soc_symfile.proofs.FoundLemmas.{file-none, file-some}
 use Rattle.soc_symfile.proofs.symfile.SymFile.file_named.Goals as goal
 

@@ -1,5 +1,5 @@
 use Rattle.std.proofs.Common.{map}
-use Rattle.soc_symfile.specs.Tables.{owner_address}
+use Rattle.soc_symfile.specs.inner.Tables.{owner_address}
 use Rattle.soc_symfile.proofs.FoundLemmas.{hidden-some, hidden-none}
 use Rattle.soc_symfile.proofs.symfile.SymFile.is_hidden.Goals as goal
 

@@ -1,5 +1,5 @@
 use Rattle.std.proofs.Common.{map}
-use Rattle.soc_symfile.specs.Tables.{label_address}
+use Rattle.soc_symfile.specs.inner.Tables.{label_address}
 use Rattle.soc_symfile.proofs.FoundLemmas.{public-none, public-hidden, public-shown}
 use Rattle.soc_symfile.proofs.symfile.SymFile.public_at.Goals as goal
 

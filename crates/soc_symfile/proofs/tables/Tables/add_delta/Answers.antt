@@ -1,7 +1,7 @@
 use Rattle.std.proofs.Common.{◌∙◌, ap, List}
 use Rattle.soc_symfile.proofs.TableLemmas.{part_laid, part_held}
 use Rattle.soc_symfile.specs.Line.{ExtentEntry, LabelEntry}
-use Rattle.soc_symfile.specs.Tables.{records_held, with_inits}
+use Rattle.soc_symfile.specs.inner.Tables.{records_held, with_inits}
 use Rattle.soc_symfile.specs.Views.{label_entry}
 use Rattle.soc_symfile.proofs.tables.Tables.add_delta.Goals as goal
 

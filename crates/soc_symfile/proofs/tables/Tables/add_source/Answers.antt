@@ -2,7 +2,7 @@ use Rattle.std.proofs.Common.{◌∙◌, ap, List}
 use Rattle.soc_symfile.proofs.TableLemmas.{part_laid, part_held}
 use Rattle.soc_symfile.specs.declared.entries.SourceLine.{SourceLine}
 use Rattle.soc_symfile.specs.Line.{ExtentEntry}
-use Rattle.soc_symfile.specs.Tables.{same_line, records_held, with_functions}
+use Rattle.soc_symfile.specs.inner.Tables.{same_line, records_held, with_functions}
 use Rattle.soc_symfile.proofs.tables.Tables.add_source.Goals as goal
 
 pub invariant_of-self-2 : goal.invariant_of-self-2

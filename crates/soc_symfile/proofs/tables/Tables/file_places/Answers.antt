@@ -1,5 +1,5 @@
 use Rattle.std.proofs.lemmas.Simd.{map-map}
-use Rattle.soc_symfile.specs.Tables.{file_number}
+use Rattle.soc_symfile.specs.inner.Tables.{file_number}
 use Rattle.soc_symfile.specs.Views.{file_entry}
 use Rattle.soc_symfile.proofs.tables.Tables.file_places.Goals as goal
 

@@ -1,5 +1,5 @@
 use Rattle.std.proofs.lemmas.Simd.{map-map}
-use Rattle.soc_symfile.specs.Tables.{owner_address}
+use Rattle.soc_symfile.specs.inner.Tables.{owner_address}
 use Rattle.soc_symfile.specs.Views.{owner_entry, label_entry}
 use Rattle.soc_symfile.proofs.tables.Tables.init_places.Goals as goal
 

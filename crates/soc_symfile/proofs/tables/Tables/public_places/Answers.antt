@@ -1,5 +1,5 @@
 use Rattle.std.proofs.lemmas.Simd.{map-map}
-use Rattle.soc_symfile.specs.Tables.{label_address}
+use Rattle.soc_symfile.specs.inner.Tables.{label_address}
 use Rattle.soc_symfile.specs.Views.{label_entry}
 use Rattle.soc_symfile.proofs.tables.Tables.public_places.Goals as goal
 

@@ -1,5 +1,0 @@
-use Rattle.std.proofs.Common.{◌≡◌, ◌==◌, ℕ, ◌<◌, false, get_or}
-use Rattle.soc_dump.proofs.identity.nul_place.Given as goal
-
-abbrev pub invariant-loop-at : goal.invariant-loop-at
-invariant-loop-at l = (k : ℕ) → k < l.at → (get_or l.bytes k 0 == 0) ≡ false

@@ -1,0 +1,4 @@
+pub mod Sources
+pub mod Places
+pub mod Tables
+pub mod SymFile
