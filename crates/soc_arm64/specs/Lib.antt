@@ -1,0 +1,4 @@
+pub mod Context
+pub mod Examples
+pub mod Machine
+pub mod Step

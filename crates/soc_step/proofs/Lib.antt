@@ -1,0 +1,3 @@
+pub mod FillLemmas
+pub mod PlaceLemmas
+pub mod ScanLemmas

@@ -1,0 +1,21 @@
+//! The frames of a thread's stack, on AMD64, x86 and ARM64.
+#![tactic(auto)]
+
+mod architecture;
+mod borrowed;
+mod copies;
+mod frames;
+mod loaded;
+mod machines;
+mod process;
+mod steps;
+mod symbols;
+mod walking;
+
+pub use architecture::Architecture;
+pub use borrowed::BorrowedFrame;
+pub use frames::Frames;
+pub use loaded::Loaded;
+pub use process::Process;
+pub use symbols::Symbols;
+pub use walking::{Start, start_of, walk};
