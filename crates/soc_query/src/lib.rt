@@ -16,8 +16,6 @@ mod query;
 mod reading;
 mod seen;
 mod selection;
-#[cfg(test)]
-mod tests;
 
 pub use answer::{Answer, Facet, Facets, Fields, Hits, Term, Terms};
 pub use answering::answer_of;
