@@ -14,8 +14,6 @@ mod rules;
 mod shutdown;
 mod spaces;
 mod stack;
-#[cfg(test)]
-mod tests;
 
 pub use builder::{SignatureBuilder, signature};
 pub use input::{SigInput, Signature};
