@@ -1,7 +1,7 @@
 -- What follows from the model of a disk: contents after a write, images of a torn write, and calls one after another.
 use Rattle.std.proofs.Common.{◌≡◌, refl, inl, inr, ℕ, ◌+◌, ◌-◌, ◌≤◌, min, max, List, [], ◌∷◌, ◌++◌, length, take, drop, replicate, sym, ◌∙◌, ap, subst, arith, add-zero}
 use Rattle.std.proofs.lemmas.List.{append-nil, take-append-drop, length-append, length-take, length-drop, take_all, drop_all, take-take, drop-drop}
-pub use Rattle.soc_edge.specs.inner.DiskLaws.{Tears-same, Tears-written}
+pub use Rattle.soc_edge.specs.inner.DiskLaws.{Tears-same, Tears-written, length-front}
 use Rattle.soc_edge.specs.Disk.{written, Tears, Only, Follows, DiskTold, IsDisk, GoesOn, LeavesOnly, IsTorn, Looks, MayTear}
 
 -- a write that begins within the content

@@ -3,9 +3,8 @@ use Rattle.std.proofs.Common.{◌≡◌, ◌⊎◌, inl, inr, ℕ, zero, suc, �
 use Rattle.std.specs.Option.{option_map}
 use Rattle.std.proofs.lemmas.List.{append-nil, length-append, take_all, take_min, take-take, take-append-le, drop_at, take-replicate}
 use Rattle.std.proofs.Math.Seq.{take-append-add}
-use Rattle.soc_edge.proofs.Disks.{take-Tears, drop-Tears, Tears-same, GoesOn-append, LeavesOnly-weaker, LeavesOnly-append}
+use Rattle.soc_edge.proofs.Disks.{take-Tears, drop-Tears, Tears-same, length-front, GoesOn-append, LeavesOnly-weaker, LeavesOnly-append}
 use Rattle.soc_edge.specs.Disk.{written, Tears, WhereTold, DiskTold, IsTorn, MayTear}
-use Rattle.soc_edge.specs.inner.DiskLaws.{length-front}
 
 -- a range within another
 pub Tears-wider : (place count from size : ℕ) (before after : List ℕ) → Tears from size before after → place ≤ from → from + size ≤ place + count → Tears place count before after

@@ -4,7 +4,7 @@ use Rattle.std.specs.Prelude.{insert, remove}
 use Rattle.std.proofs.lemmas.List.{get_or_default}
 use Rattle.soc_store.specs.Orders.{product_cmp}
 use Rattle.soc_store.specs.Stored.{counted, one_more}
-use Rattle.soc_store.specs.Postings.{uncounted, one_less, AreCounts}
+use Rattle.soc_store.specs.inner.Postings.{uncounted, one_less, AreCounts}
 use Rattle.std.specs.List.{AllByRecursion}
 use Rattle.std.specs.Option.{IfSome}
 use Rattle.std.proofs.lemmas.Bool.{lt-ltb, le-ltb, cond_both}

@@ -9,7 +9,7 @@ use Rattle.soc_schema.specs.declared.value.Value.{Value}
 use Rattle.soc_store.specs.Orders.{value_cmp}
 use Rattle.soc_store.specs.Tables.{Rising, FindsKey}
 use Rattle.soc_store.specs.Stored.{counted}
-use Rattle.soc_store.specs.Postings.{Posting, posted, with_posting, with_place, places_in, counts_in, without_place, uncounted, shrunk, if_any, unposted, without_posting, IsPosting, ArePostings, index_of}
+use Rattle.soc_store.specs.inner.Postings.{Posting, posted, with_posting, with_place, places_in, counts_in, without_place, uncounted, shrunk, if_any, unposted, without_posting, IsPosting, ArePostings, index_of}
 use Rattle.std.specs.Option.{IfSome}
 use Rattle.soc_store.specs.Tables.{at_key}
 use Rattle.soc_schema.specs.declared.value.Cell.{Cell}

@@ -3,7 +3,7 @@ use Rattle.std.proofs.Common.{◌≡◌, ◌≢◌, eqb, subst, ℕ, zero, suc, 
 use Rattle.std.specs.Prelude.{insert, remove}
 use Rattle.std.specs.List.{AllByRecursion}
 use Rattle.std.proofs.lemmas.Bool.{ltb-true, ltb-false, lt-ltb, le-ltb, cond_both, cases_lt, eq-eqb, ne_eqb, eqb-true}
-use Rattle.soc_store.specs.Postings.{PlacesInOrder, with_place, without_place}
+use Rattle.soc_store.specs.inner.Postings.{PlacesInOrder, with_place, without_place}
 
 all_at : (P : ℕ → Type 0) (ps : List ℕ) (i : ℕ) → AllByRecursion P ps → i < length ps → P (get_or ps i 0)
 all_at P [] i all lt = absurd (omega arith)

@@ -12,7 +12,7 @@ use Rattle.soc_schema.specs.Rows.{value_of}
 use Rattle.soc_store.specs.Orders.{value_cmp}
 use Rattle.soc_store.specs.Tables.{Rising, at_key, alter}
 use Rattle.soc_store.specs.Stored.{PlacesRise, with_row, without_row, row_at, is_value, rows_with, tally, product_of, values_of, with_distinct, counted}
-use Rattle.soc_store.specs.Postings.{Posting, posted, with_posting, with_place, places_in, counts_in, index_of}
+use Rattle.soc_store.specs.inner.Postings.{Posting, posted, with_posting, with_place, places_in, counts_in, index_of}
 use Rattle.soc_store.proofs.Tables.{at_key-same, at_key-other, keys_alter}
 use Rattle.soc_store.proofs.OrderLemmas.{value_total, value_exact}
 use Rattle.soc_store.proofs.IndexLemmas.{rising_posting, postings_commute, value}

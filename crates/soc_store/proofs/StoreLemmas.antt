@@ -17,7 +17,7 @@ use Rattle.soc_schema.specs.declared.value.Cell.{Cell}
 use Rattle.soc_store.specs.Orders.{value_cmp}
 use Rattle.soc_store.specs.Tables.{at_key, FindsKey}
 use Rattle.soc_store.specs.Stored.{PlacesRise, rows_in, values_of, places_of, counts_of, product_of, row_at, with_row, without_row}
-use Rattle.soc_store.specs.Postings.{Posting, AreKept, index_of, places_in, counts_in, with_posting, without_posting, ArePostings}
+use Rattle.soc_store.specs.inner.Postings.{Posting, AreKept, index_of, places_in, counts_in, with_posting, without_posting, ArePostings}
 use Rattle.soc_store.proofs.IndexLemmas.{value, map-insert, map-remove, postings_commute, postings_posted, postings_of_rows, without_posting-with_posting}
 use Rattle.soc_store.proofs.Tables.{alter_found, alter_gap, prune_goes, prune_gap, at_key-found, at_key-gap, rising_alter, rising_prune, below_from, above_from, equal_at}
 use Rattle.soc_store.proofs.RowIndexLemmas.{values_from_index, tells_rows, index_of-with_row, index_of-apart, with_old}

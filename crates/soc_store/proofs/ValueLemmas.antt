@@ -6,7 +6,7 @@ use Rattle.std.proofs.lemmas.List.{get_or-set_same, get_or-set_other, get_or_def
 use Rattle.soc_schema.specs.declared.value.Value.{Value}
 use Rattle.soc_schema.specs.declared.value.Cell.{Cell}
 use Rattle.soc_schema.specs.Rows.{value_of, cell, RisesFrom, IsRow}
-use Rattle.soc_store.specs.Postings.{Posting}
+use Rattle.soc_store.specs.inner.Postings.{Posting}
 
 -- a row's next cell, and what is left behind it
 pub next_cell : (row : List Cell) (i : ℕ) (s t : List Cell) (c : Cell) → s ≡ drop i row → s ≡ c ∷ t → (slice_get row i ≡ Some c) × (t ≡ drop (i + 1) row)

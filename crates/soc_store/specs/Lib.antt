@@ -1,4 +1,4 @@
 pub mod Orders
-pub mod Postings
 pub mod Stored
 pub mod Tables
+pub mod inner

@@ -2,7 +2,7 @@
 ghost use Rattle.std.specs.Prelude.{◌≡◌, OnOk, OnErr, IfOk};
 ghost use Rattle.std.specs.Option.{option_copied};
 ghost use Rattle.soc_store.specs.Orders.{product_cmp};
-ghost use Rattle.soc_store.specs.Postings.{uncounted};
+ghost use Rattle.soc_store.specs.inner.Postings.{uncounted};
 ghost use Rattle.soc_store.specs.Stored.{counted};
 ghost use Rattle.soc_store.specs.Tables.{FindsKey, Rising};
 

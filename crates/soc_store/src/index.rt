@@ -2,7 +2,7 @@
 ghost use Rattle.std.specs.Prelude.{◌≡◌, ◌<◌, ◌≤◌, ℕ, List, [], None, Some, OnOk, OnErr, IfOk, length, map, slice_get, option_map};
 ghost use Rattle.std.specs.Option.{option_copied};
 ghost use Rattle.soc_store.specs.Orders.{value_cmp};
-ghost use Rattle.soc_store.specs.Postings.{Posting, with_posting, without_posting};
+ghost use Rattle.soc_store.specs.inner.Postings.{Posting, with_posting, without_posting};
 ghost use Rattle.soc_store.specs.Tables.{FindsKey, Rising, at_key};
 
 use crate::order::compare_values;
@@ -22,7 +22,7 @@ pub(crate) struct Index {
 impl Model for Index {
     ghost use Rattle.std.specs.Prelude.{List, map};
     ghost use Rattle.soc_store.specs.Orders.{value_cmp};
-    ghost use Rattle.soc_store.specs.Postings.{Posting};
+    ghost use Rattle.soc_store.specs.inner.Postings.{Posting};
     ghost use Rattle.soc_store.specs.Tables.{Rising};
 
     ghost Value = { List Posting };

@@ -29,7 +29,7 @@ impl Model for Store {
     ghost use Rattle.std.specs.Prelude.{List, ℕ, ◌≡◌, length};
     ghost use Rattle.soc_schema.specs.declared.value.Cell.{Cell};
     ghost use Rattle.soc_store.specs.Stored.{PlacesRise};
-    ghost use Rattle.soc_store.specs.Postings.{AreKept};
+    ghost use Rattle.soc_store.specs.inner.Postings.{AreKept};
 
     ghost Value = { List (ℕ × List Cell) };
 

@@ -1,7 +1,7 @@
 // A value with the places of the rows that have it and their counts by product.
 ghost use Rattle.std.specs.Prelude.{◌≡◌, ◌<◌, ◌≤◌, ℕ, List, [], None, IsTrue, ◌↔◌, Some, OnOk, OnErr, IfOk, length, slice_index};
 ghost use Rattle.std.specs.Option.{option_copied};
-ghost use Rattle.soc_store.specs.Postings.{PlacesInOrder, posted, shrunk, without_place};
+ghost use Rattle.soc_store.specs.inner.Postings.{PlacesInOrder, posted, shrunk, without_place};
 
 use crate::counts::{ProductCount, count_less, count_one};
 use soc_raw::NoMemory;
@@ -19,7 +19,7 @@ pub(crate) struct Term {
 
 impl Model for Term {
     ghost use Rattle.soc_store.specs.Orders.{product_cmp};
-    ghost use Rattle.soc_store.specs.Postings.{Posting, PlacesInOrder};
+    ghost use Rattle.soc_store.specs.inner.Postings.{Posting, PlacesInOrder};
     ghost use Rattle.soc_store.specs.Tables.{Rising};
 
     ghost Value = { Posting };

@@ -2,7 +2,7 @@
 ghost use Rattle.std.specs.Prelude.{◌≡◌, ◌<◌, ◌≤◌, ℕ, [], OnOk, OnErr, length, slice_index_or, take};
 ghost use Rattle.std.specs.Option.{option_copied};
 ghost use Rattle.soc_schema.specs.Rows.{value_of};
-ghost use Rattle.soc_store.specs.Postings.{ArePostings, with_posting, without_posting};
+ghost use Rattle.soc_store.specs.inner.Postings.{ArePostings, with_posting, without_posting};
 
 use crate::index::Index;
 use soc_raw::NoMemory;

@@ -2,7 +2,7 @@ use Rattle.std.proofs.Common.{◌≡◌, ◌-◌, ◌≤◌, length, map}
 use Rattle.std.specs.declared.cmp.Ordering.TheVariants.{Less, Greater}
 use Rattle.std.specs.List.{AllWithin}
 use Rattle.soc_store.specs.Orders.{value_cmp}
-use Rattle.soc_store.specs.Postings.{Posting}
+use Rattle.soc_store.specs.inner.Postings.{Posting}
 use Rattle.soc_store.proofs.index.place_in.Given as goal
 
 abbrev pub invariant-loop-low : goal.invariant-loop-low

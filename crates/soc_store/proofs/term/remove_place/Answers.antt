@@ -1,7 +1,7 @@
 use Rattle.std.proofs.Common.{◌∙◌, Ok, Err, ⊎_elim, ap, sym, subst, arith, ◌<◌, ◌≤◌, ◌≢◌, ℕ, length, get_or}
 use Rattle.std.proofs.lemmas.Bool.{cases_lt}
 use Rattle.std.proofs.lemmas.List.Sorted.{searched}
-use Rattle.soc_store.specs.Postings.{PlacesInOrder, without_place}
+use Rattle.soc_store.specs.inner.Postings.{PlacesInOrder, without_place}
 use Rattle.soc_store.proofs.PlaceLemmas.{without_place-remove, without_place-none, places_rise}
 use Rattle.soc_store.proofs.term.remove_place.Goals as goal
 

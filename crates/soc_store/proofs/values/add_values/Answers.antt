@@ -2,7 +2,7 @@ use Rattle.std.proofs.Common.{◌∙◌, arith, set, refl, [], take, ap, get_or}
 use Rattle.std.proofs.lemmas.List.{set-get_or}
 use Rattle.std.specs.Option.{option_copied}
 use Rattle.soc_schema.specs.Rows.{value_of, cell}
-use Rattle.soc_store.specs.Postings.{with_posting, without_posting}
+use Rattle.soc_store.specs.inner.Postings.{with_posting, without_posting}
 use Rattle.soc_store.proofs.ValueLemmas.{value_step_at, next_cell, all_taken}
 use Rattle.soc_store.proofs.IndexLemmas.{without_posting-with_posting}
 use Rattle.soc_store.proofs.values.add_values.Goals as goal

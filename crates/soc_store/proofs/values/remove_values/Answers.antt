@@ -1,7 +1,7 @@
 use Rattle.std.proofs.Common.{◌≡◌, ◌+◌, ◌-◌, ◌∙◌, arith, refl, ap, take, get_or, []}
 use Rattle.std.specs.Option.{option_copied}
 use Rattle.soc_schema.specs.Rows.{value_of, cell}
-use Rattle.soc_store.specs.Postings.{without_posting}
+use Rattle.soc_store.specs.inner.Postings.{without_posting}
 use Rattle.soc_store.proofs.ValueLemmas.{value_step_at, next_cell, none_after}
 use Rattle.soc_store.proofs.values.remove_values.Goals as goal
 

@@ -1,7 +1,7 @@
 use Rattle.std.proofs.Common.{◌≡◌, ◌-◌, ◌≤◌, ℕ, [], get_or, take, drop}
 use Rattle.std.specs.Option.{option_copied}
 use Rattle.soc_schema.specs.Rows.{value_of}
-use Rattle.soc_store.specs.Postings.{without_posting}
+use Rattle.soc_store.specs.inner.Postings.{without_posting}
 use Rattle.soc_store.proofs.values.remove_values.Given as goal
 
 abbrev pub invariant-loop-field : goal.invariant-loop-field

@@ -1,7 +1,7 @@
 use Rattle.std.proofs.Common.{◌≡◌, ◌∙◌, sym, subst, ap, Some, Ok, Err, map}
 use Rattle.std.specs.Option.{option_copied}
 use Rattle.std.proofs.lemmas.Result.{err_from_is_err_and}
-use Rattle.soc_store.specs.Postings.{Posting, posted, with_posting}
+use Rattle.soc_store.specs.inner.Postings.{Posting, posted, with_posting}
 use Rattle.soc_store.specs.Orders.{value_cmp}
 use Rattle.soc_store.specs.Tables.{Rising, FindsKey}
 use Rattle.soc_store.proofs.IndexLemmas.{added_found, kept_found, added_gap, rising_posting, value}

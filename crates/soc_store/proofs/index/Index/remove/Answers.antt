@@ -1,6 +1,6 @@
 use Rattle.std.proofs.Common.{◌≡◌, ◌∙◌, sym, subst, ap, Some, Ok, Err, map, refl}
 use Rattle.std.specs.Option.{option_copied}
-use Rattle.soc_store.specs.Postings.{without_posting, shrunk}
+use Rattle.soc_store.specs.inner.Postings.{without_posting, shrunk}
 use Rattle.soc_store.specs.Orders.{value_cmp}
 use Rattle.soc_store.specs.Tables.{Rising, FindsKey}
 use Rattle.soc_store.proofs.IndexLemmas.{taken_found, gone_found, taken_gap, rising_unposted, value}

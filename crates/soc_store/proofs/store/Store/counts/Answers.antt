@@ -1,6 +1,6 @@
 use Rattle.std.proofs.Common.{◌∙◌, ap, subst}
 use Rattle.soc_schema.specs.Fields.{IsField}
-use Rattle.soc_store.specs.Postings.{counts_in}
+use Rattle.soc_store.specs.inner.Postings.{counts_in}
 use Rattle.soc_store.proofs.StoreLemmas.{counts_kept}
 use Rattle.soc_store.proofs.store.Store.counts.Goals as goal
 

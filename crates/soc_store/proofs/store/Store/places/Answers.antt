@@ -1,6 +1,6 @@
 use Rattle.std.proofs.Common.{◌∙◌, ap, subst}
 use Rattle.soc_schema.specs.Fields.{IsField}
-use Rattle.soc_store.specs.Postings.{places_in}
+use Rattle.soc_store.specs.inner.Postings.{places_in}
 use Rattle.soc_store.proofs.StoreLemmas.{places_kept}
 use Rattle.soc_store.proofs.store.Store.places.Goals as goal
 

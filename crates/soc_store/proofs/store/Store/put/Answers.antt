@@ -1,6 +1,6 @@
 use Rattle.std.proofs.Common.{◌∙◌, sym, subst, arith}
 use Rattle.std.specs.Option.{option_copied}
-use Rattle.soc_store.specs.Postings.{AreKept}
+use Rattle.soc_store.specs.inner.Postings.{AreKept}
 use Rattle.soc_store.specs.Stored.{PlacesRise, row_at}
 use Rattle.soc_store.proofs.StoreLemmas.{no_row, at_place, rise_with, postings_kept, kept_inserted, kept_replaced, kept_undone}
 use Rattle.soc_store.proofs.store.Store.put.Goals as goal

@@ -1,6 +1,6 @@
 use Rattle.std.proofs.Common.{sym, subst, arith}
 use Rattle.std.specs.Option.{option_copied}
-use Rattle.soc_store.specs.Postings.{AreKept}
+use Rattle.soc_store.specs.inner.Postings.{AreKept}
 use Rattle.soc_store.specs.Stored.{PlacesRise}
 use Rattle.soc_store.proofs.StoreLemmas.{at_place, rise_without, kept_removed}
 use Rattle.soc_store.proofs.store.Store.take.Goals as goal

@@ -2,7 +2,7 @@ use Rattle.std.proofs.Common.{◌∙◌, ◌<◌, ap, sym, subst, Some}
 use Rattle.std.specs.Prelude.{slice_get}
 use Rattle.soc_schema.specs.Fields.{IsField}
 use Rattle.soc_store.specs.Stored.{places_of, counts_of}
-use Rattle.soc_store.specs.Postings.{places_in, counts_in}
+use Rattle.soc_store.specs.inner.Postings.{places_in, counts_in}
 use Rattle.soc_store.proofs.StoreLemmas.{values_kept, count_kept, places_kept, counts_kept}
 use Rattle.soc_store.proofs.store.Store.term_at.Goals as goal
 

@@ -1,6 +1,6 @@
 use Rattle.std.proofs.Common.{◌≡◌, ◌∙◌, sym, subst, ap, rules}
 use Rattle.std.specs.Option.{option_copied}
-use Rattle.soc_store.specs.Postings.{Posting, PlacesInOrder, with_place, posted}
+use Rattle.soc_store.specs.inner.Postings.{Posting, PlacesInOrder, with_place, posted}
 use Rattle.soc_store.proofs.PlaceLemmas.{order-with_place, placed}
 use Rattle.soc_store.proofs.CountLemmas.{rising_after}
 use Rattle.soc_store.proofs.term.Term.add.Goals as goal

@@ -1,6 +1,6 @@
 use Rattle.std.proofs.Common.{sym, subst}
 use Rattle.std.specs.Option.{option_copied}
-use Rattle.soc_store.specs.Postings.{PlacesInOrder}
+use Rattle.soc_store.specs.inner.Postings.{PlacesInOrder}
 use Rattle.soc_store.proofs.PlaceLemmas.{order-without_place}
 use Rattle.soc_store.proofs.CountLemmas.{rising_uncounted}
 use Rattle.soc_store.proofs.term.Term.remove.Goals as goal

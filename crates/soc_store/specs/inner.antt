@@ -1,0 +1,2 @@
+-- Words of private contracts and of proofs: what the store keeps of a field.
+pub mod Postings
