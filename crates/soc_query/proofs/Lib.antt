@@ -1,7 +1,10 @@
 pub mod AnswerLemmas
+pub mod AnyOrderLemmas
 pub mod BitLemmas
+pub mod CandidateLemmas
 pub mod FacetLemmas
 pub mod GrantLemmas
+pub mod GroupLemmas
 pub mod HitLemmas
 pub mod JsonLemmas
 pub mod OrderLemmas
@@ -11,3 +14,4 @@ pub mod SeenLemmas
 pub mod SelectionLemmas
 pub mod SortLemmas
 pub mod TextLemmas
+pub mod WalkLemmas

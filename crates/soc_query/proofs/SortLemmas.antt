@@ -55,11 +55,11 @@ all_at P (x ∷ xs) each = (each 0 x (omega arith), all_at P xs (λ k d h. each 
 
 module _ {X : Type 0} (R : X → X → Ordering) (o : IsTotalOrder R) where
   -- nothing is above what stands behind it
-  abbrev Up : List X → Type 0
+  abbrev pub Up : List X → Type 0
   Up [] = Unit {0}
   Up (x ∷ xs) = AllByRecursion (λ y. is_gt (R x y) ≡ false) xs × Up xs
 
-  abbrev of_kind : X → List X → List X
+  abbrev pub of_kind : X → List X → List X
   of_kind u xs = filter (λ y. is_eq (R u y)) xs
 
   swapped : (x y : X) (a b : Bool) (u : X) (F : List X) → is_gt (R x y) ≡ true → is_eq (R u x) ≡ a → is_eq (R u y) ≡ b
@@ -80,7 +80,7 @@ module _ {X : Type 0} (R : X → X → Ordering) (o : IsTotalOrder R) where
         | false ↦ λ _. refl
       ] refl
 
-  order_kind : (u : X) (xs : List X) → of_kind u (in_order R xs) ≡ of_kind u xs
+  pub order_kind : (u : X) (xs : List X) → of_kind u (in_order R xs) ≡ of_kind u xs
   order_kind u [] = refl
   order_kind u (x ∷ xs) = put_kind u x (in_order R xs) ∙ ap (λ l. cond (is_eq (R u x)) (x ∷ l) l) (order_kind u xs)
 
@@ -101,7 +101,7 @@ module _ {X : Type 0} (R : X → X → Ordering) (o : IsTotalOrder R) where
         | false ↦ λ under. ((under, below_all x y ys under up.0), up)
       ] refl
 
-  order_up : (xs : List X) → Up (in_order R xs)
+  pub order_up : (xs : List X) → Up (in_order R xs)
   order_up [] = tt
   order_up (x ∷ xs) = put_up x (in_order R xs) (order_up xs)
 
@@ -138,7 +138,7 @@ module _ {X : Type 0} (R : X → X → Ordering) (o : IsTotalOrder R) where
   tail_kinds x false F G e = e
 
   -- lists that rise and have the same of each kind in the same order are the same
-  unique : (ys zs : List X) → Up ys → Up zs → ((u : X) → of_kind u ys ≡ of_kind u zs) → ys ≡ zs
+  pub unique : (ys zs : List X) → Up ys → Up zs → ((u : X) → of_kind u ys ≡ of_kind u zs) → ys ≡ zs
   unique [] [] up upz kinds = refl
   unique [] (z ∷ zs) up upz kinds = let e : [] ≡ z ∷ of_kind z zs = kinds z ∙ kind_itself z zs in cc
   unique (y ∷ ys) [] up upz kinds = let e : y ∷ of_kind y ys ≡ [] = sym (kind_itself y ys) ∙ kinds y in cc

@@ -6,7 +6,7 @@ use crate::answer::{Answer, Fields};
 use crate::facet::facets;
 use crate::hits::hits;
 use crate::query::Query;
-use crate::selection::{matching, matching_count};
+use crate::selection::{candidates, matching, selected_count};
 use soc_edge::Steps;
 use soc_raw::NoMemory;
 use soc_store::Store;
@@ -25,8 +25,9 @@ pub fn answer_of<L: Ledger>(
     ensures few { steps.new ≤ steps.old + (answer_of query.now store.now).total }
 {
     let set = matching(alloc, store, query)?;
-    let total = matching_count(store, &set);
-    let hits = hits(alloc, store, query, &set, steps)?;
+    let among = candidates(store, query);
+    let total = selected_count(store, among, &set);
+    let hits = hits(alloc, store, query, among, &set, total, steps)?;
     let facets = facets(alloc, store, query, &set)?;
     let columns = Fields::from(Vec::from_slice(alloc, query.columns())?);
     Ok(Answer {

@@ -9,6 +9,7 @@ ghost use Rattle.soc_query.specs.inner.Selections.{as_term, selected};
 use crate::answer::{Facet, Facets, Term, Terms};
 use crate::places::PlaceSet;
 use crate::query::Query;
+use crate::selection::count_of;
 use soc_raw::NoMemory;
 use soc_schema::{Field, Value};
 use soc_store::Store;
@@ -85,20 +86,10 @@ fn counted_values<'a>(
     let mut counted = Vec::new(alloc);
     for i in 0..store.values(field) {
         let (value, places, _) = store.term_at(field, i);
-        let count = selected_among(set, places);
+        let count = count_of(set, places) as u64;
         if count > 0 {
             counted.push(Counted { value, count })?;
         }
     }
     Ok(counted)
-}
-
-/// How many of the places are selected.
-fn selected_among(set: &Option<PlaceSet>, places: &[u32]) -> u64
-    ensures { result ≡ count_by (selected set.now) places.now }
-{
-    match set {
-        None => places.len() as u64,
-        Some(set) => set.count(places) as u64,
-    }
 }

@@ -3,13 +3,14 @@ ghost use Rattle.std.specs.Prelude.{◌≡◌, ◌+◌, ◌≤◌, ◌==◌, ℕ
 ghost use Rattle.std.specs.List.{filter, filter_map, list_any};
 ghost use Rattle.std.specs.Option.{option_copied};
 ghost use Rattle.soc_query.specs.Answers.{columns_of, hits_of, in_order, row_order, value_order};
-ghost use Rattle.soc_query.specs.inner.Selections.{row_of, selected};
+ghost use Rattle.soc_query.specs.inner.Selections.{AreAmong, row_of, selected};
 
 use crate::answer::Hits;
 use crate::part::Sort;
 use crate::places::PlaceSet;
 use crate::query::Query;
-use crate::selection::matching_places;
+use crate::selection::selected_places;
+use crate::walk::walked_rows;
 use soc_edge::Steps;
 use soc_raw::NoMemory;
 use soc_schema::{Field, Row, Value};
@@ -18,15 +19,21 @@ use std::alloc::Global;
 use std::cmp::Ordering;
 use std::sync::ledger::Ledger;
 
-/// The hits that a query asks for among the selected rows. Each row that may be a hit is read once, and none where no
-/// hit is asked.
+/// As many selected rows as are read and sorted at once. Further ones are walked to.
+const FEW: usize = 1_000;
+
+/// The hits that a query asks for among the selected rows, which are among these places. Each row that may be a hit is
+/// read once at most, and none where no hit is asked.
 pub(crate) fn hits<L: Ledger>(
     alloc: Global,
     store: &Store,
     query: &Query,
+    among: Option<&[u32]>,
     set: &Option<PlaceSet>,
+    total: usize,
     steps: &mut Steps<L>,
 ) -> Result<Hits, NoMemory>
+    requires { AreAmong (selected set.now) store.now (option_copied among) }
     ensures value { IfOk result (λ hits. hits ≡ hits_of query.now (filter (λ s. selected set.now s.0) store.now)) }
     ensures none { query.now.number ≡ 0 → steps.new ≡ steps.old }
     ensures few { steps.new ≤ steps.old + length (filter (λ s. selected set.now s.0) store.now) }
@@ -34,10 +41,47 @@ pub(crate) fn hits<L: Ledger>(
     if query.number() == 0 {
         return Ok(Hits::new(alloc));
     }
-    let places = matching_places(alloc, store, set)?;
-    let mut rows = read_rows(alloc, store, places.as_slice(), steps)?;
-    sort_rows(&mut rows, query.sorts())?;
+    let rows = ordered_rows(alloc, store, query, among, set, total, steps)?;
     copied(alloc, query, rows.as_slice())
+}
+
+/// The selected rows in order, as far as the hits reach.
+fn ordered_rows<'a, L: Ledger>(
+    alloc: Global,
+    store: &'a Store,
+    query: &Query,
+    among: Option<&[u32]>,
+    set: &Option<PlaceSet>,
+    total: usize,
+    steps: &mut Steps<L>,
+) -> Result<Vec<&'a Row>, NoMemory>
+    requires { AreAmong (selected set.now) store.now (option_copied among) }
+    ensures rows { IfOk result (λ rows. take query.now.number (drop query.now.offset (map (λ row. row.now) rows.items)) ≡ take query.now.number (drop query.now.offset (in_order (row_order query.now.sorts) (map (λ s. s.1) (filter (λ s. selected set.now s.0) store.now))))) }
+    ensures few { steps.new ≤ steps.old + length (filter (λ s. selected set.now s.0) store.now) }
+{
+    if total > FEW {
+        return walked_rows(alloc, store, query, set, steps);
+    }
+    sorted_rows(alloc, store, query.sorts(), among, set, steps)
+}
+
+/// The selected rows in order.
+fn sorted_rows<'a, L: Ledger>(
+    alloc: Global,
+    store: &'a Store,
+    sorts: &[Sort],
+    among: Option<&[u32]>,
+    set: &Option<PlaceSet>,
+    steps: &mut Steps<L>,
+) -> Result<Vec<&'a Row>, NoMemory>
+    requires { AreAmong (selected set.now) store.now (option_copied among) }
+    ensures rows { IfOk result (λ rows. map (λ row. row.now) rows.items ≡ in_order (row_order sorts.now) (map (λ s. s.1) (filter (λ s. selected set.now s.0) store.now))) }
+    ensures few { steps.new ≤ steps.old + length (filter (λ s. selected set.now s.0) store.now) }
+{
+    let places = selected_places(alloc, store, among, set)?;
+    let mut rows = read_rows(alloc, store, places.as_slice(), steps)?;
+    sort_rows(&mut rows, sorts)?;
+    Ok(rows)
 }
 
 /// As many rows as the query asks for from its offset on, with its columns.
@@ -87,7 +131,7 @@ fn is_among(fields: &[Field], field: Field) -> bool
 }
 
 /// The rows at these places, each of which is read once.
-fn read_rows<'a, L: Ledger>(
+pub(crate) fn read_rows<'a, L: Ledger>(
     alloc: Global,
     store: &'a Store,
     places: &[u32],
@@ -106,7 +150,7 @@ fn read_rows<'a, L: Ledger>(
 }
 
 /// Puts rows in order; what ties stays as it stands.
-fn sort_rows(rows: &mut Vec<&Row>, sorts: &[Sort]) -> Result<(), NoMemory>
+pub(crate) fn sort_rows(rows: &mut Vec<&Row>, sorts: &[Sort]) -> Result<(), NoMemory>
     ensures { OnOk result (map (λ row. row.now) rows.new.items ≡ in_order (row_order sorts.now) (map (λ row. row.now) rows.old.items)) }
 {
     rows.sort_by(|a, b| compare_rows(sorts, a, b))?;

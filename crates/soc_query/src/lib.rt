@@ -16,6 +16,7 @@ mod query;
 mod reading;
 mod seen;
 mod selection;
+mod walk;
 
 pub use answer::{Answer, Facet, Facets, Fields, Hits, Term, Terms};
 pub use answering::answer_of;
@@ -25,4 +26,4 @@ pub use items::Items;
 pub use part::Sort;
 pub use places::{Meeting, PlaceSet};
 pub use query::Query;
-pub use seen::answers_by_what_is_seen;
+pub use seen::{answers_by_what_is_seen, answers_in_any_order};

@@ -2,7 +2,7 @@
 ghost use Rattle.std.specs.Prelude.{◌≡◌, ℕ, List};
 ghost use Rattle.soc_schema.specs.declared.value.Cell.{Cell};
 ghost use Rattle.soc_query.specs.Answers.{answer_of};
-ghost use Rattle.soc_query.specs.Seen.{seen_rows};
+ghost use Rattle.soc_query.specs.Seen.{HaveOwnIds, ListTheSame, seen_rows};
 
 use crate::query::Query;
 
@@ -10,6 +10,14 @@ use crate::query::Query;
 /// shown. It does nothing when it runs.
 pub fn answers_by_what_is_seen(query: &Query)
     ensures { (rows : List (ℕ × List Cell)) → answer_of query.now (seen_rows query.now.caller rows) ≡ answer_of query.now rows }
+{
+    let _caller = query.caller();
+}
+
+/// An answer doesn't depend on the order in which the rows are listed, nor on their places, where no two of them have
+/// one id. It does nothing when it runs.
+pub fn answers_in_any_order(query: &Query)
+    ensures { (rows others : List (ℕ × List Cell)) → HaveOwnIds rows → HaveOwnIds others → ListTheSame rows others → answer_of query.now rows ≡ answer_of query.now others }
 {
     let _caller = query.caller();
 }

@@ -1,5 +1,5 @@
 //! Which rows a query asks for.
-ghost use Rattle.std.specs.Prelude.{◌≡◌, ◌&&◌, not, ℕ, Bool, true, false, List, IfOk, OnOk, length, map, Option, None, Some};
+ghost use Rattle.std.specs.Prelude.{◌≡◌, ◌&&◌, ◌++◌, ◌∷◌, [], if◌then◌else◌, count_by, IfSome, not, ℕ, Bool, true, false, List, IfOk, OnOk, length, map, Option, None, Some};
 ghost use Rattle.std.specs.List.{filter, list_any};
 ghost use Rattle.std.specs.Option.{option_copied, option_map_or};
 ghost use Rattle.soc_schema.specs.declared.value.Cell.{Cell};
@@ -9,9 +9,9 @@ ghost use Rattle.soc_schema.specs.Permits.{shows};
 ghost use Rattle.std.specs.Ordering.{is_eq};
 ghost use Rattle.soc_store.specs.Orders.{value_cmp};
 ghost use Rattle.soc_store.specs.Stored.{PlacesRise, text_of};
-ghost use Rattle.soc_query.specs.Answers.{meets, meets_alone, meets_one, sees};
+ghost use Rattle.soc_query.specs.Answers.{is_exact, meets, meets_alone, meets_one, sees};
 ghost use Rattle.soc_query.specs.Places.{has};
-ghost use Rattle.soc_query.specs.inner.Selections.{Selects, chosen, has_value, selected};
+ghost use Rattle.soc_query.specs.inner.Selections.{AreAmong, AreCandidates, Selects, chosen, has_value, selected};
 
 use crate::condition::Condition;
 use crate::places::PlaceSet;
@@ -45,8 +45,96 @@ pub(crate) fn matching(
     Ok(set)
 }
 
+/// The places of the rows that have the one value that a query asks for, where it asks for one.
+pub(crate) fn candidates<'a>(store: &'a Store, query: &Query) -> Option<&'a [u32]>
+    ensures { IfSome result (λ places. AreCandidates query.now.conditions store.now places.now) }
+{
+    let only = only_exact(query.conditions())?;
+    let value = only.test.operand()?;
+    Some(store.places(only.field, value))
+}
+
+/// The condition that alone asks for one value of its field.
+fn only_exact(conditions: &[Condition]) -> Option<&Condition>
+    ensures { IfSome result (λ only. filter is_exact conditions.now ≡ only.now ∷ []) }
+{
+    let mut only = None;
+    for condition in conditions {
+        if condition.is_exact() {
+            if only.is_some() {
+                return None;
+            }
+            only = Some(condition);
+        }
+    }
+    only
+}
+
+/// How many rows of the store are selected, where they are among these.
+pub(crate) fn selected_count(store: &Store, among: Option<&[u32]>, set: &Option<PlaceSet>) -> usize
+    requires { AreAmong (selected set.now) store.now (option_copied among) }
+    ensures { result ≡ length (filter (λ s. selected set.now s.0) store.now) }
+{
+    match among {
+        Some(places) => count_of(set, places),
+        None => matching_count(store, set),
+    }
+}
+
+/// The places of the selected rows, where they are among these, in rising order.
+pub(crate) fn selected_places(
+    alloc: Global,
+    store: &Store,
+    among: Option<&[u32]>,
+    set: &Option<PlaceSet>,
+) -> Result<Vec<u32>, NoMemory>
+    requires { AreAmong (selected set.now) store.now (option_copied among) }
+    ensures places { IfOk result (λ places. places.items ≡ map (λ s. s.0) (filter (λ s. selected set.now s.0) store.now)) }
+    ensures rise { PlacesRise store.now }
+{
+    let _rows = store.len();
+    match among {
+        Some(places) => chosen_among(alloc, set, places),
+        None => matching_places(alloc, store, set),
+    }
+}
+
+/// Those of the places that are selected.
+pub(crate) fn chosen_among(
+    alloc: Global,
+    set: &Option<PlaceSet>,
+    places: &[u32],
+) -> Result<Vec<u32>, NoMemory>
+    ensures { IfOk result (λ chosen. chosen.items ≡ filter (selected set.now) places.now) }
+{
+    let mut chosen = Vec::new(alloc);
+    for place in places {
+        put_if(&mut chosen, *place, is_selected(set, *place))?;
+    }
+    Ok(chosen)
+}
+
+fn put_if(places: &mut Vec<u32>, place: u32, is_one: bool) -> Result<(), NoMemory>
+    ensures { OnOk result (places.new.items ≡ places.old.items ++ (if is_one then place ∷ [] else [])) }
+{
+    if is_one {
+        places.push(place)?;
+    }
+    Ok(())
+}
+
+/// How many of the places are selected.
+pub(crate) fn count_of(set: &Option<PlaceSet>, places: &[u32]) -> usize
+    ensures { result ≡ count_by (selected set.now) places.now }
+{
+    match set {
+        None => places.len(),
+        Some(set) => set.count(places),
+    }
+}
+
 /// How many rows of the store are selected.
-pub(crate) fn matching_count(store: &Store, set: &Option<PlaceSet>) -> usize
+fn matching_count(store: &Store, set: &Option<PlaceSet>) -> usize
     ensures { result ≡ length (filter (λ s. selected set.now s.0) store.now) }
 {
     let Some(set) = set else {
@@ -149,7 +237,7 @@ fn group_places(
 }
 
 /// The places that are selected and whose rows meet the condition.
-fn narrowed(
+pub(crate) fn narrowed(
     alloc: Global,
     store: &Store,
     set: Option<PlaceSet>,

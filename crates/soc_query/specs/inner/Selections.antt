@@ -1,8 +1,8 @@
 -- Which places a set selects, and which values a condition asks about.
-use Rattle.std.specs.Prelude.{◌≡◌, ◌==◌, ◌&&◌, not, if◌then◌else◌, ℕ, Bool, true, false, List, Option, None, Some}
+use Rattle.std.specs.Prelude.{◌≡◌, ◌==◌, ◌&&◌, not, if◌then◌else◌, ℕ, Bool, true, false, List, Option, None, Some, map, filter, ⊤}
 use Rattle.std.specs.List.{AllByRecursion}
 use Rattle.std.specs.Option.{option_map, option_map_or}
-use Rattle.soc_store.specs.Stored.{row_at}
+use Rattle.soc_store.specs.Stored.{is_value, places_of, row_at}
 use Rattle.soc_schema.specs.declared.value.Value.{Value}
 use Rattle.soc_schema.specs.declared.value.Cell.{Cell}
 use Rattle.soc_schema.specs.Rows.{value_of}
@@ -11,7 +11,7 @@ use Rattle.soc_query.specs.declared.condition.Test.TheVariants.{Absent, Compares
 use Rattle.soc_query.specs.declared.condition.Condition.{Condition}
 use Rattle.soc_query.specs.declared.facet.Counted.{Counted}
 use Rattle.soc_query.specs.declared.answer.Term.{Term}
-use Rattle.soc_query.specs.Answers.{compares, is_exact}
+use Rattle.soc_query.specs.Answers.{compares, is_exact, meets}
 use Rattle.soc_query.specs.Places.{has}
 
 -- no set selects each place
@@ -55,3 +55,15 @@ as_term c = record { value = c.value.now; count = c.count }
 -- the row at a place
 abbrev pub row_of : List (ℕ × List Cell) → ℕ → Option (List Cell)
 row_of rows p = option_map (λ s. s.1) (row_at p rows)
+
+-- the selected rows are among those at the places, if any are named
+abbrev pub AreAmong : (ℕ → Bool) → List (ℕ × List Cell) → Option (List ℕ) → Type 0
+AreAmong set rows None = ⊤
+AreAmong set rows (Some places) = filter set places ≡ map (λ s. s.0) (filter (λ s. set s.0) rows)
+
+-- they are the places of the rows that have a value, which each row that meets the conditions has
+pub record AreCandidates (conditions : List Condition) (rows : List (ℕ × List Cell)) (places : List ℕ) : Type 0 where
+  pub field : ℕ
+  pub value : Value
+  pub are : places ≡ places_of field value rows
+  pub each : (row : List Cell) → meets conditions row ≡ true → is_value value (value_of row field) ≡ true

@@ -10,12 +10,12 @@ loop-i-preserved c =
     let vs = values_of c.args.field c.args.store.now in
     let rows = filter (λ s. selected c.args.set.now s.0) c.args.store.now in
     let v = c.term_at.result.0.now in
-    let counted = c.selected_among-count.ensures ∙ ap (count_by (selected c.args.set.now)) c.term_at.ensures.places ∙ count_selected (selected c.args.set.now) c.args.field v c.args.store.now in
+    let counted = c.count_of-count.ensures ∙ ap (count_by (selected c.args.set.now)) c.term_at.ensures.places ∙ count_selected (selected c.args.set.now) c.args.field v c.args.store.now in
     elim c.if-count-gt0.branch [
       | then-count-gt0+in_ok-push w ↦ ap (λ ts. map as_term ts.items) w.counted-is ∙ ap (map as_term) w.in_ok-push.ensures.items
-          ∙ terms_pushed c.args.field rows vs c.loop-i.i v c.term_at.ensures.value as_term c.loop-i.counted.items c.loop-i.invariant c.selected_among-count.result counted (record { value = c.term_at.result.0; count = c.selected_among-count.result }) w.if-count-gt0.true refl
+          ∙ terms_pushed c.args.field rows vs c.loop-i.i v c.term_at.ensures.value as_term c.loop-i.counted.items c.loop-i.invariant c.count_of-count.result counted (record { value = c.term_at.result.0; count = c.count_of-count.result }) w.if-count-gt0.true refl
       | else-count-gt0 w ↦ ap (λ ts. map as_term ts.items) w.counted-is
-          ∙ terms_passed c.args.field rows vs c.loop-i.i v c.term_at.ensures.value as_term c.loop-i.counted.items c.loop-i.invariant c.selected_among-count.result counted w.if-count-gt0.false
+          ∙ terms_passed c.args.field rows vs c.loop-i.i v c.term_at.ensures.value as_term c.loop-i.counted.items c.loop-i.invariant c.count_of-count.result counted w.if-count-gt0.false
     ]
 
 pub returns : goal.returns
