@@ -8,14 +8,14 @@ use std::test::Fail;
 
 const ID: &str = "de1bb258-cbbf-4589-a673-34f800160918";
 
-fn text(alloc: Global, value: &str) -> Result<Value, AllocError> {
-    Ok(Value::Text(Text::from(String::from_str(alloc, value)?)))
+fn text(alloc: Global, value: &str) -> Result<Text, AllocError> {
+    Ok(Text::from(String::from_str(alloc, value)?))
 }
 
 /// A row of a product, and of the longest uptime where it is told.
 fn row(alloc: Global, product: &str, uptime: bool) -> Result<Row, Fail> {
     let mut row = Row::new(alloc);
-    row.set(Field::PRODUCT, text(alloc, product)?)?;
+    row.set(Field::PRODUCT, Value::Text(text(alloc, product)?))?;
     if uptime {
         row.set(Field::UPTIME, Value::Number(u64::MAX))?;
         row.set(Field::SUCCESS, Value::Flag(false))?;
@@ -79,7 +79,7 @@ const NOTHING: &[u8] = b"<!DOCTYPE html>\n\
 </table>\n";
 
 fn term(alloc: Global, value: &str, count: u64) -> Result<Term, AllocError> {
-    let value = text(alloc, value)?;
+    let value = Value::Text(text(alloc, value)?);
     Ok(Term { value, count })
 }
 
