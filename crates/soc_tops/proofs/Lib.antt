@@ -1,0 +1,6 @@
+pub mod CommaLemmas
+pub mod OrderLemmas
+pub mod RankLemmas
+pub mod ReadingLemmas
+pub mod RowLemmas
+pub mod SortLemmas

@@ -1,0 +1,4 @@
+pub mod Asked
+pub mod Tops
+pub mod Json
+pub mod inner

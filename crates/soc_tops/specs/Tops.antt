@@ -1,0 +1,96 @@
+-- Top crashers: the signatures of a product's version by how many rows of a range of days have them. This project's
+-- profile.
+use Rattle.std.specs.Prelude.{ℕ, ◌+◌, ◌&&◌, not, Bool, false, List, [], ◌∷◌, Option, None, Some, if◌then◌else◌, map, length, take}
+use Rattle.std.specs.List.{filter, enumerate_from}
+use Rattle.std.specs.Option.{option_map_or}
+use Rattle.std.specs.Ordering.{nat_cmp, is_eq, is_gt}
+use Rattle.std.specs.declared.cmp.Ordering.{Ordering}
+use Rattle.soc_schema.specs.declared.value.Value.{Value}
+use Rattle.soc_schema.specs.declared.value.Value.TheVariants.{Text}
+use Rattle.soc_schema.specs.declared.value.Cell.{Cell}
+use Rattle.soc_schema.specs.Rows.{value_of}
+use Rattle.soc_schema.specs.Fields.{product_field}
+use Rattle.soc_schema.specs.Permits.{shows}
+use Rattle.soc_store.specs.Orders.{value_cmp}
+use Rattle.soc_store.specs.Stored.{is_value, product_of, rows_with, text_of, values_of}
+use Rattle.soc_tops.specs.declared.query.Days.{Days}
+use Rattle.soc_tops.specs.declared.query.TopsQuery.{TopsQuery}
+use Rattle.soc_tops.specs.declared.tops.Top.{Top}
+use Rattle.soc_tops.specs.declared.tops.Tops.{Tops}
+use Rattle.soc_tops.specs.Asked.{is_after}
+
+-- date, signature and version in the table of fields
+abbrev pub date_field : ℕ
+date_field = 11
+
+abbrev pub signature_field : ℕ
+signature_field = 27
+
+abbrev pub version_field : ℕ
+version_field = 35
+
+-- the day lies in the range
+abbrev pub has_day : Days → List ℕ → Bool
+has_day days day = not (is_after days.from day) && not (is_after day days.to)
+
+-- a row's day is the first ten bytes of its date
+abbrev pub is_within : Days → List Cell → Bool
+is_within days row = option_map_or (λ date. has_day days (take 10 date)) (text_of (value_of row date_field)) false
+
+-- a row of the query's product and version, in a range of days
+abbrev pub is_asked : TopsQuery → Days → List Cell → Bool
+is_asked q days row =
+    is_value (Text q.product) (value_of row product_field) && (is_value (Text q.version) (value_of row version_field) && is_within days row)
+
+-- those that the caller may see
+abbrev pub rows_between : TopsQuery → Days → List (ℕ × List Cell) → List (ℕ × List Cell)
+rows_between q days rows = filter (λ s. shows q.caller.products (product_of s.1) && is_asked q days s.1) rows
+
+-- in order: what ties stays as it stands
+abbrev pub put_in_order : {X : Type 0} → (X → X → Ordering) → X → List X → List X
+put_in_order R x [] = x ∷ []
+put_in_order R x (y ∷ ys) = if is_gt (R x y) then y ∷ put_in_order R x ys else x ∷ y ∷ ys
+
+abbrev pub in_order : {X : Type 0} → (X → X → Ordering) → List X → List X
+in_order R [] = []
+in_order R (x ∷ xs) = put_in_order R x (in_order R xs)
+
+-- a signature and how many rows have it
+pub record Counted : Type 0 where
+  pub signature : Value
+  pub count : ℕ
+
+abbrev pub counted_in : List (ℕ × List Cell) → Value → Counted
+counted_in rows v = record { signature = v; count = length (rows_with signature_field v rows) }
+
+-- the signatures of rows: greater counts first, and then lesser bytes
+abbrev pub ranking_of : List (ℕ × List Cell) → List Counted
+ranking_of rows =
+    in_order (λ c d. nat_cmp d.count c.count) (map (counted_in rows) (values_of signature_field rows))
+
+-- the rank of a signature in a list that begins with this rank
+abbrev pub rank_from : ℕ → Value → List Counted → Option ℕ
+rank_from rank v [] = None
+rank_from rank v (c ∷ cs) = if is_eq (value_cmp v c.signature) then Some rank else rank_from (rank + 1) v cs
+
+abbrev pub text_in : Value → List ℕ
+text_in v = option_map_or (λ t. t) (text_of (Some v)) []
+
+-- a ranked signature, and its count and rank in the old rows
+abbrev pub top_of : List (ℕ × List Cell) → ℕ × Counted → Top
+top_of old ranked =
+    record {
+      signature = text_in ranked.1.signature;
+      count = ranked.1.count;
+      rank = ranked.0;
+      old_count = length (rows_with signature_field ranked.1.signature old);
+      old_rank = rank_from 1 ranked.1.signature (ranking_of old);
+    }
+
+-- how many new rows there are, and the first of their signatures
+abbrev pub tops_of : TopsQuery → List (ℕ × List Cell) → Tops
+tops_of q rows =
+    record {
+      total = length (rows_between q q.days rows);
+      tops = map (top_of (rows_between q q.old_days rows)) (enumerate_from 1 (take q.limit (ranking_of (rows_between q q.days rows))));
+    }

@@ -1,0 +1,107 @@
+//! Top crashers as JSON (RFC 8259).
+ghost use Rattle.std.specs.Prelude.{◌≡◌, ◌++◌, IfOk, OnOk, decimal, map};
+ghost use Rattle.std.specs.List.{join_with_byte};
+ghost use Rattle.serde_json.specs.Data.{string};
+ghost use Rattle.serde_json.specs.Written.{compact_text};
+ghost use Rattle.soc_tops.specs.Json.{comma, counts_json, rank_json, ranks_json, top_json};
+ghost use Rattle.soc_tops.specs.inner.Commas.{comma_after};
+
+use crate::tops::{Top, Tops};
+use serde_json::Value as Json;
+use soc_raw::{Bytes, NoMemory};
+use std::alloc::Global;
+
+impl Tops {
+    ghost use Rattle.std.specs.Prelude.{◌≡◌, IfOk};
+    ghost use Rattle.soc_tops.specs.Json.{tops_json};
+
+    /// The answer as an object, compact, with names in byte order.
+    pub fn json(&self, alloc: Global) -> Result<Bytes, NoMemory>
+        ensures { IfOk result (λ text. text ≡ tops_json self.now) }
+    {
+        let mut out = Vec::new(alloc);
+        out.extend_from_slice(b"{\"tops\":[")?;
+        put_tops(alloc, &mut out, self.tops.as_slice())?;
+        out.extend_from_slice(b"],\"total\":")?;
+        put_number(&mut out, self.total)?;
+        out.extend_from_slice(b"}")?;
+        Ok(Bytes::from(out))
+    }
+}
+
+fn put_tops(alloc: Global, out: &mut Vec<u8>, tops: &[Top]) -> Result<(), NoMemory>
+    ensures { OnOk result (out.new.items ≡ out.old.items ++ join_with_byte comma (map top_json tops.now)) }
+{
+    for (i, top) in tops.iter().enumerate() {
+        put_comma(out, i)?;
+        put_top(alloc, out, top)?;
+    }
+    Ok(())
+}
+
+/// A comma, unless nothing stands before.
+fn put_comma(out: &mut Vec<u8>, before: usize) -> Result<(), NoMemory>
+    ensures { OnOk result (out.new.items ≡ out.old.items ++ comma_after before) }
+{
+    if before > 0 {
+        out.extend_from_slice(b",")?;
+    }
+    Ok(())
+}
+
+fn put_top(alloc: Global, out: &mut Vec<u8>, top: &Top) -> Result<(), NoMemory>
+    ensures { OnOk result (out.new.items ≡ out.old.items ++ top_json top.now) }
+{
+    put_counts(out, top)?;
+    put_ranks(out, top)?;
+    out.extend_from_slice(b",\"signature\":")?;
+    put_text(alloc, out, top.signature.as_str())?;
+    out.extend_from_slice(b"}")?;
+    Ok(())
+}
+
+fn put_counts(out: &mut Vec<u8>, top: &Top) -> Result<(), NoMemory>
+    ensures { OnOk result (out.new.items ≡ out.old.items ++ counts_json top.now) }
+{
+    out.extend_from_slice(b"{\"count\":")?;
+    put_number(out, top.count)?;
+    out.extend_from_slice(b",\"old_count\":")?;
+    put_number(out, top.old_count)?;
+    Ok(())
+}
+
+fn put_ranks(out: &mut Vec<u8>, top: &Top) -> Result<(), NoMemory>
+    ensures { OnOk result (out.new.items ≡ out.old.items ++ ranks_json top.now) }
+{
+    out.extend_from_slice(b",\"old_rank\":")?;
+    put_rank(out, top.old_rank)?;
+    out.extend_from_slice(b",\"rank\":")?;
+    put_number(out, top.rank)?;
+    Ok(())
+}
+
+fn put_rank(out: &mut Vec<u8>, rank: Option<u64>) -> Result<(), NoMemory>
+    ensures { OnOk result (out.new.items ≡ out.old.items ++ rank_json rank) }
+{
+    match rank {
+        Some(rank) => put_number(out, rank)?,
+        None => out.extend_from_slice(b"null")?,
+    }
+    Ok(())
+}
+
+fn put_text(alloc: Global, out: &mut Vec<u8>, text: &str) -> Result<(), NoMemory>
+    ensures { OnOk result (out.new.items ≡ out.old.items ++ compact_text (string text.now)) }
+{
+    let json = Json::String(String::from_str(alloc, text)?).to_string(alloc)?;
+    out.extend_from_slice(json.as_bytes())?;
+    Ok(())
+}
+
+fn put_number(out: &mut Vec<u8>, number: u64) -> Result<(), NoMemory>
+    ensures { OnOk result (out.new.items ≡ out.old.items ++ decimal number) }
+{
+    let mut buffer = itoa::Buffer::new();
+    out.extend_from_slice(buffer.format(number).as_bytes())?;
+    Ok(())
+}

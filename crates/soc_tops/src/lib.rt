@@ -1,0 +1,19 @@
+//! Top crashers: the signatures of a product's version by how many rows of a range of days have them.
+#![tactic(auto)]
+
+mod answering;
+mod day;
+mod error;
+mod given;
+mod json;
+mod query;
+mod ranking;
+mod rows;
+#[cfg(test)]
+mod tests;
+mod tops;
+
+pub use answering::tops_of;
+pub use error::TopsError;
+pub use query::{Days, TopsQuery};
+pub use tops::{Top, TopList, Tops};
