@@ -8,6 +8,8 @@ use Rattle.soc_schema.specs.Rows.{value_of}
 use Rattle.soc_query.specs.declared.answer.Term.{Term}
 use Rattle.soc_query.specs.declared.answer.Facet.{Facet}
 use Rattle.soc_query.specs.declared.answer.Answer.{Answer}
+use Rattle.soc_tops.specs.declared.tops.Top.{Top}
+use Rattle.soc_tops.specs.declared.tops.Tops.{Tops}
 use Rattle.soc_pages.specs.Escape.{escaped, shown}
 
 -- ---- a report
@@ -39,3 +41,15 @@ abbrev pub search_page : Answer → List ℕ
 search_page answer =
     codes "<!DOCTYPE html>\n<title>search</title>\n<p>" ++ (decimal answer.total ++ (codes "</p>\n<table>\n"
     ++ (flat_map (hit_row answer.columns) answer.hits ++ (codes "</table>\n" ++ flat_map facet_lines answer.facets))))
+
+-- ---- top crashers
+
+abbrev pub top_row : Top → List ℕ
+top_row top =
+    codes "<tr><td>" ++ (decimal top.rank ++ (codes "</td><td>" ++ (escaped top.signature ++ (codes "</td><td>"
+    ++ (decimal top.count ++ (codes "</td><td>" ++ (decimal top.old_count ++ codes "</td></tr>\n")))))))
+
+abbrev pub tops_page : Tops → List ℕ
+tops_page tops =
+    codes "<!DOCTYPE html>\n<title>top crashers</title>\n<p>" ++ (decimal tops.total ++ (codes "</p>\n<table>\n"
+    ++ (flat_map top_row tops.tops ++ codes "</table>\n")))

@@ -7,6 +7,8 @@ mod report;
 mod search;
 #[cfg(test)]
 mod tests;
+mod tops;
 
 pub use report::report_page;
 pub use search::search_page;
+pub use tops::tops_page;

@@ -1,8 +1,9 @@
 //! Pages, line by line.
-use crate::{report_page, search_page};
+use crate::{report_page, search_page, tops_page};
 use soc_query::{Answer, Facet, Facets, Fields, Hits, Term, Terms};
 use soc_raw::{CrashId, Text};
 use soc_schema::{Field, Row, Value};
+use soc_tops::{Top, TopList, Tops};
 use std::alloc::{AllocError, Global};
 use std::test::Fail;
 
@@ -118,5 +119,47 @@ fn searches(rt: HostRuntime) -> Result<(), Fail> {
         facets: Facets::new(alloc),
     };
     assert_eq!(rt; search_page(alloc, &answer)?.as_slice(), NOTHING);
+    Ok(())
+}
+
+const TOPS: &[u8] = b"<!DOCTYPE html>\n\
+<title>top crashers</title>\n\
+<p>3</p>\n\
+<table>\n\
+<tr><td>1</td><td>f&lt;T&gt;</td><td>2</td><td>0</td></tr>\n\
+<tr><td>2</td><td></td><td>1</td><td>18446744073709551615</td></tr>\n\
+</table>\n";
+
+const NO_TOPS: &[u8] = b"<!DOCTYPE html>\n\
+<title>top crashers</title>\n\
+<p>0</p>\n\
+<table>\n\
+</table>\n";
+
+#[test]
+fn top_crashers(rt: HostRuntime) -> Result<(), Fail> {
+    let alloc = rt.alloc();
+    let mut tops = TopList::new(alloc);
+    tops.push(Top {
+        signature: text(alloc, "f<T>")?,
+        count: 2,
+        rank: 1,
+        old_count: 0,
+        old_rank: None,
+    })?;
+    tops.push(Top {
+        signature: text(alloc, "")?,
+        count: 1,
+        rank: 2,
+        old_count: u64::MAX,
+        old_rank: Some(1),
+    })?;
+    let tops = Tops { total: 3, tops };
+    assert_eq!(rt; tops_page(alloc, &tops)?.as_slice(), TOPS);
+    let tops = Tops {
+        total: 0,
+        tops: TopList::new(alloc),
+    };
+    assert_eq!(rt; tops_page(alloc, &tops)?.as_slice(), NO_TOPS);
     Ok(())
 }
