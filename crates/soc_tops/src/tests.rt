@@ -35,27 +35,32 @@ const DAYS: [(&str, &str); 6] = [
     ("old_to", "2016-09-17"),
 ];
 
-fn put_row(
-    alloc: Global,
-    store: &mut Store,
-    place: u32,
-    cells: &[(Field, &str)],
-) -> Result<(), Fail> {
-    let mut row = Row::new(alloc);
-    for (field, text) in cells {
-        let value = Value::Text(Text::of(alloc, text)?);
-        if value.kind() != field.kind() {
-            return Err(Fail::from("not a text's field"));
-        }
-        row.set(*field, value)?;
+fn set_text(alloc: Global, row: &mut Row, field: Field, text: &str) -> Result<(), Fail> {
+    let value = Value::Text(Text::of(alloc, text)?);
+    if value.kind() != field.kind() {
+        return Err(Fail::from("not a text's field"));
     }
+    row.set(field, value)?;
+    Ok(())
+}
+
+/// A row of the days' product and version.
+fn row(alloc: Global, day: &str) -> Result<Row, Fail> {
+    let date = format!(in alloc; "{day}T23:59:59Z")?;
+    let mut row = Row::new(alloc);
+    set_text(alloc, &mut row, Field::DATE, date.as_str())?;
+    set_text(alloc, &mut row, Field::PRODUCT, "Firefox")?;
+    set_text(alloc, &mut row, Field::VERSION, "1")?;
+    Ok(row)
+}
+
+fn put_row(alloc: Global, store: &mut Store, place: u32, row: Row) -> Result<(), Fail> {
     match store.put(alloc, place, row) {
         Ok(()) => Ok(()),
         Err(_) => Err(Fail::from("out of memory")),
     }
 }
 
-/// A row of the product and version of the days' query.
 fn put(
     alloc: Global,
     store: &mut Store,
@@ -63,18 +68,9 @@ fn put(
     signature: &str,
     day: &str,
 ) -> Result<(), Fail> {
-    let date = format!(in alloc; "{day}T00:00:00Z")?;
-    put_row(
-        alloc,
-        store,
-        place,
-        &[
-            (Field::DATE, date.as_str()),
-            (Field::PRODUCT, "Firefox"),
-            (Field::SIGNATURE, signature),
-            (Field::VERSION, "1"),
-        ],
-    )
+    let mut row = row(alloc, day)?;
+    set_text(alloc, &mut row, Field::SIGNATURE, signature)?;
+    put_row(alloc, store, place, row)
 }
 
 /// The answer's text.
@@ -149,16 +145,7 @@ fn equal_counts_are_ranked_by_signature(rt: HostRuntime) -> Result<(), Fail> {
     for (place, signature, day) in &ROWS {
         put(alloc, &mut store, *place, signature, day)?;
     }
-    put_row(
-        alloc,
-        &mut store,
-        11,
-        &[
-            (Field::DATE, "2016-09-18T23:59:59Z"),
-            (Field::PRODUCT, "Firefox"),
-            (Field::VERSION, "1"),
-        ],
-    )?;
+    put_row(alloc, &mut store, 11, row(alloc, "2016-09-18")?)?;
     let text = asked(alloc, &store, &DAYS, Products::All)?;
     assert_eq!(rt;
         text.as_str(),
