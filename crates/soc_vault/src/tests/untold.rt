@@ -4,7 +4,7 @@ ghost use Rattle.soc_edge.specs.Calls.{one_more};
 ghost use Rattle.soc_edge.specs.Faults.{Rose};
 ghost use Rattle.soc_edge.specs.Untold.{untold_disk, IsDisk-untold};
 
-use super::{asking, bodies_on, disk_that_fails, opened};
+use super::{asking, bodies_on, disk_that_fails, kept, opened};
 use soc_edge::{Disk, Failed, MemDisk};
 use soc_journal::{OpenError, ReadError, Settled};
 use std::test::Fail;
@@ -74,7 +74,7 @@ fn a_disk_that_gives_zeros_is_altered(rt: HostRuntime) -> Result<(), Fail> {
     };
     // The opening makes the calls 0 to 3 and 4 for the closed gate. The keep's first sync, its call 6, succeeds.
     let mut vault = opened(alloc, &mut zeroed, 1000)?;
-    let place = vault.keep(&asking(alloc, b"first")?)?;
+    let place = kept(&mut vault, &asking(alloc, b"first")?).ok_or("not kept")?;
     assert_eq!(rt; place, 8);
     assert!(rt; matches!(vault.read(alloc, place), Err(ReadError::Altered)));
     assert_eq!(rt; vault.holds(place, b"first"), Err(Failed));
