@@ -14,7 +14,10 @@ pub fn tops_page(alloc: Global, tops: &Tops) -> Result<Bytes, NoMemory>
     ensures { IfOk result (λ page. page ≡ tops_page tops.now) }
 {
     let mut out = Vec::new(alloc);
-    put(&mut out, b"<!DOCTYPE html>\n<title>top crashers</title>\n<p>")?;
+    put(
+        &mut out,
+        b"<!DOCTYPE html>\n<title>top crashers</title>\n<p>",
+    )?;
     put_number(&mut out, tops.total)?;
     put(&mut out, b"</p>\n<table>\n")?;
     put_tops(&mut out, tops.tops.as_slice())?;
