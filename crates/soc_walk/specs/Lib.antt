@@ -1,5 +1,6 @@
 pub mod Architecture
 pub mod Machines
+mod Orders
 pub mod Process
 pub mod Views
 pub mod Walk

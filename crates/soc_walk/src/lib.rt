@@ -10,6 +10,8 @@ mod machines;
 mod process;
 mod steps;
 mod symbols;
+#[cfg(test)]
+mod tests;
 mod walking;
 
 pub use architecture::Architecture;

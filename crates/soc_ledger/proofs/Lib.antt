@@ -1,0 +1,9 @@
+pub mod Index
+pub mod Lists
+pub mod More
+pub mod Tables
+pub mod Order
+pub mod Logs
+pub mod Waiting
+pub mod Whole
+pub mod Counts

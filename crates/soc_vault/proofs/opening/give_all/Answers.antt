@@ -1,0 +1,10 @@
+use Rattle.soc_vault.proofs.Findings.{fewer_left, reading_begins}
+use Rattle.soc_vault.proofs.opening.give_all.Goals as goal
+
+pub loop-found-init : goal.loop-found-init
+loop-found-init g c =
+    reading_begins (g.R.Recover.was_given c.args.into.now) (g.D.Disk.state c.args.disk.now) c.args.opening (g.met.D.Disk.sound c.args.disk.now) c.requires.fresh c.requires.reads
+
+pub loop-found-smaller : goal.loop-found-smaller
+loop-found-smaller g c =
+    fewer_left c.loop-found.opening c.find_next.new.opening c.in-Some.found c.in_ok-found.ensures.opening (rw c.in-Some.is at c.in_ok-found.ensures.moves)

@@ -1,0 +1,4 @@
+pub mod Examples
+pub mod inner
+pub mod Openings
+pub mod Vaults

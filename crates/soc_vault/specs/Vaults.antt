@@ -1,0 +1,30 @@
+-- What the disk of a vault holds, and where an entry stands in it.
+use Rattle.std.specs.Prelude.{◌≡◌, ℕ, Option, Some, None, IsSomeAnd, List, ◌∷◌, ◌++◌}
+use Rattle.soc_edge.specs.Disk.{DiskTold}
+use Rattle.soc_journal.specs.Entries.{Entry, place_behind}
+use Rattle.soc_journal.specs.Text.{JournalText, EitherText}
+use Rattle.soc_journal.specs.States.{JournalState, AtRest, InDoubt, entries_after}
+use Rattle.soc_journal.specs.declared.settled.Settled.{Settled}
+
+-- The disk tells that it holds the journal of these entries, and so does each image that a stop may leave. With a doubt
+-- each of them holds these entries, or these and the entry in doubt.
+abbrev pub Means : DiskTold → JournalState → List Entry → Option Entry → Type 0
+Means disk journal entries None = IsSomeAnd disk.content (λ bytes. AtRest journal entries bytes disk.images)
+Means disk journal entries (Some entry) = IsSomeAnd disk.content (λ bytes. InDoubt journal entries entry bytes disk.images)
+
+-- an image of these entries, and with a doubt of these, or of these and the entry in doubt
+abbrev pub StandsFor : List Entry → Option Entry → List ℕ → Type 0
+StandsFor entries None image = JournalText entries image
+StandsFor entries (Some entry) image = EitherText entries entry image
+
+-- the entries once a doubt, where there is one, is settled
+abbrev pub settled_entries : List Entry → Option Entry → Settled → List Entry
+settled_entries entries None settled = entries
+settled_entries entries (Some entry) settled = entries_after entries entry settled
+
+-- one of these entries stands at this place
+pub record IsAt (entries : List Entry) (place : ℕ) (entry : Entry) : Type 0 where
+  pub before : List Entry
+  pub behind : List Entry
+  pub whole : entries ≡ before ++ entry ∷ behind
+  pub place_is : place ≡ place_behind before

@@ -1,0 +1,157 @@
+//! The lent disk and the journal on it.
+ghost use Rattle.std.specs.Prelude.{◌≡◌, ◌≢◌, ◌+◌, ◌<◌, ◌≤◌, ◌↔◌, ℕ, List, Option, Some, None, [], ◌∷◌, ◌++◌, length, take, drop, IsSome, IfOk, OnOk, OnErr, Ok, IsErrOf, IsTrue, MatchResult};
+ghost use Rattle.std.specs.Int.{div_ceil};
+ghost use Rattle.soc_edge.specs.Disk.{LeavesOnly, Looks, GoesOn, DiskFailed};
+ghost use Rattle.soc_journal.specs.Bodies.{piece_size};
+ghost use Rattle.soc_journal.specs.Entries.{Entry, entry_text, beside_body, head_size};
+ghost use Rattle.soc_journal.specs.States.{IsKeptAt, journal_after};
+ghost use Rattle.soc_vault.specs.Vaults.{Means, StandsFor, IsAt, settled_entries};
+
+use soc_edge::{Disk, Failed};
+use soc_journal::{AppendError, EntryText, Journal, ReadError, Settled, entry_is_one};
+use soc_raw::Bytes;
+use std::alloc::Global;
+
+/// A journal and the disk that it stands on.
+///
+/// What is said of its entries holds where the disk tells its content.
+#[derive(Debug, Drop)]
+pub struct Vault<'a, D: Disk> {
+    disk: &'a mut D,
+    journal: Journal,
+}
+
+impl<'a, D: Disk> Vault<'a, D> {
+    /// A vault over the journal that was opened on this disk.
+    pub fn new(disk: &'a mut D, journal: Journal) -> Vault<'a, D>
+        ensures same_disk { result.disk.ghost_name ≡ disk.entry.ghost_name }
+        ensures disk { result.disk.now ≡ disk.old }
+        ensures journal { result.journal ≡ journal }
+    {
+        Vault { disk, journal }
+    }
+
+    /// Whether the write of an entry failed and isn't settled.
+    pub fn is_in_doubt(&self) -> bool
+        ensures { IsTrue result ↔ IsSome self.now.journal.doubt }
+    {
+        self.journal.in_doubt()
+    }
+
+    /// Settles a doubt, by two calls of the disk: then the entry in doubt is kept, at a place, or it is dropped. Without a
+    /// doubt it does nothing.
+    ///
+    /// `Clean` comes exactly where there is no doubt. After `Failed` the doubt stays.
+    pub fn settle(&mut self) -> Result<Settled, Failed>
+        ensures same_disk { self.new.disk.ghost_name ≡ self.old.disk.ghost_name }
+        ensures clean { (result ≡ Ok Settled.Clean) ↔ (self.old.journal.doubt ≡ None) }
+        ensures clean_disk { self.old.journal.doubt ≡ None → self.new.disk.now ≡ self.old.disk.now }
+        ensures place { IfOk result (IsKeptAt self.old.journal.gate) }
+        ensures journal { self.new.journal ≡ journal_after self.old.journal result }
+        ensures settled { IfOk result (λ settled. (entries : List Entry) (doubt : Option Entry)
+            → Means (D.state self.old.disk.now) self.old.journal entries doubt
+            → Means (D.state self.new.disk.now) self.new.journal (settled_entries entries doubt settled) None) }
+        ensures still_in_doubt { OnErr result ((entries : List Entry) (doubt : Option Entry)
+            → Means (D.state self.old.disk.now) self.old.journal entries doubt
+            → Means (D.state self.new.disk.now) self.new.journal entries doubt) }
+        ensures disk_stays { Looks (D.state self.old.disk.now) (D.state self.new.disk.now) }
+        ensures calls { (D.state self.new.disk.now).calls ≤ (D.state self.old.disk.now).calls + 2 }
+        ensures cause { OnErr result (DiskFailed (D.state self.old.disk.now) (D.state self.new.disk.now)) }
+    {
+        self.journal.mend(self.disk)
+    }
+
+    /// Keeps an entry behind all others, by two writes and two syncs at most, and answers its place. It takes no memory.
+    ///
+    /// `JournalFull` comes exactly where the closed gate's place, 7 and the body's length together are over the limit; then
+    /// nothing is done. After `StoreFault` the entry is in doubt.
+    pub fn keep(&mut self, entry: &EntryText) -> Result<u64, AppendError>
+        requires { self.old.journal.doubt ≡ None }
+        ensures same_disk { self.new.disk.ghost_name ≡ self.old.disk.ghost_name }
+        ensures full { IsErrOf result AppendError.JournalFull
+            ↔ (self.old.journal.limit < self.old.journal.gate + beside_body + length entry.now.body) }
+        ensures full_journal { IsErrOf result AppendError.JournalFull → self.new.journal ≡ self.old.journal }
+        ensures full_disk { IsErrOf result AppendError.JournalFull → self.new.disk.now ≡ self.old.disk.now }
+        ensures place { IfOk result (λ place. place ≡ self.old.journal.gate) }
+        ensures journal { OnOk result (self.new.journal
+            ≡ record self.old.journal { gate = self.old.journal.gate + length (entry_text entry.now) }) }
+        ensures doubt { IsErrOf result AppendError.StoreFault → self.new.journal
+            ≡ record self.old.journal { doubt = Some (length (entry_text entry.now)) } }
+
+        // It stands behind the entries, acknowledged: each image that a stop may leave has it.
+        ensures kept { OnOk result ((entries : List Entry) → Means (D.state self.old.disk.now) self.old.journal entries None
+            → Means (D.state self.new.disk.now) self.new.journal (entries ++ entry.now ∷ []) None) }
+        ensures in_doubt { IsErrOf result AppendError.StoreFault → (entries : List Entry)
+            → Means (D.state self.old.disk.now) self.old.journal entries None
+            → Means (D.state self.new.disk.now) self.new.journal entries (Some entry.now) }
+
+        // A stop at any moment of the call leaves the entries from before it, or those and this one.
+        ensures any_moment { (entries : List Entry) → Means (D.state self.old.disk.now) self.old.journal entries None
+            → LeavesOnly (D.state self.old.disk.now) (D.state self.new.disk.now) (StandsFor entries (Some entry.now)) }
+        ensures goes_on { GoesOn (D.state self.old.disk.now) (D.state self.new.disk.now) }
+        ensures calls { (D.state self.new.disk.now).calls ≤ (D.state self.old.disk.now).calls + 4 }
+        ensures cause { IsErrOf result AppendError.StoreFault → DiskFailed (D.state self.old.disk.now) (D.state self.new.disk.now) }
+    {
+        self.journal.append(self.disk, entry)
+    }
+
+    /// The body of the entry at a place, by two calls of the disk. `Altered` comes only where no entry begins there, and
+    /// `StoreFault` only where the disk failed.
+    pub fn read(&mut self, alloc: Global, place: u64) -> Result<Bytes, ReadError>
+        ensures same_disk { self.new.disk.ghost_name ≡ self.old.disk.ghost_name }
+        ensures journal_stays { self.new.journal ≡ self.old.journal }
+        ensures body { (entries : List Entry) (doubt : Option Entry) (entry : Entry)
+            → Means (D.state self.old.disk.now) self.old.journal entries doubt → IsAt entries place entry
+            → MatchResult result (λ body. body ≡ entry.body) (λ error. error ≢ ReadError.Altered) }
+        ensures entries_stay { (entries : List Entry) (doubt : Option Entry)
+            → Means (D.state self.old.disk.now) self.old.journal entries doubt
+            → Means (D.state self.new.disk.now) self.new.journal entries doubt }
+        ensures disk_stays { Looks (D.state self.old.disk.now) (D.state self.new.disk.now) }
+        ensures calls { (D.state self.new.disk.now).calls ≤ (D.state self.old.disk.now).calls + 2 }
+        ensures cause { IsErrOf result ReadError.StoreFault → DiskFailed (D.state self.old.disk.now) (D.state self.new.disk.now) }
+    {
+        entry_is_one();
+        self.journal.read(alloc, self.disk, place)
+    }
+
+    /// Whether the disk reads as a text from a place on, as an entry's body from some byte of it on. It takes no memory.
+    pub fn holds(&mut self, place: u64, text: &[u8]) -> Result<bool, Failed>
+        ensures same_disk { self.new.disk.ghost_name ≡ self.old.disk.ghost_name }
+        ensures journal_stays { self.new.journal ≡ self.old.journal }
+
+        // Behind the body may stand anything.
+        ensures holds { IfOk result (λ holds. (entries : List Entry) (doubt : Option Entry) (entry : Entry) (at skip : ℕ)
+            → Means (D.state self.old.disk.now) self.old.journal entries doubt → IsAt entries at entry
+            → place ≡ at + (head_size + skip) → skip ≤ length entry.body
+            → (more : List ℕ) × (IsTrue holds ↔ (take (length text.now) (drop skip entry.body ++ more) ≡ text.now))) }
+        ensures entries_stay { (entries : List Entry) (doubt : Option Entry)
+            → Means (D.state self.old.disk.now) self.old.journal entries doubt
+            → Means (D.state self.new.disk.now) self.new.journal entries doubt }
+        ensures disk_stays { Looks (D.state self.old.disk.now) (D.state self.new.disk.now) }
+        ensures calls { (D.state self.new.disk.now).calls
+            ≤ (D.state self.old.disk.now).calls + 1 + div_ceil (length text.now) piece_size }
+        ensures cause { OnErr result (DiskFailed (D.state self.old.disk.now) (D.state self.new.disk.now)) }
+    {
+        entry_is_one();
+        self.journal.holds(self.disk, place, text)
+    }
+
+    /// Each image that a stop may leave now stands for the entries, and with a doubt for those, or those and the entry in
+    /// doubt.
+    pub fn stops(&self)
+        ensures { (entries : List Entry) (doubt : Option Entry) (image : List ℕ)
+            → Means (D.state self.now.disk.now) self.now.journal entries doubt
+            → (D.state self.now.disk.now).images image → StandsFor entries doubt image }
+    {
+        let _ = &self.journal;
+    }
+
+    /// The disk that was lent.
+    pub fn into_disk(self) -> &'a mut D
+        ensures same_disk { result.ghost_name ≡ self.entry.disk.ghost_name }
+        ensures disk { result.now ≡ self.entry.disk.now }
+    {
+        let Vault { disk, .. } = self;
+        disk
+    }
+}
