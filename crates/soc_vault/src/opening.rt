@@ -29,7 +29,7 @@ pub fn open<D: Disk, R: Recover>(
     requires { (start : ℕ) → R.was_given into.old start [] }
     ensures opens { IfOk result (λ journal. Opens (R.was_given into.new) limit (D.state disk.old) (D.state disk.new) journal) }
     ensures not_ours { IsErrOf result OpenError.NotOurs → IfSome (D.state disk.old).content (λ bytes. (bytes ≢ []) × ¬ (HasHeader bytes)) }
-    ensures bad_entry { (place : ℕ) → IsErrOf result (OpenError.BadEntry place) → IfSome (D.state disk.old).content (λ bytes. StopsAt R.refuses bytes place) }
+    ensures bad_entry { (place : ℕ) → IsErrOf result (OpenError.BadEntry place) → IfSome (D.state disk.old).content (λ bytes. StopsAt R.was_given R.refuses into.new bytes place) }
     ensures any_moment { IfSome (D.state disk.old).content (λ bytes.
         LeavesOnly (D.state disk.old) (D.state disk.new) (OpeningLeaves (D.state disk.old).images bytes)) }
     ensures refused { IfErr result (λ error. error ≢ OpenError.StoreFault → IfSome (D.state disk.old).content (λ bytes.
@@ -56,7 +56,7 @@ fn give_all<D: Disk, R: Recover>(
     ensures given { IfOk result (λ all. HasGivenAll (R.was_given into.new) all (D.state disk.old).content (D.state disk.new).images) }
     ensures ended { IfOk result (λ all. IsTrue all.ended) }
     ensures limit { IfOk result (λ all. all.limit ≡ opening.limit) }
-    ensures bad_entry { (place : ℕ) → IsErrOf result (OpenError.BadEntry place) → IfSome (D.state disk.old).content (λ bytes. StopsAt R.refuses bytes place) }
+    ensures bad_entry { (place : ℕ) → IsErrOf result (OpenError.BadEntry place) → IfSome (D.state disk.old).content (λ bytes. StopsAt R.was_given R.refuses into.new bytes place) }
     ensures no_other { IfErr result (λ error. error ≢ OpenError.NotOurs) }
     ensures looks { Looks (D.state disk.old) (D.state disk.new) }
     ensures cause { IsErrOf result OpenError.StoreFault → DiskFailed (D.state disk.old) (D.state disk.new) }
