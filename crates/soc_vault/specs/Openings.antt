@@ -46,7 +46,8 @@ pub record Opens (was_given : ℕ → List Entry → Type 0) (limit : ℕ) (befo
   pub means : IfSome before.content (λ bytes. Means after journal entries None)
   pub stands : IfSome before.content (λ bytes. StandsSince before after bytes entries)
 
--- the bytes break the grammar first at this place, and nothing was refused: their first entries were given, and all taken
+-- the bytes break the grammar first at this place, and no entry was refused: those that were given, their first ones, were
+-- taken
 pub record BreaksAt (was_given : ℕ → List Entry → Type 0) (bytes : List ℕ) (place : ℕ) : Type 0 where
   pub bad : FirstBad bytes place
   pub start : ℕ
@@ -55,7 +56,7 @@ pub record BreaksAt (was_given : ℕ → List Entry → Type 0) (bytes : List �
   pub given : was_given start entries
   pub begins : Begins entries rest bytes
 
--- behind the first entries of the bytes, at this place, stands one that is refused by who had taken those before
+-- behind the first entries of the bytes, at this place, stands one that is refused, once those before were taken
 pub record RefusedAt {Into : Type 0} (was_given : Into → ℕ → List Entry → Type 0) (refuses : List Entry → Entry → Type 0) (bytes : List ℕ) (place : ℕ) : Type 0 where
   pub start : ℕ
   pub entries : List Entry
@@ -67,7 +68,7 @@ pub record RefusedAt {Into : Type 0} (was_given : Into → ℕ → List Entry �
   pub taken : was_given into start entries
   pub refused : refuses entries entry
 
--- No journal's entries that are all taken: a break of the grammar, or an entry that is refused, stands at this place. What
--- is left of who takes them is `now`.
+-- No journal's entries that are all taken: a break of the grammar, or an entry that is refused, stands at this place.
+-- `now` is whoever takes them, at the end.
 abbrev pub StopsAt : {Into : Type 0} → (Into → ℕ → List Entry → Type 0) → (List Entry → Entry → Type 0) → Into → List ℕ → ℕ → Type 0
 StopsAt was_given refuses now bytes place = BreaksAt (was_given now) bytes place ⊎ RefusedAt was_given refuses bytes place
