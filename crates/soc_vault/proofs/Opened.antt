@@ -6,7 +6,7 @@ use Rattle.soc_journal.specs.Entries.{Entry, entries_text}
 use Rattle.soc_journal.specs.Openings.{OpeningState, HasRead, HasReadAll}
 use Rattle.soc_journal.specs.States.{JournalState, AtRest}
 use Rattle.soc_journal.specs.Text.{JournalText, IsOneText, IsOneFault, empty_journal}
-use Rattle.soc_vault.specs.Openings.{AreEntriesOf, OpeningLeaves, place_from, StandsSince, StopsAt, Opens}
+use Rattle.soc_vault.specs.Openings.{AreEntriesOf, FirstLeaves, OpeningLeaves, place_from, StandsSince, StopsAt, Opens}
 use Rattle.soc_vault.specs.inner.Readings.{HasGivenAll}
 use Rattle.soc_vault.proofs.Findings.{length-entry_text, length-entries_text-push}
 
@@ -36,11 +36,15 @@ module _ (before begun : DiskTold) (stays : IfSome before.content (λ bytes. byt
   looks_at : (bytes : List ℕ) → before.content ≡ Some bytes → bytes ≢ [] → Looks before begun
   looks_at bytes told some = IfSome_at before.content (λ x. x ≢ [] → Looks before begun) bytes told stays some
 
-  leaves_first : (bytes : List ℕ) → before.content ≡ Some bytes → LeavesOnly before begun (OpeningLeaves before.images bytes)
-  leaves_first [] told = LeavesOnly-weaker before begun _ (OpeningLeaves before.images []) (λ image torn. inr (inr (refl, torn))) tears.any_moment
-  leaves_first (x ∷ xs) told =
+  leaves_begun : (bytes : List ℕ) → before.content ≡ Some bytes → LeavesOnly before begun (FirstLeaves before.images bytes)
+  leaves_begun [] told = LeavesOnly-weaker before begun _ (FirstLeaves before.images []) (λ image torn. inr (refl, torn)) tears.any_moment
+  leaves_begun (x ∷ xs) told =
       let some : x ∷ xs ≢ [] = λ same. cc in
-      LeavesOnly-weaker before begun before.images (OpeningLeaves before.images (x ∷ xs)) (λ image was. inl was) (looks_at (x ∷ xs) told some).any_moment
+      LeavesOnly-weaker before begun before.images (FirstLeaves before.images (x ∷ xs)) (λ image was. inl was) (looks_at (x ∷ xs) told some).any_moment
+
+  leaves_first : (bytes : List ℕ) → before.content ≡ Some bytes → LeavesOnly before begun (OpeningLeaves before.images bytes)
+  leaves_first bytes told =
+      LeavesOnly-weaker before begun (FirstLeaves before.images bytes) (OpeningLeaves before.images bytes) (λ image first. inl first) (leaves_begun bytes told)
 
   pub first_moment : IfSome before.content (λ bytes. LeavesOnly before begun (OpeningLeaves before.images bytes))
   first_moment = IfSome-from before.content leaves_first
@@ -68,19 +72,20 @@ module _ (before begun : DiskTold) (stays : IfSome before.content (λ bytes. byt
       ]
 
       -- an empty journal has no place that an opening stops at
-      stops_nowhere : IsOneFault → (refuses : List Entry → Entry → Type 0) (place : ℕ) → StopsAt refuses empty_journal place → ⊥
-      stops_nowhere fault refuses place (inl bad) = fault.no_text empty_journal place [] bad empty_text
-      stops_nowhere fault refuses place (inr refused) =
+      stops_nowhere : {Into : Type 0} → IsOneFault → (was_given : Into → ℕ → List Entry → Type 0) (refuses : List Entry → Entry → Type 0) (now : Into) (place : ℕ) → StopsAt was_given refuses now empty_journal place → ⊥
+      stops_nowhere fault was_given refuses now place (inl breaks) = fault.no_text empty_journal place [] breaks.bad empty_text
+      stops_nowhere fault was_given refuses now place (inr refused) =
           let all = ap (λ (x : List ℕ). length x) refused.begins.whole in
           let text = length-entries_text-push refused.entries refused.entry in
           let long = length-entry_text refused.entry in
           let parts = length-append (entries_text (refused.entries ++ refused.entry ∷ [])) refused.rest in
           omega (arith, all, text, long, parts)
 
-      pub stops_before : IsOneFault → (refuses : List Entry → Entry → Type 0) (place : ℕ) → IfSome begun.content (λ b. StopsAt refuses b place) → IfSome before.content (λ bytes. StopsAt refuses bytes place)
-      stops_before fault refuses place stops = IfSome-from before.content (λ bytes told. elim (begun_as bytes told) [
-        | inl same ↦ IfSome_at begun.content (λ b. StopsAt refuses b place) bytes same stops
-        | inr none ↦ absurd (stops_nowhere fault refuses place (IfSome_at begun.content (λ b. StopsAt refuses b place) empty_journal none.1 stops))
+      pub stops_before : {Into : Type 0} → IsOneFault → (was_given : Into → ℕ → List Entry → Type 0) (refuses : List Entry → Entry → Type 0) (now : Into) (place : ℕ)
+          → IfSome begun.content (λ b. StopsAt was_given refuses now b place) → IfSome before.content (λ bytes. StopsAt was_given refuses now bytes place)
+      stops_before fault was_given refuses now place stops = IfSome-from before.content (λ bytes told. elim (begun_as bytes told) [
+        | inl same ↦ IfSome_at begun.content (λ b. StopsAt was_given refuses now b place) bytes same stops
+        | inr none ↦ absurd (stops_nowhere fault was_given refuses now place (IfSome_at begun.content (λ b. StopsAt was_given refuses now b place) empty_journal none.1 stops))
       ])
 
       content_begun : (bytes : List ℕ) → before.content ≡ Some bytes → (now : List ℕ) × (begun.content ≡ Some now)
@@ -103,14 +108,14 @@ module _ (before begun : DiskTold) (stays : IfSome before.content (λ bytes. byt
             let begins = GoesOn-append before begun read tears.goes_on looks.goes_on in
             let found = entries_found given.entries bytes told text_begun in
             LeavesOnly-append before read after (OpeningLeaves before.images bytes) begins goes_on (leaves_read bytes told)
-            (LeavesOnly-weaker read after (JournalText given.entries) (OpeningLeaves before.images bytes) (λ image text. inr (inl (given.entries, found, text))) (leaves_entries bytes told))
+            (LeavesOnly-weaker read after (JournalText given.entries) (OpeningLeaves before.images bytes) (λ image text. inr (given.entries, found, text)) (leaves_entries bytes told))
 
         pub whole_moment : IfSome before.content (λ bytes. LeavesOnly before after (OpeningLeaves before.images bytes))
         whole_moment = IfSome-from before.content leaves_all
 
         module _ (opening : OpeningState) (opened : IfSome begun.content (λ bytes. HasRead opening [] bytes begun.images)) where
           -- since the first sync each stop leaves the entries
-          stands_since : (bytes : List ℕ) → before.content ≡ Some bytes → StandsSince before after given.entries
+          stands_since : (bytes : List ℕ) → before.content ≡ Some bytes → StandsSince before after bytes given.entries
           stands_since bytes told =
               let now = content_begun bytes told in
               let text = IfSome_at begun.content (λ b. JournalText given.entries b) now.0 now.1 text_begun in
@@ -121,6 +126,10 @@ module _ (before begun : DiskTold) (stays : IfSome before.content (λ bytes. byt
                 moment = begun.moment;
                 begins = tears.goes_on.later;
                 ends = omega arith;
+                until = λ image left. elim ((GoesOn-append begun read after looks.goes_on goes_on).nothing_else before.moment image tears.goes_on.later left) [
+                  | inl past ↦ inr ((leaves_begun bytes told).each image past)
+                  | inr later ↦ inl later
+                ];
                 each = λ image left. elim (goes_on.nothing_else begun.moment image first_later left) [
                   | inl past ↦
                       let P : List ℕ → Type 0 = λ x. JournalText given.entries x in

@@ -1,5 +1,5 @@
 -- Where the entries of a vault stand, and what stays where nothing was written.
-use Rattle.std.proofs.Common.{◌≡◌, inl, inr, ℕ, ◌+◌, ◌≤◌, Bool, IsTrue, ◌↔◌, Option, Some, None, IfSome, IsSomeAnd, List, [], ◌∷◌, ◌++◌, length, take, drop, sym, ◌∙◌, ap, subst, arith, append_assoc, length-append}
+use Rattle.std.proofs.Common.{◌≡◌, ◌≢◌, inl, inr, ℕ, ◌+◌, ◌≤◌, Bool, IsTrue, ◌↔◌, Option, Some, None, IfSome, IsSomeAnd, Result, Ok, Err, OnOk, MatchResult, List, [], ◌∷◌, ◌++◌, length, take, drop, refl, sym, ◌∙◌, ap, subst, arith, append_assoc, length-append}
 use Rattle.std.specs.List.{AllByRecursion}
 use Rattle.std.proofs.lemmas.Bool.Decides.{nat_tests}
 use Rattle.std.proofs.lemmas.Grind.{flat_map-append}
@@ -8,10 +8,13 @@ use Rattle.std.proofs.lemmas.List.{drop-append-le, drop-drop}
 use Rattle.soc_edge.specs.Disk.{DiskTold, Looks}
 use Rattle.soc_journal.specs.Bodies.{StandsBefore, ReadsFrom}
 use Rattle.soc_journal.specs.Entries.{Entry, IsEntryOf, has_kind, second_version, head_size, entry_text, entries_text, place_behind}
+use Rattle.soc_journal.specs.Openings.{Counts}
 use Rattle.soc_journal.specs.States.{JournalState, AtRest, InDoubt}
 use Rattle.soc_journal.specs.Text.{JournalText, StandsAt, IsOneEntry}
+use Rattle.soc_journal.specs.declared.error.ReadError.{ReadError}
+use Rattle.soc_journal.specs.declared.error.ReadError.TheVariants.{StoreFault, Altered, NoMemory}
 use Rattle.soc_journal.proofs.Standing.{AtRest-stays, InDoubt-stays}
-use Rattle.soc_vault.specs.Vaults.{Means, IsAt}
+use Rattle.soc_vault.specs.Vaults.{Means, IsAt, GivesEntry}
 
 -- ---- what is told
 
@@ -52,6 +55,13 @@ has_kind_second version kind known = grind (arith, nat_tests)
 
 second_entry : (version : ℕ) (entry : Entry) → IsEntryOf version entry → IsEntryOf second_version entry
 second_entry version entry legal = record { known = has_kind_second version entry.kind legal.known; short = legal.short }
+
+-- an entry whose head counts
+pub counts_entry : (version kind count place end : ℕ) (body given : List ℕ) → Counts version kind count place end → given ≡ body → length given ≡ count → IsEntryOf second_version (record { kind = kind; body = body })
+counts_entry version kind count place end body given counts same size =
+    let all : length body ≡ count = ap (λ (x : List ℕ). length x) (sym same) ∙ size in
+    let short = counts.short in
+    record { known = has_kind_second version kind counts.known; short = omega arith }
 
 -- the place behind an entry isn't past the last one's
 place_within : (before : List Entry) (entry : Entry) (behind : List Entry) → place_behind before + length (entry_text entry) ≤ place_behind (before ++ entry ∷ behind)
@@ -106,6 +116,15 @@ of_entry one disk journal Q R entries None place entry means at told then = IsSo
     then bytes (stands_of one bytes journal entries place entry rests.gate_stands at rests.text) q)
 of_entry one disk journal Q R entries (Some more) place entry means at told then = IsSomeAnd_with disk.content R means told (λ bytes doubts q.
     then bytes (stands_in_doubt one bytes journal entries more disk.images place entry doubts at) q)
+
+-- what a journal's read answers, as one statement
+pub gives_entry : (told : Option (List ℕ)) (place gate : ℕ) (answer : Result (List ℕ) ReadError) → IfSome told (λ bytes. (entry : Entry) → StandsBefore bytes place gate entry → MatchResult answer (λ body. body ≡ entry.body) (λ error. error ≢ Altered))
+    → OnOk answer (IfSome told (λ bytes. (entry : Entry) × StandsBefore bytes place gate entry)) → IfSome told (λ bytes. GivesEntry bytes place gate answer)
+gives_entry None place gate answer body found = tt
+gives_entry (Some bytes) place gate (Ok given) body found = (found.0, found.1, body found.0 found.1)
+gives_entry (Some bytes) place gate (Err Altered) body found = λ entry stands. body entry stands refl
+gives_entry (Some bytes) place gate (Err StoreFault) body found = tt
+gives_entry (Some bytes) place gate (Err NoMemory) body found = tt
 
 -- ---- a text in a body
 

@@ -18,23 +18,25 @@ place_from start entries = start + length (entries_text entries)
 abbrev pub AreEntriesOf : List ℕ → List Entry → Type 0
 AreEntriesOf bytes entries = ((bytes ≡ []) × (entries ≡ [])) ⊎ JournalText entries bytes
 
--- What a stop during an opening may leave: what it might have left before, or a journal of the disk's entries, or of a disk
--- without bytes what the write of an empty journal, cut short, makes of it.
-abbrev pub OpeningLeaves : (List ℕ → Type 0) → List ℕ → List ℕ → Type 0
-OpeningLeaves images bytes image =
-    images image
-    ⊎ (((entries : List Entry) × AreEntriesOf bytes entries × JournalText entries image)
-    ⊎ ((bytes ≡ []) × IsTorn images 0 (length empty_journal) image))
+-- what a stop may leave before the journal stands: what it might have left before, or of a disk without bytes what the write
+-- of an empty journal, cut short, makes of it
+abbrev pub FirstLeaves : (List ℕ → Type 0) → List ℕ → List ℕ → Type 0
+FirstLeaves images bytes image = images image ⊎ ((bytes ≡ []) × IsTorn images 0 (length empty_journal) image)
 
--- from this moment of a call on, each stop leaves a journal of these entries
-pub record StandsSince (before after : DiskTold) (entries : List Entry) : Type 0 where
+-- what a stop during an opening may leave: that, or a journal of the disk's entries
+abbrev pub OpeningLeaves : (List ℕ → Type 0) → List ℕ → List ℕ → Type 0
+OpeningLeaves images bytes image = FirstLeaves images bytes image ⊎ ((entries : List Entry) × AreEntriesOf bytes entries × JournalText entries image)
+
+-- from this moment of a call on, each stop leaves a journal of these entries; until then it leaves those first images
+pub record StandsSince (before after : DiskTold) (bytes : List ℕ) (entries : List Entry) : Type 0 where
   pub moment : ℕ
   pub begins : before.moment ≤ moment
   pub ends : moment ≤ after.moment
+  pub until : (image : List ℕ) → after.since before.moment image → after.since moment image ⊎ FirstLeaves before.images bytes image
   pub each : (image : List ℕ) → after.since moment image → JournalText entries image
 
 -- The entries that were given are all that the disk's bytes have, and the disk holds their journal. Once the first sync is
--- done each stop leaves it.
+-- done, or the empty journal is made, each stop leaves it.
 pub record Opens (was_given : ℕ → List Entry → Type 0) (limit : ℕ) (before after : DiskTold) (journal : JournalState) : Type 0 where
   pub start : ℕ
   pub entries : List Entry
@@ -42,17 +44,31 @@ pub record Opens (was_given : ℕ → List Entry → Type 0) (limit : ℕ) (befo
   pub journal_is : journal ≡ record { gate = place_from start entries; limit = limit; doubt = None }
   pub found : IfSome before.content (λ bytes. AreEntriesOf bytes entries)
   pub means : IfSome before.content (λ bytes. Means after journal entries None)
-  pub stands : IfSome before.content (λ bytes. StandsSince before after entries)
+  pub stands : IfSome before.content (λ bytes. StandsSince before after bytes entries)
 
--- behind the first entries of the bytes, at this place, stands one that is refused
-pub record RefusedAt (refuses : List Entry → Entry → Type 0) (bytes : List ℕ) (place : ℕ) : Type 0 where
+-- the bytes break the grammar first at this place, and no entry was refused: those that were given, their first ones, were
+-- taken
+pub record BreaksAt (was_given : ℕ → List Entry → Type 0) (bytes : List ℕ) (place : ℕ) : Type 0 where
+  pub bad : FirstBad bytes place
+  pub start : ℕ
+  pub entries : List Entry
+  pub rest : List ℕ
+  pub given : was_given start entries
+  pub begins : Begins entries rest bytes
+
+-- behind the first entries of the bytes, at this place, stands one that is refused, once those before were taken
+pub record RefusedAt {Into : Type 0} (was_given : Into → ℕ → List Entry → Type 0) (refuses : List Entry → Entry → Type 0) (bytes : List ℕ) (place : ℕ) : Type 0 where
+  pub start : ℕ
   pub entries : List Entry
   pub entry : Entry
   pub rest : List ℕ
   pub begins : Begins (entries ++ entry ∷ []) rest bytes
   pub behind : place ≡ place_behind entries
+  pub into : Into
+  pub taken : was_given into start entries
   pub refused : refuses entries entry
 
--- no journal's entries that are all taken: a break of the grammar, or an entry that is refused, stands at this place
-abbrev pub StopsAt : (List Entry → Entry → Type 0) → List ℕ → ℕ → Type 0
-StopsAt refuses bytes place = FirstBad bytes place ⊎ RefusedAt refuses bytes place
+-- No journal's entries that are all taken: a break of the grammar, or an entry that is refused, stands at this place.
+-- `now` is whoever takes them, at the end.
+abbrev pub StopsAt : {Into : Type 0} → (Into → ℕ → List Entry → Type 0) → (List Entry → Entry → Type 0) → Into → List ℕ → ℕ → Type 0
+StopsAt was_given refuses now bytes place = BreaksAt (was_given now) bytes place ⊎ RefusedAt was_given refuses bytes place

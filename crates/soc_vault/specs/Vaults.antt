@@ -1,9 +1,12 @@
 -- What the disk of a vault holds, and where an entry stands in it.
-use Rattle.std.specs.Prelude.{◌≡◌, ℕ, Option, Some, None, IsSomeAnd, List, ◌∷◌, ◌++◌}
+use Rattle.std.specs.Prelude.{◌≡◌, ℕ, Option, Some, None, IsSomeAnd, Result, Ok, Err, List, ◌∷◌, ◌++◌, ⊤}
 use Rattle.soc_edge.specs.Disk.{DiskTold}
+use Rattle.soc_journal.specs.Bodies.{StandsBefore}
 use Rattle.soc_journal.specs.Entries.{Entry, place_behind}
 use Rattle.soc_journal.specs.Text.{JournalText, EitherText}
 use Rattle.soc_journal.specs.States.{JournalState, AtRest, InDoubt, entries_after}
+use Rattle.soc_journal.specs.declared.error.ReadError.{ReadError}
+use Rattle.soc_journal.specs.declared.error.ReadError.TheVariants.{StoreFault, Altered, NoMemory}
 use Rattle.soc_journal.specs.declared.settled.Settled.{Settled}
 
 -- The disk tells that it holds the journal of these entries, and so does each image that a stop may leave. With a doubt
@@ -28,3 +31,10 @@ pub record IsAt (entries : List Entry) (place : ℕ) (entry : Entry) : Type 0 wh
   pub behind : List Entry
   pub whole : entries ≡ before ++ entry ∷ behind
   pub place_is : place ≡ place_behind before
+
+-- what a read at a place answers: the body of an entry that stands there before the closed gate, or that there is none
+abbrev pub GivesEntry : List ℕ → ℕ → ℕ → Result (List ℕ) ReadError → Type 0
+GivesEntry bytes place gate (Ok body) = (entry : Entry) × StandsBefore bytes place gate entry × (body ≡ entry.body)
+GivesEntry bytes place gate (Err Altered) = (entry : Entry) → ¬ (StandsBefore bytes place gate entry)
+GivesEntry bytes place gate (Err StoreFault) = ⊤
+GivesEntry bytes place gate (Err NoMemory) = ⊤

@@ -4,12 +4,14 @@
 //! the disk has it, and nothing else is kept before.
 #![tactic(auto)]
 
+mod laws;
 mod opening;
 mod recovery;
 #[cfg(test)]
 mod tests;
 mod vault;
 
+pub use laws::images_stand_for_entries;
 pub use opening::open;
 pub use recovery::{Found, Recover};
 pub use vault::Vault;

@@ -1,10 +1,10 @@
 //! Opening what a disk holds.
 ghost use Rattle.std.specs.Prelude.{◌≡◌, ◌≢◌, ◌⊎◌, ◌+◌, ◌≤◌, ℕ, List, [], IfSome, IfOk, OnOk, OnErr, IfErr, IsErrOf, IsTrue, is_none};
 ghost use Rattle.soc_edge.specs.Disk.{LeavesOnly, Looks, GoesOn, DiskFailed};
-ghost use Rattle.soc_journal.specs.Entries.{Entry};
+ghost use Rattle.soc_journal.specs.Entries.{Entry, IsEntryOf, second_version};
 ghost use Rattle.soc_journal.specs.Text.{HasHeader};
 ghost use Rattle.soc_journal.specs.Openings.{HasRead};
-ghost use Rattle.soc_vault.specs.Openings.{Opens, OpeningLeaves, StopsAt};
+ghost use Rattle.soc_vault.specs.Openings.{entry_of, Opens, OpeningLeaves, StopsAt};
 ghost use Rattle.soc_vault.specs.inner.Readings.{FindsNext, MovesBy, HasGivenAll};
 
 use crate::recovery::{Found, Recover};
@@ -12,9 +12,11 @@ use soc_edge::Disk;
 use soc_journal::{Journal, OpenError, Opening, ReadError, fault_is_one, text_is_one};
 use std::alloc::Global;
 
-/// Opens the journal of at most `limit` bytes that a disk holds, and gives its entries in order, of which one at a time is
-/// in memory. It makes an empty journal on a disk of length 0, and one of the second version of one of the first. Over a
-/// disk that reads ahead this is one pass in large reads.
+/// Opens the journal that a disk holds, and gives its entries in order, of which one at a time is in memory. It makes an
+/// empty journal on a disk of length 0, and turns a journal of the first version into one of the second. Over a disk that
+/// reads ahead this is one pass in large reads.
+///
+/// A journal of more than `limit` bytes is opened too: the limit binds what is kept afterwards.
 ///
 /// `NotOurs` comes where the disk doesn't begin as a journal does, `BadEntry` at the first place where neither an entry that
 /// is taken nor the closed gate stands, and `StoreFault` only where the disk failed.
@@ -27,7 +29,7 @@ pub fn open<D: Disk, R: Recover>(
     requires { (start : ℕ) → R.was_given into.old start [] }
     ensures opens { IfOk result (λ journal. Opens (R.was_given into.new) limit (D.state disk.old) (D.state disk.new) journal) }
     ensures not_ours { IsErrOf result OpenError.NotOurs → IfSome (D.state disk.old).content (λ bytes. (bytes ≢ []) × ¬ (HasHeader bytes)) }
-    ensures bad_entry { (place : ℕ) → IsErrOf result (OpenError.BadEntry place) → IfSome (D.state disk.old).content (λ bytes. StopsAt R.refuses bytes place) }
+    ensures bad_entry { (place : ℕ) → IsErrOf result (OpenError.BadEntry place) → IfSome (D.state disk.old).content (λ bytes. StopsAt R.was_given R.refuses into.new bytes place) }
     ensures any_moment { IfSome (D.state disk.old).content (λ bytes.
         LeavesOnly (D.state disk.old) (D.state disk.new) (OpeningLeaves (D.state disk.old).images bytes)) }
     ensures refused { IfErr result (λ error. error ≢ OpenError.StoreFault → IfSome (D.state disk.old).content (λ bytes.
@@ -54,7 +56,7 @@ fn give_all<D: Disk, R: Recover>(
     ensures given { IfOk result (λ all. HasGivenAll (R.was_given into.new) all (D.state disk.old).content (D.state disk.new).images) }
     ensures ended { IfOk result (λ all. IsTrue all.ended) }
     ensures limit { IfOk result (λ all. all.limit ≡ opening.limit) }
-    ensures bad_entry { (place : ℕ) → IsErrOf result (OpenError.BadEntry place) → IfSome (D.state disk.old).content (λ bytes. StopsAt R.refuses bytes place) }
+    ensures bad_entry { (place : ℕ) → IsErrOf result (OpenError.BadEntry place) → IfSome (D.state disk.old).content (λ bytes. StopsAt R.was_given R.refuses into.new bytes place) }
     ensures no_other { IfErr result (λ error. error ≢ OpenError.NotOurs) }
     ensures looks { Looks (D.state disk.old) (D.state disk.new) }
     ensures cause { IsErrOf result OpenError.StoreFault → DiskFailed (D.state disk.old) (D.state disk.new) }
@@ -75,6 +77,7 @@ fn find_next<D: Disk>(
     ensures finds { IfSome (D.state disk.old).content (λ bytes. (entries : List Entry) → HasRead opening.old entries bytes (D.state disk.old).images
         → FindsNext entries bytes (D.state disk.new).images result opening.new) }
     ensures moves { IfOk result (λ next. MovesBy opening.old next opening.new) }
+    ensures counts { IfOk result (λ next. IfSome next (λ found. IsEntryOf second_version (entry_of found))) }
     ensures opening { opening.new ≡ record opening.old { place = opening.new.place; ended = opening.new.ended } }
     ensures ended { IfOk result (λ next. opening.new.ended ≡ is_none next) }
     ensures no_other { IfErr result (λ error. error ≢ OpenError.NotOurs) }

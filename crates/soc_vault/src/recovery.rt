@@ -1,6 +1,6 @@
 //! Whoever takes the entries of a journal that is opened.
-ghost use Rattle.std.specs.Prelude.{◌≡◌, ◌⊎◌, ℕ, List, [], ◌∷◌, ◌++◌, OnOk, IfErr};
-ghost use Rattle.soc_journal.specs.Entries.{Entry};
+ghost use Rattle.std.specs.Prelude.{◌≡◌, ◌⊎◌, ◌≤◌, ℕ, List, [], ◌∷◌, ◌++◌, length, OnOk, IfErr, IsTrue};
+ghost use Rattle.soc_journal.specs.Entries.{Entry, has_kind, second_version, max_body};
 ghost use Rattle.soc_vault.specs.Openings.{entry_of, place_from};
 
 use soc_journal::OpenError;
@@ -12,7 +12,7 @@ use std::alloc::Global;
 pub struct Found {
     /// Where its gate stands: a byte's offset on the disk.
     pub place: u64,
-    /// One of the kinds that the journal's version has.
+    /// One of the kinds of a journal: `A`, `Q`, `W` or `R`.
     pub kind: u8,
     /// At most 67,108,864 bytes.
     pub body: Bytes,
@@ -28,6 +28,8 @@ pub trait Recover {
 
     /// Takes the next entry, or refuses it: with `BadEntry` at its place, or for want of memory.
     fn recover(&mut self, alloc: Global, found: Found) -> Result<(), OpenError>
+        requires known { IsTrue (has_kind second_version found.kind) }
+        requires short { length found.body ≤ max_body }
         ensures given { OnOk result ((start : ℕ) (entries : List Entry) → found.place ≡ place_from start entries
             → was_given self.old start entries → was_given self.new start (entries ++ entry_of found ∷ [])) }
         ensures refused { IfErr result (λ error. (error ≡ OpenError.NoMemory) ⊎ ((error ≡ OpenError.BadEntry found.place)

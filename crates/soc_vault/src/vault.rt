@@ -1,11 +1,11 @@
 //! The lent disk and the journal on it.
-ghost use Rattle.std.specs.Prelude.{◌≡◌, ◌≢◌, ◌+◌, ◌<◌, ◌≤◌, ◌↔◌, ℕ, List, Option, Some, None, [], ◌∷◌, ◌++◌, length, take, drop, IsSome, IfOk, OnOk, OnErr, Ok, IsErrOf, IsTrue, MatchResult};
+ghost use Rattle.std.specs.Prelude.{◌≡◌, ◌≢◌, ◌+◌, ◌<◌, ◌≤◌, ◌↔◌, ℕ, List, Option, Some, None, [], ◌∷◌, ◌++◌, length, take, drop, IsSome, IfOk, IfSome, OnOk, OnErr, Ok, IsErrOf, IsTrue, MatchResult};
 ghost use Rattle.std.specs.Int.{div_ceil};
 ghost use Rattle.soc_edge.specs.Disk.{LeavesOnly, Looks, GoesOn, DiskFailed};
-ghost use Rattle.soc_journal.specs.Bodies.{piece_size};
+ghost use Rattle.soc_journal.specs.Bodies.{ReadsFrom, piece_size};
 ghost use Rattle.soc_journal.specs.Entries.{Entry, entry_text, beside_body, head_size};
 ghost use Rattle.soc_journal.specs.States.{IsKeptAt, journal_after};
-ghost use Rattle.soc_vault.specs.Vaults.{Means, StandsFor, IsAt, settled_entries};
+ghost use Rattle.soc_vault.specs.Vaults.{Means, StandsFor, IsAt, GivesEntry, settled_entries};
 
 use soc_edge::{Disk, Failed};
 use soc_journal::{AppendError, EntryText, Journal, ReadError, Settled, entry_is_one};
@@ -95,14 +95,17 @@ impl<'a, D: Disk> Vault<'a, D> {
         self.journal.append(self.disk, entry)
     }
 
-    /// The body of the entry at a place, by two calls of the disk. `Altered` comes only where no entry begins there, and
-    /// `StoreFault` only where the disk failed.
+    /// The body of the entry at a place, by two calls of the disk. `Altered` comes exactly where no entry that ends at or
+    /// before the closed gate begins there, and `StoreFault` only where the disk failed.
+    ///
+    /// A place inside a body may read as an entry, too.
     pub fn read(&mut self, alloc: Global, place: u64) -> Result<Bytes, ReadError>
         ensures same_disk { self.new.disk.ghost_name ≡ self.old.disk.ghost_name }
         ensures journal_stays { self.new.journal ≡ self.old.journal }
         ensures body { (entries : List Entry) (doubt : Option Entry) (entry : Entry)
             → Means (D.state self.old.disk.now) self.old.journal entries doubt → IsAt entries place entry
             → MatchResult result (λ body. body ≡ entry.body) (λ error. error ≢ ReadError.Altered) }
+        ensures found { IfSome (D.state self.old.disk.now).content (λ bytes. GivesEntry bytes place self.old.journal.gate result) }
         ensures entries_stay { (entries : List Entry) (doubt : Option Entry)
             → Means (D.state self.old.disk.now) self.old.journal entries doubt
             → Means (D.state self.new.disk.now) self.new.journal entries doubt }
@@ -118,6 +121,8 @@ impl<'a, D: Disk> Vault<'a, D> {
     pub fn holds(&mut self, place: u64, text: &[u8]) -> Result<bool, Failed>
         ensures same_disk { self.new.disk.ghost_name ≡ self.old.disk.ghost_name }
         ensures journal_stays { self.new.journal ≡ self.old.journal }
+        ensures reads { IfOk result (λ holds. IfSome (D.state self.old.disk.now).content (λ bytes.
+            IsTrue holds ↔ ReadsFrom bytes place text.now)) }
 
         // Behind the body may stand anything.
         ensures holds { IfOk result (λ holds. (entries : List Entry) (doubt : Option Entry) (entry : Entry) (at skip : ℕ)
@@ -134,16 +139,6 @@ impl<'a, D: Disk> Vault<'a, D> {
     {
         entry_is_one();
         self.journal.holds(self.disk, place, text)
-    }
-
-    /// Each image that a stop may leave now stands for the entries, and with a doubt for those, or those and the entry in
-    /// doubt.
-    pub fn stops(&self)
-        ensures { (entries : List Entry) (doubt : Option Entry) (image : List ℕ)
-            → Means (D.state self.now.disk.now) self.now.journal entries doubt
-            → (D.state self.now.disk.now).images image → StandsFor entries doubt image }
-    {
-        let _ = &self.journal;
     }
 
     /// The disk that was lent.

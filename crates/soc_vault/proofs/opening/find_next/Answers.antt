@@ -1,5 +1,6 @@
 use Rattle.std.proofs.lemmas.Result.{err_from_is_err_and}
 use Rattle.soc_vault.proofs.Findings.{finds_err, finds_none, moves_by}
+use Rattle.soc_vault.proofs.Standing.{counts_entry}
 use Rattle.soc_vault.proofs.opening.find_next.Goals as goal
 
 pub returns-in_err-mark-clause-finds : goal.returns-in_err-mark-clause-finds
@@ -16,3 +17,8 @@ returns-clause-moves g c =
     let moved = rw c.in-Some.is at c.in_ok-mark.ensures.moves in
     let counted = rw c.in-Some.is at c.in_ok-mark.ensures.handed_out in
     moves_by c.args.opening.now c.next.new.self c.in-Some.mark c.in-Ok.body c.as_slice.result.now moved.0 moved.1 counted.fits c.as_slice.ensures c.if-as_slice-mark.false
+
+pub returns-clause-counts : goal.returns-clause-counts
+returns-clause-counts g c =
+    let counted = rw c.in-Some.is at c.in_ok-mark.ensures.handed_out in
+    counts_entry c.next.new.self.version c.in-Some.mark.kind c.in-Some.mark.length c.in-Some.mark.place c.next.new.self.length c.in-Ok.body c.as_slice.result.now counted c.as_slice.ensures c.if-as_slice-mark.false

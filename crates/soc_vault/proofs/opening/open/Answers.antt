@@ -12,7 +12,7 @@ returns-in_err-opening-2-clause-bad_entry g c place =
     rw (p.1, p.2) (λ is.
     stops_before (g.D.Disk.state c.args.disk.now) (g.D.Disk.state c.open.new.disk) c.open.ensures.disk_stays c.open.ensures.tears
     (g.D.Disk.state c.give_all.new.disk) (g.met.D.Disk.sound c.open.new.disk) c.give_all.ensures.looks
-    c.in_ok-opening.ensures.created c.text_is_one.ensures c.fault_is_one.ensures g.R.Recover.refuses place (c.in_err-opening-2.ensures.bad_entry place (cc)))
+    c.in_ok-opening.ensures.created c.text_is_one.ensures c.fault_is_one.ensures g.R.Recover.was_given g.R.Recover.refuses c.give_all.new.into place (c.in_err-opening-2.ensures.bad_entry place (cc)))
 
 pub returns-in_err-opening-2-clause-any_moment : goal.returns-in_err-opening-2-clause-any_moment
 returns-in_err-opening-2-clause-any_moment g c =
