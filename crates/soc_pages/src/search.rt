@@ -9,7 +9,7 @@ use soc_raw::{Bytes, NoMemory};
 use soc_schema::{Field, Row};
 use std::alloc::Global;
 
-/// The page of an answer: how many reports there are, a table with a row for each hit and a cell for each column, and a list
+/// The page of an answer: how many reports match, a table with a row for each hit and a cell for each column, and a list
 /// for each facet.
 pub fn search_page(alloc: Global, answer: &Answer) -> Result<Bytes, NoMemory>
     ensures { IfOk result (λ page. page ≡ search_page answer.now) }

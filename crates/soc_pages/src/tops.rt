@@ -8,8 +8,8 @@ use soc_raw::{Bytes, NoMemory};
 use soc_tops::{Top, Tops};
 use std::alloc::Global;
 
-/// The page of top crashers: how many reports there are, and a table with each signature's rank, the signature, and how many
-/// reports of each range of days have it.
+/// The page of top crashers: how many new reports there are, and a table with each signature's rank, the signature, and
+/// how many reports of each range of days have it.
 pub fn tops_page(alloc: Global, tops: &Tops) -> Result<Bytes, NoMemory>
     ensures { IfOk result (λ page. page ≡ tops_page tops.now) }
 {

@@ -18,8 +18,8 @@ use soc_store::Store;
 use std::alloc::Global;
 use std::sync::ledger::Ledger;
 
-/// The top crashers among the rows of a store that the query's caller may see. Rows of its product are read at most
-/// once each.
+/// The top crashers among the rows of a store that the query's caller may see. It reads at most as many rows as the
+/// query's product has.
 pub fn tops_of<L: Ledger>(
     alloc: Global,
     store: &Store,

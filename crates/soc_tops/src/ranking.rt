@@ -30,6 +30,7 @@ pub(crate) fn counts_among(
     ensures { (test : ℕ × List Cell → Bool) → places.now ≡ map (λ s. s.0) (filter test store.now)
         → IfOk result (λ counts. counts.items ≡ map (λ v. length (rows_with signature_field v (filter test store.now))) (values_of signature_field store.now)) }
 {
+    // That places rise in a store is told by this call.
     let _rows = store.len();
     let mut counts = Vec::new(alloc);
     for i in 0..store.values(Field::SIGNATURE) {

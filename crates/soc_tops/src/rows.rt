@@ -48,6 +48,7 @@ pub(crate) fn rows_found<L: Ledger>(
     ensures rising { IfOk result (λ found. IsNonDecreasing found.places.items × IsNonDecreasing found.old_places.items) }
     ensures few { steps.new ≤ steps.old + length (rows_with product_field (Value.Text query.now.product) store.now) }
 {
+    // That places rise in a store is told by this call.
     let _rows = store.len();
     if !visible(&query.caller, Some(query.product.as_str())) {
         return Ok(Found::new(alloc));
