@@ -1,0 +1,10 @@
+pub mod Digests
+pub mod Drained
+pub mod Dues
+pub mod Fields
+pub mod Found
+pub mod Logs
+pub mod Steps
+pub mod Unseen
+pub mod Views
+pub mod Granted

@@ -1,0 +1,99 @@
+-- How the reports of a run are kept for later runs: the doubt is settled, and then each crash that has a report, isn't due
+-- and has no report of the run's digest behind its last acceptance or asking gets one appended. This project's profile.
+use Rattle.std.specs.Prelude.{◌≡◌, ◌⊎◌, ℕ, ◌+◌, Bool, not, nat_lt, ◌&&◌, ◌||◌, if◌then◌else◌, List, [], ◌∷◌, ◌++◌, length, filter, Option, Some, is_some, MatchOption, map, true, ⊤}
+use Rattle.std.specs.Option.{option_map, option_map_or, option_and_then}
+use Rattle.soc_journal.specs.Entries.{max_body}
+use Rattle.soc_ledger.specs.declared.event.Event.{Event}
+use Rattle.soc_ledger.specs.declared.event.Event.TheVariants as E
+use Rattle.soc_ledger.specs.Due.{is_due}
+use Rattle.soc_ledger.specs.Events.{held_ids}
+use Rattle.soc_ledger.specs.Reported.{has_report, is_kept}
+use Rattle.soc_desk.specs.declared.desk.Reply.{Reply}
+use Rattle.soc_desk.specs.declared.desk.Reply.TheVariants as R
+use Rattle.soc_desk.specs.declared.desk.Refusal.TheVariants as F
+use Rattle.soc_desk.specs.Basis.{Basis}
+use Rattle.soc_desk.specs.Desk.{IfElse, FailsMend}
+use Rattle.soc_desk.specs.Grows.{BehindDoubt}
+use Rattle.soc_desk.specs.Log.{Kept, KeptReport, report, Change, keep, events, row_in}
+use Rattle.soc_desk.specs.State.{State, settled, Settles, body_of, has_room, kept_of, StandsFor, Allowed}
+
+abbrev pub is_to_keep : List Event → List ℕ → Bool
+is_to_keep log id = has_report log id && (not (is_due log id) && not (is_kept log id))
+
+-- the crashes whose reports are to be kept, in the order in which they were accepted; without a digest none
+abbrev pub to_keep_of : Basis → List Event → List (List ℕ)
+to_keep_of basis log = if is_some basis.digest then filter (is_to_keep log) (held_ids log) else []
+
+abbrev pub ids_to_keep : Basis → List Change → List (List ℕ)
+ids_to_keep basis log = to_keep_of basis (events basis log)
+
+-- the report of a crash, made by the run's own lists and symbols
+abbrev pub report_of : Basis → List Change → List ℕ → Option KeptReport
+report_of basis log id =
+    option_and_then (λ digest. option_map (λ row. record { id = id; digest = digest; row = row }) (row_in basis log id)) basis.digest
+
+-- the report is longer than an entry may be, or the journal has no room for it
+abbrev pub is_passed_over : Basis → List Change → KeptReport → Bool
+is_passed_over basis log made = nat_lt max_body (length (body_of (report made))) || not (has_room basis log (report made))
+
+-- the reports of these crashes are appended in order, until memory is wanted or a write fails
+abbrev pub KeepsEach : Basis → List Change → List (List ℕ) → ℕ → Reply → State → Type 0
+KeepsEach basis log [] count reply after = (reply ≡ R.Kept count) × (after ≡ settled log)
+KeepsEach basis log (id ∷ ids) count reply after =
+    ((reply ≡ R.Refused F.NoMemory) × (after ≡ settled log))
+    ⊎ MatchOption (report_of basis log id) (KeepsEach basis log ids count reply after) (λ made.
+    IfElse (is_passed_over basis log made) (KeepsEach basis log ids count reply after)
+    (((reply ≡ R.Refused F.StoreFault) × (after ≡ record { log = log; doubt = Some (report made) }))
+    ⊎ KeepsEach basis (log ++ keep (report made) ∷ []) ids (count + 1) reply after))
+
+-- the doubt is settled, and the settled log's reports are kept
+pub record SettlesAndKeeps (basis : Basis) (before : State) (reply : Reply) (after : State) : Type 0 where
+  pub log : List Change
+  pub settles : Settles before.log before.doubt log
+  pub keeps : KeepsEach basis log (ids_to_keep basis log) 0 reply after
+
+abbrev pub StepKeep : Basis → State → Reply → State → Type 0
+StepKeep basis before reply after = FailsMend before reply after ⊎ SettlesAndKeeps basis before reply after
+
+-- ---- stops
+
+-- the kept changes, and the doubt where there is one
+abbrev pub kept_with_doubt : State → List Kept
+kept_with_doubt state = kept_of state.log ++ option_map_or (λ change. change ∷ []) state.doubt []
+
+-- the image stands for the first of these changes, and has all that were there before
+pub record StandsBetween (before after : List Kept) (image : List ℕ) : Type 0 where
+  pub more : List Kept
+  pub rest : List Kept
+  pub whole : after ≡ before ++ (more ++ rest)
+  pub stands : StandsFor image (before ++ more)
+
+-- what a stop while reports are kept may leave: what was allowed before, or some of the reports in order
+abbrev pub KeepAllows : State → State → List ℕ → Type 0
+KeepAllows before after image = Allowed before image ⊎ StandsBetween (kept_of before.log) (kept_with_doubt after) image
+
+-- ---- whatever the disk tells
+
+-- the first list is the second without some of its items
+abbrev pub IsPartOf : List (List ℕ) → List (List ℕ) → Type 0
+IsPartOf [] ids = ⊤
+IsPartOf (own ∷ owns) [] = ⊥
+IsPartOf (own ∷ owns) (id ∷ ids) = ((own ≡ id) × IsPartOf owns ids) ⊎ IsPartOf (own ∷ owns) ids
+
+-- the answer has the number of reports that were appended, or a fault or want of memory stands behind some
+abbrev pub Counts : Reply → ℕ → Type 0
+Counts (R.Kept count) made = count ≡ made
+Counts (R.Refused F.StoreFault) made = ⊤
+Counts (R.Refused F.NoMemory) made = ⊤
+Counts _ made = ⊥
+
+-- of crashes whose reports are to be kept, some in their order are reported by the run's own lists and symbols
+pub record Reports (basis : Basis) (reply : Reply) (log own : List Event) : Type 0 where
+  pub ids : List (List ℕ)
+  pub among : IsPartOf ids (to_keep_of basis log)
+  pub own_is : own ≡ map (λ id. E.Reported id true) ids
+  pub count : Counts reply (length ids)
+
+-- what keeping reports adds, behind a doubt that was kept or without one
+abbrev pub KeepGrows : Basis → Reply → List Event → List Event → Type 0
+KeepGrows basis reply log piece = BehindDoubt log piece (Reports basis reply)

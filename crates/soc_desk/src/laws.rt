@@ -1,0 +1,42 @@
+//! Laws of the desk's definitions.
+ghost use Rattle.soc_desk.specs.Laws.{HidesCrashes, KeepsViews, HidesFields, ReadsShowTheView, DueByHistory, DrainsAll, DigestsDecide, StepsGrow};
+
+/// Hidden, withdrawn and absent crashes are in no view.
+pub fn hides_crashes()
+    ensures { HidesCrashes }
+{}
+
+/// A legal log that gains a hidden crash, or a change of one, has the same view.
+pub fn keeps_views()
+    ensures { KeepsViews }
+{}
+
+/// Rows that differ only in fields that aren't granted give equal views.
+pub fn hides_fields()
+    ensures { HidesFields }
+{}
+
+/// A caller's reads depend on the caller's view alone.
+pub fn reads_show_the_view()
+    ensures { ReadsShowTheView }
+{}
+
+/// On legal logs the due crashes are the held ones of digit 0 or asked for that weren't processed since.
+pub fn due_by_history()
+    ensures { DueByHistory }
+{}
+
+/// After a whole drain nothing is due, and each crash that was due has the reporter's row of its raw crash.
+pub fn drains_all()
+    ensures { DrainsAll }
+{}
+
+/// Without a doubt, content of another digest is refused as other content, whatever the disk does.
+pub fn digests_decide()
+    ensures { DigestsDecide }
+{}
+
+/// What a step appends to the log is what its command adds under its reply.
+pub fn steps_grow()
+    ensures { StepsGrow }
+{}

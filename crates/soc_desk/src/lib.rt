@@ -1,0 +1,11 @@
+//! What a desk is asked and answers: commands, replies, the log that they change, and what each caller sees of it.
+#![tactic(auto)]
+
+mod desk;
+mod laws;
+
+pub use desk::{Command, Desk, Limits, Receipt, Refusal, Reply};
+pub use laws::{
+    digests_decide, drains_all, due_by_history, hides_crashes, hides_fields, keeps_views,
+    reads_show_the_view, steps_grow,
+};
