@@ -1,7 +1,7 @@
 //! An entry as it is written.
-ghost use Rattle.std.specs.Prelude.{◌≡◌, ◌≤◌, length, IsTrue, IfOk};
+ghost use Rattle.std.specs.Prelude.{◌≡◌, ◌-◌, ◌≤◌, length, take, drop, IsTrue, IfOk};
 ghost use Rattle.soc_raw.specs.RawCrash.{record_text};
-ghost use Rattle.soc_journal.specs.Entries.{IsEntryOf, accept_kind, has_kind, second_version, max_body, sealed};
+ghost use Rattle.soc_journal.specs.Entries.{IsEntryOf, accept_kind, beside_body, has_kind, head_size, second_version, max_body, sealed};
 
 use crate::format::{ACCEPT, CLOSED_GATE, ENTRY_HEAD, OPEN_GATE};
 use soc_raw::{NoMemory, RawCrash};
@@ -57,6 +57,13 @@ impl EntryText {
         Ok(EntryText { text })
     }
 
+    /// The body alone.
+    pub fn body(&self) -> &[u8]
+        ensures { result.now ≡ self.now.body }
+    {
+        body_of(self.text.as_slice())
+    }
+
     /// The text as it stands in a journal, from the entry's own gate to the one behind it.
     pub(crate) fn as_slice(&self) -> &[u8]
         ensures text { result.now ≡ sealed self.now }
@@ -64,4 +71,12 @@ impl EntryText {
     {
         self.text.as_slice()
     }
+}
+
+/// The body in an entry's text: what stands between its head and the closed gate behind it.
+fn body_of(text: &[u8]) -> &[u8]
+    requires { beside_body ≤ length text.now }
+    ensures { result.now ≡ take (length text.now - beside_body) (drop head_size text.now) }
+{
+    &text[ENTRY_HEAD..text.len() - 1]
 }

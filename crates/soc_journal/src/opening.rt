@@ -1,5 +1,5 @@
 //! Opening a journal: its entries in order, and then the journal itself.
-ghost use Rattle.std.specs.Prelude.{◌≡◌, ◌≢◌, ◌+◌, ◌≤◌, ◌⊎◌, List, Some, None, [], ◌∷◌, length, IfSome, IsSomeAnd, IfOk, OnOk, OnErr, IfErr, IsErrOf, IsTrue, is_none, MatchOption};
+ghost use Rattle.std.specs.Prelude.{◌≡◌, ◌≢◌, ◌+◌, ◌≤◌, ◌⊎◌, ℕ, List, Some, None, [], ◌∷◌, length, IfSome, IsSomeAnd, IfOk, OnOk, OnErr, IfErr, IsErrOf, IsTrue, is_none, MatchOption};
 ghost use Rattle.std.specs.Option.{option_map};
 ghost use Rattle.soc_edge.specs.Disk.{written, Tears, WhereTold, Only, LeavesOnly, Looks, MayTear, DiskFailed};
 ghost use Rattle.soc_journal.specs.Entries.{Entry, first_version, second_version, version_place, first_gate, head_size, header};
@@ -110,6 +110,7 @@ impl Opening {
         ensures opening { self.new ≡ record self.old { place = self.new.place; ended = self.new.ended } }
         ensures ended { IfOk result (λ next. self.new.ended ≡ is_none next) }
         ensures refused { OnErr result (self.new ≡ self.old) }
+        ensures bad_place { (place : ℕ) → IsErrOf result (OpenError.BadEntry place) → place ≡ self.old.place }
         ensures no_other { IfErr result (λ error. (error ≢ OpenError.NotOurs) × (error ≢ OpenError.NoMemory)) }
 
         ensures disk_stays { Looks (D.state disk.old) (D.state disk.new) }
