@@ -1,5 +1,5 @@
 //! Opening a journal: its entries in order, and then the journal itself.
-ghost use Rattle.std.specs.Prelude.{◌≡◌, ◌≢◌, ◌+◌, ◌≤◌, ◌⊎◌, ℕ, List, Some, None, [], ◌∷◌, length, IfSome, IsSomeAnd, IfOk, OnOk, OnErr, IfErr, IsErrOf, IsTrue, is_none, MatchOption};
+ghost use Rattle.std.specs.Prelude.{◌≡◌, ◌≢◌, ◌+◌, ◌<◌, ◌≤◌, ◌^◌, ◌⊎◌, ℕ, List, Some, None, [], ◌∷◌, length, IfSome, IsSomeAnd, IfOk, OnOk, OnErr, IfErr, IsErrOf, IsTrue, is_none, MatchOption};
 ghost use Rattle.std.specs.Option.{option_map};
 ghost use Rattle.soc_edge.specs.Disk.{written, Tears, WhereTold, Only, LeavesOnly, Looks, MayTear, DiskFailed};
 ghost use Rattle.soc_journal.specs.Entries.{Entry, first_version, second_version, version_place, first_gate, head_size, header};
@@ -103,6 +103,7 @@ impl Opening {
             → Finds entries bytes (D.state disk.new).images result self.new) }
         ensures handed_out { IfOk result (λ next. IfSome next (λ mark.
             Counts self.new.version mark.kind mark.length mark.place self.new.length)) }
+        ensures within { IfOk result (λ next. IfSome next (λ mark. mark.place + head_size + mark.length < 2 ^ 64)) }
 
         ensures moves { IfOk result (λ next. MatchOption next (self.new.place ≡ self.old.place) (λ mark.
             (mark.place ≡ self.old.place) × (self.new.place ≡ self.old.place + head_size + mark.length))) }
