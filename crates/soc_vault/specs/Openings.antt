@@ -46,8 +46,7 @@ pub record Opens (was_given : ℕ → List Entry → Type 0) (limit : ℕ) (befo
   pub means : IfSome before.content (λ bytes. Means after journal entries None)
   pub stands : IfSome before.content (λ bytes. StandsSince before after bytes entries)
 
--- the bytes break the grammar first at this place, and no entry was refused: those that were given, their first ones, were
--- taken
+-- the bytes break the grammar first at this place, and no entry was refused: all that stand before it were given, and taken
 pub record BreaksAt (was_given : ℕ → List Entry → Type 0) (bytes : List ℕ) (place : ℕ) : Type 0 where
   pub bad : FirstBad bytes place
   pub start : ℕ
@@ -55,6 +54,7 @@ pub record BreaksAt (was_given : ℕ → List Entry → Type 0) (bytes : List �
   pub rest : List ℕ
   pub given : was_given start entries
   pub begins : Begins entries rest bytes
+  pub behind : place ≡ place_behind entries
 
 -- behind the first entries of the bytes, at this place, stands one that is refused, once those before were taken
 pub record RefusedAt {Into : Type 0} (was_given : Into → ℕ → List Entry → Type 0) (refuses : List Entry → Entry → Type 0) (bytes : List ℕ) (place : ℕ) : Type 0 where

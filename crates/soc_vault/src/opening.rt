@@ -1,7 +1,7 @@
 //! Opening what a disk holds.
-ghost use Rattle.std.specs.Prelude.{◌≡◌, ◌≢◌, ◌⊎◌, ◌+◌, ◌≤◌, ℕ, List, [], IfSome, IfOk, OnOk, OnErr, IfErr, IsErrOf, IsTrue, is_none};
+ghost use Rattle.std.specs.Prelude.{◌≡◌, ◌≢◌, ◌⊎◌, ◌+◌, ◌<◌, ◌≤◌, ◌^◌, ℕ, List, [], length, IfSome, IfOk, OnOk, OnErr, IfErr, IsErrOf, IsTrue, is_none};
 ghost use Rattle.soc_edge.specs.Disk.{LeavesOnly, Looks, GoesOn, DiskFailed};
-ghost use Rattle.soc_journal.specs.Entries.{Entry, IsEntryOf, second_version};
+ghost use Rattle.soc_journal.specs.Entries.{Entry, IsEntryOf, second_version, head_size};
 ghost use Rattle.soc_journal.specs.Text.{HasHeader};
 ghost use Rattle.soc_journal.specs.Openings.{HasRead};
 ghost use Rattle.soc_vault.specs.Openings.{entry_of, Opens, OpeningLeaves, StopsAt};
@@ -78,8 +78,10 @@ fn find_next<D: Disk>(
         → FindsNext entries bytes (D.state disk.new).images result opening.new) }
     ensures moves { IfOk result (λ next. MovesBy opening.old next opening.new) }
     ensures counts { IfOk result (λ next. IfSome next (λ found. IsEntryOf second_version (entry_of found))) }
+    ensures within { IfOk result (λ next. IfSome next (λ found. found.place + head_size + length found.body < 2 ^ 64)) }
     ensures opening { opening.new ≡ record opening.old { place = opening.new.place; ended = opening.new.ended } }
     ensures ended { IfOk result (λ next. opening.new.ended ≡ is_none next) }
+    ensures bad_place { (place : ℕ) → IsErrOf result (OpenError.BadEntry place) → place ≡ opening.old.place }
     ensures no_other { IfErr result (λ error. error ≢ OpenError.NotOurs) }
     ensures looks { Looks (D.state disk.old) (D.state disk.new) }
     ensures cause { IsErrOf result OpenError.StoreFault → DiskFailed (D.state disk.old) (D.state disk.new) }

@@ -1,6 +1,6 @@
 //! Whoever takes the entries of a journal that is opened.
-ghost use Rattle.std.specs.Prelude.{◌≡◌, ◌⊎◌, ◌≤◌, ℕ, List, [], ◌∷◌, ◌++◌, length, OnOk, IfErr, IsTrue};
-ghost use Rattle.soc_journal.specs.Entries.{Entry, has_kind, second_version, max_body};
+ghost use Rattle.std.specs.Prelude.{◌≡◌, ◌⊎◌, ◌+◌, ◌<◌, ◌≤◌, ◌^◌, ℕ, List, [], ◌∷◌, ◌++◌, length, OnOk, IfErr, IsTrue};
+ghost use Rattle.soc_journal.specs.Entries.{Entry, has_kind, second_version, head_size, max_body};
 ghost use Rattle.soc_vault.specs.Openings.{entry_of, place_from};
 
 use soc_journal::OpenError;
@@ -30,6 +30,7 @@ pub trait Recover {
     fn recover(&mut self, alloc: Global, found: Found) -> Result<(), OpenError>
         requires known { IsTrue (has_kind second_version found.kind) }
         requires short { length found.body ≤ max_body }
+        requires within { found.place + head_size + length found.body < 2 ^ 64 }
         ensures given { OnOk result ((start : ℕ) (entries : List Entry) → found.place ≡ place_from start entries
             → was_given self.old start entries → was_given self.new start (entries ++ entry_of found ∷ [])) }
         ensures refused { IfErr result (λ error. (error ≡ OpenError.NoMemory) ⊎ ((error ≡ OpenError.BadEntry found.place)

@@ -1,3 +1,4 @@
+use Rattle.std.proofs.Common.{length, ap, arith}
 use Rattle.std.proofs.lemmas.Result.{err_from_is_err_and}
 use Rattle.soc_vault.proofs.Findings.{finds_err, finds_none, moves_by}
 use Rattle.soc_vault.proofs.Standing.{counts_entry}
@@ -22,3 +23,9 @@ pub returns-clause-counts : goal.returns-clause-counts
 returns-clause-counts g c =
     let counted = rw c.in-Some.is at c.in_ok-mark.ensures.handed_out in
     counts_entry c.next.new.self.version c.in-Some.mark.kind c.in-Some.mark.length c.in-Some.mark.place c.next.new.self.length c.in-Ok.body c.as_slice.result.now counted c.as_slice.ensures c.if-as_slice-mark.false
+
+pub returns-clause-within : goal.returns-clause-within
+returns-clause-within g c =
+    let fits = rw c.in-Some.is at c.in_ok-mark.ensures.within in
+    let same = ap (λ x. length x) c.as_slice.ensures in
+    omega (arith, fits, same, c.if-as_slice-mark.false)
