@@ -140,7 +140,7 @@ same_rank vs rank i (r ∷ rs) rise within all =
     ∙ ap (λ o. cond (is_eq (value_cmp (get_or vs i (Text [])) (get_or vs r.index (Text [])))) (Some rank) o) (same_rank vs (rank + 1) i rs rise within all.1)
 
 -- a row has the value exactly where some are counted
-counted_has : (f : ℕ) (v : Value) (rows : List (ℕ × List Cell)) → some_has f rows v ≡ ltb 0 (length (rows_with f v rows))
+pub counted_has : (f : ℕ) (v : Value) (rows : List (ℕ × List Cell)) → some_has f rows v ≡ ltb 0 (length (rows_with f v rows))
 counted_has f v [] = refl
 counted_has f v (s ∷ ss) =
     elim (is_value v (value_of s.1 f)) as (λ b. (b || some_has f ss v) ≡ ltb 0 (length (cond b (s ∷ rows_with f v ss) (rows_with f v ss)))) [
@@ -192,7 +192,7 @@ listed_more f ranking i r done now t within here is so_far put =
         let same : (n + 1) + length ys ≡ n + suc (length ys) = omega arith in
         ap (λ l. (n, y) ∷ l) (enumerate_push (n + 1) ys x ∙ ap (λ k. enumerate_from (n + 1) ys ++ (k, x) ∷ []) same)
 
-same_top : (s : List ℕ) (n k a b : ℕ) (c d : Option ℕ) → a ≡ b → c ≡ d → ◌≡◌ {A = Top} (record { signature = s; count = n; rank = k; old_count = a; old_rank = c }) (record { signature = s; count = n; rank = k; old_count = b; old_rank = d })
+pub same_top : (s : List ℕ) (n k a b : ℕ) (c d : Option ℕ) → a ≡ b → c ≡ d → ◌≡◌ {A = Top} (record { signature = s; count = n; rank = k; old_count = a; old_rank = c }) (record { signature = s; count = n; rank = k; old_count = b; old_rank = d })
 same_top s n k a b c d e h =
     let one : ◌≡◌ {A = Top} (record { signature = s; count = n; rank = k; old_count = a; old_rank = c }) (record { signature = s; count = n; rank = k; old_count = b; old_rank = c }) = ap (λ x. record { signature = s; count = n; rank = k; old_count = x; old_rank = c }) e in
     let two : ◌≡◌ {A = Top} (record { signature = s; count = n; rank = k; old_count = b; old_rank = c }) (record { signature = s; count = n; rank = k; old_count = b; old_rank = d }) = ap (λ x. record { signature = s; count = n; rank = k; old_count = b; old_rank = x }) h in

@@ -55,7 +55,7 @@ all_at P (x ∷ xs) each = (each 0 x (omega arith), all_at P xs (λ k d h. each 
 
 module _ {X : Type 0} (R : X → X → Ordering) (o : IsTotalOrder R) where
   -- nothing is above what stands behind it
-  abbrev Up : List X → Type 0
+  abbrev pub Up : List X → Type 0
   Up [] = Unit {0}
   Up (x ∷ xs) = AllByRecursion (λ y. is_gt (R x y) ≡ false) xs × Up xs
 
@@ -138,7 +138,7 @@ module _ {X : Type 0} (R : X → X → Ordering) (o : IsTotalOrder R) where
   tail_kinds x false F G e = e
 
   -- lists that rise and have the same of each kind in the same order are the same
-  unique : (ys zs : List X) → Up ys → Up zs → ((u : X) → of_kind u ys ≡ of_kind u zs) → ys ≡ zs
+  pub unique : (ys zs : List X) → Up ys → Up zs → ((u : X) → of_kind u ys ≡ of_kind u zs) → ys ≡ zs
   unique [] [] up upz kinds = refl
   unique [] (z ∷ zs) up upz kinds = let e : [] ≡ z ∷ of_kind z zs = kinds z ∙ kind_itself z zs in cc
   unique (y ∷ ys) [] up upz kinds = let e : y ∷ of_kind y ys ≡ [] = sym (kind_itself y ys) ∙ kinds y in cc

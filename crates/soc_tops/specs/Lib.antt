@@ -1,4 +1,5 @@
 pub mod Asked
 pub mod Tops
 pub mod Json
+pub mod Seen
 pub mod inner

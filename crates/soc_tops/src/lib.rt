@@ -9,6 +9,7 @@ mod json;
 mod query;
 mod ranking;
 mod rows;
+mod seen;
 #[cfg(test)]
 mod tests;
 mod tops;
@@ -16,4 +17,5 @@ mod tops;
 pub use answering::tops_of;
 pub use error::TopsError;
 pub use query::{Days, TopsQuery};
+pub use seen::{tops_by_what_is_seen, tops_in_any_order};
 pub use tops::{Top, TopList, Tops};
