@@ -7,7 +7,7 @@ use Rattle.soc_siglists.specs.declared.maker.MakeError.{MakeError}
 use Rattle.soc_siglists.specs.declared.maker.MakeError.TheVariants.{Syntax, Failed, NoMemory}
 use Rattle.soc_siglists.specs.Patterns.{is_pattern}
 use Rattle.soc_siglists.specs.Entries.{is_line_feed, text_of, is_entry, entries_from}
-use Rattle.soc_siglists.specs.Reading.{bad_entry}
+use Rattle.soc_siglists.specs.Reading.{bad_entry, patterns_in}
 use Rattle.soc_siglists.specs.inner.OneFile.{MakesPattern, refusal, HasPatterns, RefusesFile, ReadsOn}
 use Rattle.soc_siglists.proofs.LineLemmas.{entries_of_line, entries_from-line}
 
@@ -79,3 +79,37 @@ reads-refused bytes rest line others text patterns number name so_far is_line is
 pub reads-end : (bytes : List ℕ) (patterns : List (List ℕ)) (number : ℕ) (name : ListName) → ReadsOn bytes patterns number [] → HasPatterns patterns name bytes
 reads-end bytes patterns number name so_far =
     (ap (option_map (λ (n : ℕ). (name, n))) so_far.same_bad, sym (so_far.same_patterns ∙ append-nil patterns))
+
+-- ---- the texts alone
+
+-- where a reader of the texts stands: these came, and this is left
+pub record TextsSoFar (bytes : List ℕ) (texts : List (List ℕ)) (rest : List ℕ) : Type 0 where
+  pub number : ℕ
+  pub same : patterns_in bytes ≡ texts ++ map (λ entry. entry.1) (entries_from number rest)
+
+pub texts-start : (bytes : List ℕ) → TextsSoFar bytes [] bytes
+texts-start bytes = record { number = 1; same = refl }
+
+pub texts-pass : (bytes rest line others text : List ℕ) (texts : List (List ℕ)) → TextsSoFar bytes texts rest
+    → line ≡ before_first is_line_feed rest → others ≡ after_first is_line_feed rest → text ≡ text_of line → false ≡ is_entry text
+    → TextsSoFar bytes texts others
+texts-pass bytes rest line others text texts so_far is_line is_others is no_entry =
+    let same : entries_from so_far.number rest ≡ entries_from (so_far.number + 1) others =
+    split so_far.number rest line others is_line is_others ∙ ap (λ (es : List Entry). es ++ entries_from (so_far.number + 1) others) (own_none so_far.number line text is no_entry) in
+    record { number = so_far.number + 1; same = so_far.same ∙ ap (λ (es : List Entry). texts ++ map (λ (e : Entry). e.1) es) same }
+
+pub texts-entry : (bytes rest line others text : List ℕ) (texts more : List (List ℕ)) → TextsSoFar bytes texts rest
+    → line ≡ before_first is_line_feed rest → others ≡ after_first is_line_feed rest → text ≡ text_of line → true ≡ is_entry text
+    → more ≡ texts ++ text ∷ [] → TextsSoFar bytes more others
+texts-entry bytes rest line others text texts more so_far is_line is_others is entry added =
+    let same = both so_far.number rest line others text is_line is_others is entry in
+    let left = map (λ (e : Entry). e.1) (entries_from (so_far.number + 1) others) in
+    record {
+      number = so_far.number + 1;
+      same =
+          so_far.same ∙ ap (λ (es : List Entry). texts ++ map (λ (e : Entry). e.1) es) same
+          ∙ sym (append_assoc texts (text ∷ []) left) ∙ ap (λ (ts : List (List ℕ)). ts ++ left) (sym added);
+    }
+
+pub texts-end : (bytes : List ℕ) (texts : List (List ℕ)) → TextsSoFar bytes texts [] → texts ≡ patterns_in bytes
+texts-end bytes texts so_far = sym (so_far.same ∙ append-nil texts)

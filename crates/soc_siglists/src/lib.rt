@@ -1,6 +1,7 @@
 //! Lists of patterns that decide which frames of a stack count in signatures.
 #![tactic(auto)]
 
+mod entries;
 mod error;
 mod failing_maker;
 mod lines;
@@ -13,6 +14,7 @@ mod regex_maker;
 #[cfg(test)]
 mod tests;
 
+pub use entries::entry_texts;
 pub use error::{ListError, ListName};
 pub use failing_maker::FailingMaker;
 pub use lists::Lists;

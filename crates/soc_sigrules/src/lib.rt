@@ -17,3 +17,4 @@ mod stack;
 
 pub use builder::{SignatureBuilder, signature};
 pub use input::{SigInput, Signature};
+pub use joins::join;

@@ -39,25 +39,24 @@ fn name_of(
     Ok(Some(Text::of(alloc, base_name(path.as_str()))?))
 }
 
-fn copy_frame(
-    alloc: Global,
-    process: &Process<'_>,
-    frame: &BorrowedFrame<'_>,
-) -> Result<Frame, NoMemory>
-    ensures { IfOk result (λ copy. copy ≡ frame_copy process.now.loaded frame.now) }
-{
-    let module = name_of(alloc, process, frame.module)?;
-    let function = text_of(alloc, frame.function)?;
-    let file = text_of(alloc, frame.file)?;
-    Ok(Frame {
-        instruction: frame.instruction,
-        trust: frame.trust,
-        module,
-        offset: frame.offset,
-        function,
-        file,
-        line: frame.line,
-    })
+impl<'a> Process<'a> {
+    /// The frame that a borrowed one of a walk stands for.
+    pub fn frame(&self, alloc: Global, frame: &BorrowedFrame<'_>) -> Result<Frame, NoMemory>
+        ensures { IfOk result (λ copy. copy ≡ frame_copy self.now.loaded frame.now) }
+    {
+        let module = name_of(alloc, self, frame.module)?;
+        let function = text_of(alloc, frame.function)?;
+        let file = text_of(alloc, frame.file)?;
+        Ok(Frame {
+            instruction: frame.instruction,
+            trust: frame.trust,
+            module,
+            offset: frame.offset,
+            function,
+            file,
+            line: frame.line,
+        })
+    }
 }
 
 /// Copies of frames.
@@ -70,7 +69,7 @@ pub fn copy_frames(
 {
     let mut copies = Frames::new(alloc);
     for frame in frames {
-        copies.push(copy_frame(alloc, process, frame)?)?;
+        copies.push(process.frame(alloc, frame)?)?;
     }
     Ok(copies)
 }

@@ -1,0 +1,15 @@
+pub mod AnnotationLemmas
+pub mod MomentLemmas
+pub mod NoteLemmas
+pub mod PathLemmas
+pub mod RowLemmas
+pub mod SplitLemmas
+pub mod ThreadLemmas
+pub mod TreeLemmas
+pub mod KitLemmas
+pub mod FrameLemmas
+pub mod StreamLemmas
+pub mod ChainLemmas
+pub mod PartLemmas
+pub mod LookupLemmas
+pub mod DigestLemmas

@@ -1,0 +1,26 @@
+//! Reports: from a raw crash to its row, with lists of frames and symbol files.
+#![tactic(auto)]
+
+mod annotations;
+mod digest;
+mod dump;
+mod error;
+mod index;
+mod kit;
+mod known;
+mod moment;
+mod parts;
+mod paths;
+mod row;
+mod source;
+mod stack;
+mod streams;
+#[cfg(test)]
+mod tests;
+mod texts;
+mod value;
+
+pub use digest::one_kit;
+pub use error::KitError;
+pub use kit::Kit;
+pub use texts::KitText;
