@@ -3,3 +3,4 @@ pub mod MakeLemmas
 pub mod LineLemmas
 pub mod FileLemmas
 pub mod FrameLemmas
+pub mod Fronts

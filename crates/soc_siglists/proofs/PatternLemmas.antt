@@ -1,20 +1,23 @@
 -- A compiled pattern matches as the grammar reads its text.
-use Rattle.std.proofs.Common.{◌≡◌, ℕ, ◌<◌, ◌≤◌, ◌==◌, Bool, true, false, ◌&&◌, List, get_or, Option, None, Some, IsSomeAnd, option_map, refl, sym, ap, ◌∙◌, subst, arith}
+use Rattle.std.proofs.Common.{◌≡◌, ℕ, zero, suc, ◌<◌, ◌≤◌, ◌==◌, Bool, true, false, ◌&&◌, List, get_or, Option, None, Some, IsSome, IsSomeAnd, option_map, length, refl, sym, ap, ◌∙◌, subst, arith, true≢false, inl, inr}
 use Rattle.std.specs.Prelude.{nat_le}
 use Rattle.std.specs.Option.{option_map_or}
 use Rattle.std.specs.Str.{chars, is_utf8, IsUtf8}
 use Rattle.std.proofs.lemmas.Str.{is_utf8-from_IsUtf8, IsUtf8-from_is_utf8}
+use Rattle.std.proofs.lemmas.Bool.{cases_Bool, eqb-true, false_from_ne_true, true_from_ne_false}
+use Rattle.std.proofs.lemmas.Str.{IsCharBoundary-start}
 use Rattle.std.proofs.lemmas.Bool.Decides.{nat_tests}
 use Rattle.regex_syntax.specs.Grammar.{Names, read}
 use Rattle.regex_syntax.specs.Brackets.{Nested}
 use Rattle.regex_hir.specs.declared.hir.Hir.{Hir}
-use Rattle.regex.specs.Patterns.{Re, Match, SameCaptures, default_config, find_str, span, Reads}
+use Rattle.regex.specs.Patterns.{Re, Match, Matches, SameCaptures, default_config, find_str, has_bytes_at, literal, span, Reads, ReadsAsText}
 use Rattle.regex.specs.Strings.{regex_source, regex_pattern}
 use Rattle.regex.specs.declared.string.regex.Regex.{Regex}
-use Rattle.regex.proofs.ForCallers.{span_alike}
+use Rattle.regex.proofs.ForCallers.{find_str_sound, find_str_complete, span_alike}
 use Rattle.soc_siglists.specs.Patterns.{is_pattern, matches_start}
 use Rattle.soc_siglists.specs.Makers.{IsMade}
 use Rattle.soc_siglists.specs.inner.Compiled.{IsOwn, MatchesAs}
+use Rattle.soc_siglists.specs.inner.Literals.{IsFrame, IsLiteral, begins_with}
 
 abbrev pub Found : Type 0
 Found = Nested Re × Names
@@ -100,3 +103,49 @@ made_pattern made text bytes pattern is same utf8 is_pattern_text =
     let own : IsOwn made = record { config = is.config; read = is.read } in
     let own_utf8 : IsUtf8 (regex_source made) = subst IsUtf8 (sym source) utf8 in
     (is_pattern_text ∙ source, rw source at (own_is_pattern made own own_utf8))
+
+has_here : (text frame : List ℕ) → has_bytes_at frame 0 text ≡ begins_with frame text
+unfolding has_bytes_at
+has_here text frame = refl
+
+positive : (n : ℕ) → (n == 0) ≡ false → 0 < n
+positive zero e = absurd (true≢false e)
+positive (suc n) e = omega arith
+
+begins_not : (text frame : List ℕ) → begins_with frame text ≡ false → (o : Option Match) → find_str (literal text) frame 0 ≡ o → begins o ≡ false
+begins_not text frame fails None e = refl
+begins_not text frame fails (Some m) e =
+    let sound = find_str_sound (literal text) frame 0 m e in
+    false_from_ne_true _ (λ here. true≢false (sym sound.1.0 ∙ ap (λ n. has_bytes_at frame n text) (eqb-true m.start 0 here) ∙ has_here text frame ∙ fails))
+
+some_begins : (text frame : List ℕ) → IsFrame frame → Matches frame (literal text) 0 (length text) → (o : Option Match) → find_str (literal text) frame 0 ≡ o
+    → IsSome (find_str (literal text) frame 0) → begins o ≡ true
+some_begins text frame is matches None e some = absurd (true≢false (sym (subst IsSome e some)))
+some_begins text frame is matches (Some m) e some =
+    let sound = find_str_sound (literal text) frame 0 m e in
+    true_from_ne_false _ (λ past. sound.2 0 (length text) (omega arith) (positive m.start past) (IsCharBoundary-start frame is.utf8) matches)
+
+begins_if : (text frame : List ℕ) → IsFrame frame → begins_with frame text ≡ true → begins (find_str (literal text) frame 0) ≡ true
+begins_if text frame is passes =
+    let matches : Matches frame (literal text) 0 (length text) = (has_here text frame ∙ passes, omega arith) in
+    some_begins text frame is matches (find_str (literal text) frame 0) refl
+    (find_str_complete (literal text) frame 0 0 (length text) (omega arith) (IsCharBoundary-start frame is.utf8) matches)
+
+-- a search for a text finds it where the frame begins just where the frame begins with it
+text_begins : (text frame : List ℕ) → IsFrame frame → begins (find_str (literal text) frame 0) ≡ begins_with frame text
+text_begins text frame is = elim (cases_Bool (begins_with frame text)) [
+  | inl passes ↦ begins_if text frame is passes ∙ sym passes
+  | inr fails ↦ begins_not text frame fails (find_str (literal text) frame 0) refl ∙ sym fails
+]
+
+asked_text : (o : Option Found) (text frame : List ℕ) → IsFrame frame → IsSomeAnd o (λ found. SameCaptures found.0.value (literal text))
+    → option_map_or (λ (found : Found). begins (find_str found.0.value frame 0)) o false ≡ begins_with frame text
+asked_text None text frame is same = absurd same
+asked_text (Some found) text frame is same =
+    by_span (find_str found.0.value frame 0) ∙ ap begins_by (span_alike same frame is.bytes true 0) ∙ sym (by_span (find_str (literal text) frame 0)) ∙ text_begins text frame is
+
+-- a text that escaping leaves as it is stands for itself
+pub own_literal : (text : List ℕ) → ReadsAsText text text → IsLiteral text
+unfolding matches_start ReadsAsText
+own_literal text reads frame is =
+    asked_text (read default_config (chars text)) text frame is (weaker (read default_config (chars text)) _ _ (λ x h. h.1) (reads default_config refl refl))

@@ -6,9 +6,11 @@ mod error;
 mod failing_maker;
 mod lines;
 mod lists;
+mod literals;
 mod maker;
 mod matchers;
 mod pattern;
+mod patterns;
 mod reading;
 mod regex_maker;
 #[cfg(test)]

@@ -6,8 +6,8 @@ ghost use Rattle.soc_siglists.specs.Reading.{Gives};
 
 use crate::error::{ListError, ListName};
 use crate::maker::Maker;
-use crate::matchers::{ListMatchers, first_match, matchers_of, matches_one};
-use crate::pattern::Pattern;
+use crate::matchers::{ListMatchers, first_match};
+use crate::patterns::Patterns;
 use crate::reading::read_list;
 use soc_raw::{NoMemory, TextList};
 use std::alloc::Global;
@@ -17,15 +17,15 @@ use std::marker::Model;
 /// patterns.
 #[derive(Drop)]
 pub struct Lists {
-    irrelevant: Vec<Pattern>,
-    prefix: Vec<Pattern>,
-    sentinel: Vec<Pattern>,
+    irrelevant: Patterns,
+    prefix: Patterns,
+    sentinel: Patterns,
 }
 
 impl Model for Lists {
     ghost Value = { ListTexts };
 
-    ghost view = { λ l. record { irrelevant = l.irrelevant.items; prefix = l.prefix.items; sentinel = l.sentinel.items } };
+    ghost view = { λ l. record { irrelevant = l.irrelevant; prefix = l.prefix; sentinel = l.sentinel } };
 }
 
 impl Lists {
@@ -56,9 +56,9 @@ impl Lists {
     pub fn matchers(&self, alloc: Global) -> Result<ListMatchers<'_>, NoMemory>
         ensures { IfOk result (λ matchers. matchers ≡ self.now) }
     {
-        let irrelevant = matchers_of(alloc, &self.irrelevant)?;
-        let prefix = matchers_of(alloc, &self.prefix)?;
-        let sentinel = matchers_of(alloc, &self.sentinel)?;
+        let irrelevant = self.irrelevant.matchers(alloc)?;
+        let prefix = self.prefix.matchers(alloc)?;
+        let sentinel = self.sentinel.matchers(alloc)?;
         Ok(ListMatchers::of(irrelevant, prefix, sentinel))
     }
 
@@ -66,23 +66,23 @@ impl Lists {
     pub fn is_irrelevant(&self, alloc: Global, frame: &str) -> Result<bool, NoMemory>
         ensures { IfOk result (λ answer. answer ≡ is_irrelevant self.now frame.now) }
     {
-        let mut matchers = matchers_of(alloc, &self.irrelevant)?;
-        Ok(matches_one(&mut matchers, frame))
+        let mut matchers = self.irrelevant.matchers(alloc)?;
+        Ok(matchers.match_one(frame))
     }
 
     /// Whether a pattern of the prefix list matches where the frame begins.
     pub fn is_prefix(&self, alloc: Global, frame: &str) -> Result<bool, NoMemory>
         ensures { IfOk result (λ answer. answer ≡ is_prefix self.now frame.now) }
     {
-        let mut matchers = matchers_of(alloc, &self.prefix)?;
-        Ok(matches_one(&mut matchers, frame))
+        let mut matchers = self.prefix.matchers(alloc)?;
+        Ok(matchers.match_one(frame))
     }
 
     /// Where the first frame stands that a sentinel matches where it begins, counted from 0.
     pub fn sentinel_at(&self, alloc: Global, frames: &TextList) -> Result<Option<usize>, NoMemory>
         ensures { IfOk result (λ place. place ≡ sentinel_place self.now frames.now) }
     {
-        let mut matchers = matchers_of(alloc, &self.sentinel)?;
+        let mut matchers = self.sentinel.matchers(alloc)?;
         Ok(first_match(&mut matchers, frames))
     }
 }

@@ -4,6 +4,7 @@ ghost use Rattle.std.specs.List.{position};
 ghost use Rattle.soc_siglists.specs.Lists.{ListTexts, matches_one, is_irrelevant, is_prefix, is_sentinel};
 
 use crate::pattern::{Pattern, PatternMatcher};
+use crate::patterns::PatternMatchers;
 use soc_raw::{NoMemory, TextList};
 use std::alloc::Global;
 use std::marker::Model;
@@ -33,11 +34,11 @@ pub fn matches_one(matchers: &mut [PatternMatcher<'_>], frame: &str) -> bool
 }
 
 /// Where the first frame stands that one of the patterns matches where it begins.
-pub fn first_match(matchers: &mut [PatternMatcher<'_>], frames: &TextList) -> Option<usize>
+pub fn first_match(matchers: &mut PatternMatchers<'_>, frames: &TextList) -> Option<usize>
     ensures { result ≡ position (matches_one matchers.old) frames.now }
 {
     for place in 0..frames.len() {
-        if matches_one(matchers, frames.at(place)) {
+        if matchers.match_one(frames.at(place)) {
             return Some(place);
         }
     }
@@ -47,24 +48,24 @@ pub fn first_match(matchers: &mut [PatternMatcher<'_>], frames: &TextList) -> Op
 /// Lists, ready to be asked of many frames. Contracts see the texts of the patterns.
 #[derive(Drop)]
 pub struct ListMatchers<'a> {
-    irrelevant: Vec<PatternMatcher<'a>>,
-    prefix: Vec<PatternMatcher<'a>>,
-    sentinel: Vec<PatternMatcher<'a>>,
+    irrelevant: PatternMatchers<'a>,
+    prefix: PatternMatchers<'a>,
+    sentinel: PatternMatchers<'a>,
 }
 
 impl<'a> Model for ListMatchers<'a> {
     ghost Value = { ListTexts };
 
-    ghost view = { λ m. record { irrelevant = m.irrelevant.items; prefix = m.prefix.items; sentinel = m.sentinel.items } };
+    ghost view = { λ m. record { irrelevant = m.irrelevant; prefix = m.prefix; sentinel = m.sentinel } };
 }
 
 impl<'a> ListMatchers<'a> {
     pub(crate) fn of(
-        irrelevant: Vec<PatternMatcher<'a>>,
-        prefix: Vec<PatternMatcher<'a>>,
-        sentinel: Vec<PatternMatcher<'a>>,
+        irrelevant: PatternMatchers<'a>,
+        prefix: PatternMatchers<'a>,
+        sentinel: PatternMatchers<'a>,
     ) -> ListMatchers<'a>
-        ensures { result ≡ record { irrelevant = irrelevant.entry.items; prefix = prefix.entry.items; sentinel = sentinel.entry.items } }
+        ensures { result ≡ record { irrelevant = irrelevant.entry; prefix = prefix.entry; sentinel = sentinel.entry } }
     {
         ListMatchers {
             irrelevant,
@@ -78,7 +79,7 @@ impl<'a> ListMatchers<'a> {
         ensures value { result ≡ is_irrelevant self.old frame.now }
         ensures same { self.new ≡ self.old }
     {
-        matches_one(&mut self.irrelevant, frame)
+        self.irrelevant.match_one(frame)
     }
 
     /// Whether a pattern of the prefix list matches where the frame begins.
@@ -86,7 +87,7 @@ impl<'a> ListMatchers<'a> {
         ensures value { result ≡ is_prefix self.old frame.now }
         ensures same { self.new ≡ self.old }
     {
-        matches_one(&mut self.prefix, frame)
+        self.prefix.match_one(frame)
     }
 
     /// Whether a sentinel matches where the frame begins.
@@ -94,6 +95,6 @@ impl<'a> ListMatchers<'a> {
         ensures value { result ≡ is_sentinel self.old frame.now }
         ensures same { self.new ≡ self.old }
     {
-        matches_one(&mut self.sentinel, frame)
+        self.sentinel.match_one(frame)
     }
 }

@@ -1,10 +1,11 @@
 //! One pattern of a list.
-ghost use Rattle.std.specs.Prelude.{◌≡◌, IfOk};
+ghost use Rattle.std.specs.Prelude.{◌≡◌, true, IfOk};
 ghost use Rattle.regex.specs.Strings.{regex_source};
 ghost use Rattle.soc_siglists.specs.Patterns.{matches_start};
 ghost use Rattle.soc_siglists.specs.inner.Compiled.{IsOwn};
+ghost use Rattle.soc_siglists.specs.inner.Literals.{IsLiteral};
 
-use regex::{Matcher, Regex};
+use regex::{Matcher, Regex, escape};
 use soc_raw::NoMemory;
 use std::alloc::Global;
 use std::marker::Model;
@@ -33,6 +34,21 @@ impl Pattern {
         ensures { result ≡ regex_source made }
     {
         Pattern { made }
+    }
+
+    /// The pattern's text.
+    pub fn as_str(&self) -> &str
+        ensures { result.now ≡ self.now }
+    {
+        self.made.as_str()
+    }
+
+    /// Whether no character of the text has a meaning of its own, so that the pattern matches its own text.
+    pub fn is_literal(&self, alloc: Global) -> Result<bool, NoMemory>
+        ensures { IfOk result (λ is. is ≡ true → IsLiteral self.now) }
+    {
+        let escaped = escape(alloc, self.made.as_str())?;
+        Ok(escaped.as_str() == self.made.as_str())
     }
 
     /// What asks the pattern.

@@ -7,6 +7,7 @@ use crate::error::{ListError, ListName};
 use crate::lines::{is_entry, split_line, text_of};
 use crate::maker::{MakeError, Maker};
 use crate::pattern::Pattern;
+use crate::patterns::Patterns;
 use std::alloc::Global;
 
 /// The pattern that an entry is.
@@ -37,8 +38,8 @@ pub fn read_list<P: Maker>(
     maker: &mut P,
     list: ListName,
     bytes: &[u8],
-) -> Result<Vec<Pattern>, ListError>
-    ensures reads { IfOk result (λ patterns. HasPatterns patterns.items list bytes.now) }
+) -> Result<Patterns, ListError>
+    ensures reads { IfOk result (λ patterns. HasPatterns patterns list bytes.now) }
     ensures refuses { IfErr result (λ error. RefusesFile error list bytes.now) }
     ensures never_fall { P.faults maker.old ≤ P.faults maker.new }
     ensures cause { IsErrOf result ListError.MakerFault → Rose (P.faults maker.old) (P.faults maker.new) }
@@ -58,5 +59,5 @@ pub fn read_list<P: Maker>(
         line += 1;
         rest = others;
     }
-    Ok(patterns)
+    Ok(Patterns::of(alloc, patterns)?)
 }

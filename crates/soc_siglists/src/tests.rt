@@ -138,3 +138,34 @@ fn first_sentinel(rt: HostRuntime) -> Result<(), Fail> {
     }
     Ok(())
 }
+
+/// Literal patterns of which some begin with others, beside one that isn't literal, and which frames they match.
+const TOGETHER: [(&str, bool); 12] = [
+    ("ab", false),
+    ("abc", true),
+    ("abcd", true),
+    ("abd", false),
+    ("", false),
+    ("a", false),
+    ("b", true),
+    ("bzz", true),
+    ("c@0x1", true),
+    ("c@0x", false),
+    ("zz", true),
+    ("zy", false),
+];
+
+#[test]
+fn literals_are_looked_up_beside_others(rt: HostRuntime) -> Result<(), Fail> {
+    let alloc = rt.alloc();
+    let file = "zz\nabcd\nc@0x[0-9]\nbzz\nabc\nb\nabc\nabce";
+    let lists = read(alloc, file, file, file)?;
+    let mut matchers = lists.matchers(alloc)?;
+    for (frame, want) in &TOGETHER {
+        assert_eq!(rt; lists.is_irrelevant(alloc, frame)?, *want);
+        assert_eq!(rt; matchers.is_irrelevant(frame), *want);
+        assert_eq!(rt; matchers.is_prefix(frame), *want);
+        assert_eq!(rt; matchers.is_sentinel(frame), *want);
+    }
+    Ok(())
+}

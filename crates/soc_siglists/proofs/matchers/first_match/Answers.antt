@@ -3,17 +3,17 @@ use Rattle.soc_siglists.specs.Lists.{matches_one}
 use Rattle.soc_siglists.proofs.FrameLemmas.{first_here, first_nowhere, none_more}
 use Rattle.soc_siglists.proofs.matchers.first_match.Goals as goal
 
-pub returns-then-matches_one : goal.returns-then-matches_one
-returns-then-matches_one c =
+pub returns-then-match_one : goal.returns-then-match_one
+returns-then-match_one c =
     first_here (matches_one c.args.matchers.now) c.args.frames.now c.loop-place.place c.at.result.now c.loop-place.invariant.none c.at.ensures
-    (c.if-matches_one.ensures.value ∙ ap (λ ms. matches_one ms c.at.result.now) c.loop-place.invariant.same)
+    (c.if-match_one.ensures.value ∙ ap (λ ms. matches_one ms c.at.result.now) c.loop-place.invariant.same)
 
 pub loop-place-preserved : goal.loop-place-preserved
 loop-place-preserved c = record {
-  same = c.if-matches_one.ensures.same ∙ c.loop-place.invariant.same;
+  same = c.if-match_one.ensures.same ∙ c.loop-place.invariant.same;
   none =
       none_more (matches_one c.args.matchers.now) c.args.frames.now c.loop-place.place c.at.result.now c.loop-place.invariant.none c.at.ensures
-      (c.if-matches_one.ensures.value ∙ ap (λ ms. matches_one ms c.at.result.now) c.loop-place.invariant.same);
+      (c.if-match_one.ensures.value ∙ ap (λ ms. matches_one ms c.at.result.now) c.loop-place.invariant.same);
 }
 
 pub returns : goal.returns

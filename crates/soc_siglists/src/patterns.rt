@@ -1,0 +1,117 @@
+//! The patterns of one list.
+ghost use Rattle.std.specs.Prelude.{◌≡◌, ◌||◌, ℕ, List, IfOk, OnOk};
+ghost use Rattle.std.specs.Map.{keys_of};
+ghost use Rattle.soc_siglists.specs.Lists.{matches_one};
+ghost use Rattle.soc_siglists.specs.inner.Literals.{begins_with, begins_with_one};
+
+use crate::literals::Literals;
+use crate::matchers::{matchers_of, matches_one};
+use crate::pattern::{Pattern, PatternMatcher};
+use soc_raw::{NoMemory, Text, Texts};
+use std::alloc::Global;
+use std::marker::Model;
+
+/// The patterns of a list, of which those that stand for their own text lie in a table. Contracts see the texts of all,
+/// in order.
+#[derive(Drop)]
+pub struct Patterns {
+    texts: Vec<Text>,
+    literals: Literals,
+    others: Vec<Pattern>,
+}
+
+impl Model for Patterns {
+    ghost use Rattle.std.specs.Prelude.{List, ℕ};
+    ghost use Rattle.soc_siglists.specs.inner.Literals.{AreSplit};
+
+    ghost Value = { List (List ℕ) };
+
+    ghost view = { λ p. p.texts.items };
+
+    ghost invariant = { λ p. AreSplit p.texts.items p.literals p.others.items };
+}
+
+impl Patterns {
+    /// The patterns in this order.
+    pub fn of(alloc: Global, made: Vec<Pattern>) -> Result<Patterns, NoMemory>
+        ensures { IfOk result (λ patterns. patterns ≡ made.items) }
+    {
+        let mut texts = Vec::new(alloc);
+        let mut sorted = Texts::new(alloc);
+        let mut others = Vec::new(alloc);
+        for pattern in made {
+            texts.push(Text::of(alloc, pattern.as_str())?)?;
+            if pattern.is_literal(alloc)? {
+                add(alloc, &mut sorted, pattern.as_str())?;
+            } else {
+                others.push(pattern)?;
+            }
+        }
+        let literals = literals_of(alloc, &sorted)?;
+        Ok(Patterns {
+            texts,
+            literals,
+            others,
+        })
+    }
+
+    /// What asks the patterns of many frames.
+    pub fn matchers(&self, alloc: Global) -> Result<PatternMatchers<'_>, NoMemory>
+        ensures { IfOk result (λ matchers. matchers ≡ self.now) }
+    {
+        let others = matchers_of(alloc, &self.others)?;
+        Ok(PatternMatchers {
+            texts: self.texts.as_slice(),
+            literals: &self.literals,
+            others,
+        })
+    }
+}
+
+/// Adds a name.
+fn add(alloc: Global, names: &mut Texts, name: &str) -> Result<(), NoMemory>
+    ensures { OnOk result ((frame : List ℕ) → begins_with_one (keys_of names.new) frame ≡ (begins_with_one (keys_of names.old) frame || begins_with frame name.now)) }
+{
+    names.set(Text::of(alloc, name)?, Text::of(alloc, "")?)?;
+    Ok(())
+}
+
+/// The names, without those that begin with another.
+fn literals_of(alloc: Global, names: &Texts) -> Result<Literals, NoMemory>
+    ensures { IfOk result (λ literals. (frame : List ℕ) → begins_with_one literals frame ≡ begins_with_one (keys_of names.now) frame) }
+{
+    let mut literals = Literals::new(alloc);
+    for (name, _) in names {
+        literals.push(Text::of(alloc, name)?)?;
+    }
+    Ok(literals)
+}
+
+/// The patterns of a list, ready to be asked of many frames. Contracts see their texts.
+#[derive(Drop)]
+pub struct PatternMatchers<'a> {
+    texts: &'a [Text],
+    literals: &'a Literals,
+    others: Vec<PatternMatcher<'a>>,
+}
+
+impl<'a> Model for PatternMatchers<'a> {
+    ghost use Rattle.std.specs.Prelude.{List, ℕ};
+    ghost use Rattle.soc_siglists.specs.inner.Literals.{AreSplit};
+
+    ghost Value = { List (List ℕ) };
+
+    ghost view = { λ m. m.texts.now };
+
+    ghost invariant = { λ m. AreSplit m.texts.now m.literals.now m.others.items };
+}
+
+impl<'a> PatternMatchers<'a> {
+    /// Whether one of the patterns matches where the frame begins.
+    pub fn match_one(&mut self, frame: &str) -> bool
+        ensures value { result ≡ matches_one self.old frame.now }
+        ensures same { self.new ≡ self.old }
+    {
+        self.literals.begin(frame) || matches_one(&mut self.others, frame)
+    }
+}
