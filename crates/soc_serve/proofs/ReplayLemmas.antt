@@ -4,11 +4,11 @@ use Rattle.std.specs.Prelude.{IfSome, codes}
 use Rattle.soc_edge.specs.Ahead.{Outlook}
 use Rattle.soc_edge.specs.Told.{Told}
 use Rattle.soc_edge.proofs.Told.{Takes-none}
-use Rattle.soc_book.specs.declared.small.Small.{Small}
-use Rattle.soc_book.specs.Memory.{AnswersInMemory, MemoryDesk}
-use Rattle.soc_book.specs.Small.{small_row}
-use Rattle.soc_session.specs.declared.ending.SessionEnd.TheVariants.{NoMemory}
-use Rattle.soc_session.proofs.ConnectionLemmas.{Serves-nothing, Serves-of}
+use Rattle.soc_interim_desk.specs.declared.small.Small.{Small}
+use Rattle.soc_interim_desk.specs.Memory.{AnswersInMemory, MemoryDesk}
+use Rattle.soc_interim_desk.specs.Small.{small_row}
+use Rattle.soc_interim_session.specs.declared.ending.SessionEnd.TheVariants.{NoMemory}
+use Rattle.soc_interim_session.proofs.ConnectionLemmas.{Serves-nothing, Serves-of}
 use Rattle.soc_serve.specs.declared.setup.Setup.{Setup}
 use Rattle.soc_serve.specs.Replay.{ServesBook}
 use Rattle.soc_serve.specs.Texts.{text_of}

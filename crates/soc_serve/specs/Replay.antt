@@ -3,12 +3,12 @@ use Rattle.std.specs.Prelude.{◌≡◌, ℕ, List, [], Option, None, IfSome, Ok
 use Rattle.soc_edge.specs.Ahead.{ClockTold, DrawsTold, Outlook, outlook, Hands}
 use Rattle.soc_edge.specs.Told.{Told, NeverFall, HasCause, Writes, WritesFront}
 use Rattle.soc_edge.specs.Tree.{TreeTold, OnlyLooks, TreeFailed}
-use Rattle.soc_book.specs.declared.small.Small.{Small}
-use Rattle.soc_book.specs.Memory.{AnswersInMemory, MemoryDesk}
-use Rattle.soc_book.specs.Small.{small_row}
-use Rattle.soc_session.specs.declared.ending.SessionEnd.{SessionEnd}
-use Rattle.soc_session.specs.declared.ending.SessionEnd.TheVariants.{Ended, Closed, Stopped, Refused, ReadFault, WriteFault, TooLong, NoMemory}
-use Rattle.soc_session.specs.Session.{Serves, around}
+use Rattle.soc_interim_desk.specs.declared.small.Small.{Small}
+use Rattle.soc_interim_desk.specs.Memory.{AnswersInMemory, MemoryDesk}
+use Rattle.soc_interim_desk.specs.Small.{small_row}
+use Rattle.soc_interim_session.specs.declared.ending.SessionEnd.{SessionEnd}
+use Rattle.soc_interim_session.specs.declared.ending.SessionEnd.TheVariants.{Ended, Closed, Stopped, Refused, ReadFault, WriteFault, TooLong, NoMemory}
+use Rattle.soc_interim_session.specs.Session.{Serves, around}
 use Rattle.soc_serve.specs.declared.replay.RunEnd.{RunEnd}
 use Rattle.soc_serve.specs.declared.replay.RunEnd.TheVariants as R
 use Rattle.soc_serve.specs.declared.setup.FileRefusal.{FileRefusal}

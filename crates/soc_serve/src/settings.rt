@@ -8,7 +8,7 @@ ghost use Rattle.soc_schema.specs.declared.caller.Products.TheVariants.{All as A
 ghost use Rattle.soc_serve.specs.Settings as spec;
 
 use crate::documents::document;
-use soc_book::Limits;
+use soc_interim_desk::Limits;
 use soc_raw::{NoMemory, Text};
 use soc_schema::Products;
 use soc_throttle::{RuleError, RuleSet};

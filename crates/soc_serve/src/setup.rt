@@ -5,10 +5,10 @@ ghost use Rattle.soc_serve.specs.Setup.{IsSetupRefusal, refusal_line, setup_of, 
 use crate::settings::{Settings, SettingsError};
 use crate::texts::Texts;
 use crate::token_text::{TokensError, read_tokens};
-use soc_book::Limits;
+use soc_interim_desk::Limits;
 use soc_raw::{Bytes, NoMemory, Text};
 use soc_schema::Tokens;
-use soc_session::Rules;
+use soc_interim_session::Rules;
 use std::alloc::Global;
 
 /// What a run goes by.

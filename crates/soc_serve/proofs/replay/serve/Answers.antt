@@ -1,6 +1,6 @@
 use Rattle.std.proofs.Common.{ap}
-use Rattle.soc_book.specs.declared.small.Small.{Small}
-use Rattle.soc_book.specs.Memory.{MemoryDesk}
+use Rattle.soc_interim_desk.specs.declared.small.Small.{Small}
+use Rattle.soc_interim_desk.specs.Memory.{MemoryDesk}
 use Rattle.soc_serve.proofs.ReplayLemmas.{Serves-none}
 use Rattle.soc_serve.proofs.replay.serve.Goals as goal
 
