@@ -27,10 +27,13 @@ literal_target path =
     if bytes_eq path (codes "/api/SuperSearchFields/") then to Get R.SuperSearchFields else (
     if bytes_eq path (codes "/api/Reprocessing/") then to Post R.Reprocessing else (
     if bytes_eq path (codes "/api/PriorityJob/") then to Post R.PriorityJob else (
+    if bytes_eq path (codes "/api/Withdrawal/") then to Post R.Withdrawal else (
+    if bytes_eq path (codes "/api/TopCrashers/") then to Get R.Tops else (
     if bytes_eq path (codes "/control/turn") then to Post R.Turn else (
     if bytes_eq path (codes "/control/drain") then to Post R.Drain else (
     if bytes_eq path (codes "/control/stop") then to Post R.Stop else (
-    if bytes_eq path (codes "/search/") then to Get R.Search else None)))))))))))
+    if bytes_eq path (codes "/search/") then to Get R.Search else (
+    if bytes_eq path (codes "/topcrashers/") then to Get R.TopsPage else None))))))))))))))
 
 -- what a report's path begins with
 abbrev pub report_front : List ℕ

@@ -18,6 +18,8 @@ pub enum Route {
     SuperSearchFields,
     Reprocessing,
     PriorityJob,
+    Withdrawal,
+    Tops,
     Turn,
     Drain,
     Stop,
@@ -25,6 +27,8 @@ pub enum Route {
     Report(Text),
     /// The page of a search.
     Search,
+    /// The page of top crashers.
+    TopsPage,
 }
 
 /// Why a message has no route.
@@ -71,10 +75,13 @@ fn literal_target(path: &str) -> Option<(Verb, Route)>
         "/api/SuperSearchFields/" => (Verb::Get, Route::SuperSearchFields),
         "/api/Reprocessing/" => (Verb::Post, Route::Reprocessing),
         "/api/PriorityJob/" => (Verb::Post, Route::PriorityJob),
+        "/api/Withdrawal/" => (Verb::Post, Route::Withdrawal),
+        "/api/TopCrashers/" => (Verb::Get, Route::Tops),
         "/control/turn" => (Verb::Post, Route::Turn),
         "/control/drain" => (Verb::Post, Route::Drain),
         "/control/stop" => (Verb::Post, Route::Stop),
         "/search/" => (Verb::Get, Route::Search),
+        "/topcrashers/" => (Verb::Get, Route::TopsPage),
         _ => return None,
     };
     Some(target)

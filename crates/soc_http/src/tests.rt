@@ -307,6 +307,7 @@ fn routes_are_found(rt: HostRuntime) -> Result<(), Fail> {
         "/submit",
         "/api/Reprocessing/",
         "/api/PriorityJob/",
+        "/api/Withdrawal/",
         "/control/turn",
         "/control/drain",
         "/control/stop",
@@ -320,7 +321,9 @@ fn routes_are_found(rt: HostRuntime) -> Result<(), Fail> {
         "/api/ProcessedCrash/",
         "/api/SuperSearch/",
         "/api/SuperSearchFields/",
+        "/api/TopCrashers/",
         "/search/",
+        "/topcrashers/",
         "/report/index/x",
     ];
     for path in gets {

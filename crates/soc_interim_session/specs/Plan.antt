@@ -16,7 +16,7 @@ use Rattle.soc_multipart.specs.Submissions.{SubmissionText, SubmissionOf, Submis
 use Rattle.soc_http.specs.declared.head.Head.{Head}
 use Rattle.soc_http.specs.declared.reply.Answered.{Answered}
 use Rattle.soc_http.specs.declared.route.Route.{Route}
-use Rattle.soc_http.specs.declared.route.Route.TheVariants.{Submit, RawCrash, RawDump, ProcessedCrash, SuperSearch, SuperSearchFields, Reprocessing, PriorityJob, Turn, Drain, Stop, Report, Search}
+use Rattle.soc_http.specs.declared.route.Route.TheVariants.{Submit, RawCrash, RawDump, ProcessedCrash, SuperSearch, SuperSearchFields, Reprocessing, PriorityJob, Withdrawal, Tops, Turn, Drain, Stop, Report, Search, TopsPage}
 use Rattle.soc_http.specs.declared.route.RouteError.{RouteError}
 use Rattle.soc_http.specs.declared.route.RouteError.TheVariants.{NoRoute, WrongVerb, NoMemory}
 use Rattle.soc_http.specs.Message.{Message}
@@ -136,10 +136,13 @@ PlansRoute rules message drawn plan SuperSearch caller = IsNotBuilt drawn plan
 PlansRoute rules message drawn plan SuperSearchFields caller = IsNotBuilt drawn plan
 PlansRoute rules message drawn plan Reprocessing caller = IsNotBuilt drawn plan
 PlansRoute rules message drawn plan PriorityJob caller = IsNotBuilt drawn plan
+PlansRoute rules message drawn plan Withdrawal caller = IsNotBuilt drawn plan
+PlansRoute rules message drawn plan Tops caller = IsNotBuilt drawn plan
 PlansRoute rules message drawn plan Turn caller = IsNotBuilt drawn plan
 PlansRoute rules message drawn plan Stop caller = IsNotBuilt drawn plan
 PlansRoute rules message drawn plan (Report id) caller = IsNotBuilt drawn plan
 PlansRoute rules message drawn plan Search caller = IsNotBuilt drawn plan
+PlansRoute rules message drawn plan TopsPage caller = IsNotBuilt drawn plan
 
 -- who asks, by the message's token
 abbrev pub asker_of : Rules → Head → Option Caller

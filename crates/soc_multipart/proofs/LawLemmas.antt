@@ -1,6 +1,7 @@
 -- That a message is one submission, or none for one reason.
-use Rattle.std.proofs.Common.{◌≡◌, true, ℕ, List, [], ◌∷◌, length, filter, sym, refl, ap, ◌∙◌, subst, arith, inl, inr, Option, None, Some, codes}
+use Rattle.std.proofs.Common.{◌≡◌, ◌⊎◌, true, ℕ, List, [], ◌∷◌, length, filter, sym, refl, ap, ◌∙◌, subst, arith, inl, inr, Option, None, Some, codes}
 use Rattle.serde_json.specs.Data.{Members, object}
+use Rattle.soc_multipart.specs.declared.parts.PartsError.{PartsError}
 use Rattle.soc_multipart.specs.declared.parts.PartsError.TheVariants as fault
 use Rattle.soc_multipart.specs.declared.reasons.Reason.{Reason}
 use Rattle.soc_multipart.specs.declared.reasons.Reason.TheVariants.{ContentEncoding, NoContentType, WrongContentType, NoBoundary, NoFirst, BadPartHead, NoClose, TooManyParts, BadExtra, ExtraAndPlain, TooManyAnnotations, NoAnnotations}
@@ -8,9 +9,9 @@ use Rattle.soc_multipart.specs.Params.{lower, value_of}
 use Rattle.soc_multipart.specs.FormLines.{HasOneType, HasBoundary, AreFormLines, LinesFault, params_of, media_of}
 use Rattle.soc_multipart.specs.Extras.{IsExtra, with_members}
 use Rattle.soc_multipart.specs.Fields.{FieldTexts, no_fields, is_extra, is_plain}
-use Rattle.soc_multipart.specs.Parts.{PartText, Cut}
+use Rattle.soc_multipart.specs.Parts.{PartText, Cut, CutFault}
 use Rattle.soc_multipart.specs.Submissions.{SubmissionText, SaysFields, HasBadExtra, count_of, IsSentId, SaysSubmission, SaysFault, BodyFault, SubmissionFault, SubmissionOf, IsOneSubmission}
-use Rattle.soc_multipart.proofs.CutLemmas.{cut_once, fault_not_cut}
+use Rattle.soc_multipart.proofs.CutLemmas.{cut_once, fault_not_cut, fault_once}
 use Rattle.soc_multipart.proofs.DispositionLemmas.{params_once}
 
 some_same : (v w : List ℕ) → Some v ≡ Some w → v ≡ w
@@ -154,5 +155,145 @@ not_refused encoding kinds body s reason a (inr (b, lines, f)) =
     body_not_refused a.boundary body a.parts s reason a.cut a.says
     (subst (λ (x : List ℕ). BodyFault x body reason) (lines_once encoding kinds b a.boundary lines a.lines) f)
 
+-- ---- one reason
+
+-- what a fault of the lines is
+abbrev LinesCase : Option (List ℕ) → List (List ℕ × List ℕ) → Reason → Type 0
+LinesCase encoding kinds reason =
+    ((reason ≡ ContentEncoding) × LinesFault encoding kinds ContentEncoding)
+    ⊎ (((reason ≡ NoContentType) × LinesFault encoding kinds NoContentType)
+    ⊎ (((reason ≡ WrongContentType) × LinesFault encoding kinds WrongContentType)
+    ⊎ ((reason ≡ NoBoundary) × LinesFault encoding kinds NoBoundary)))
+
+lines_case : (encoding : Option (List ℕ)) (kinds : List (List ℕ × List ℕ)) (reason : Reason) → LinesFault encoding kinds reason → LinesCase encoding kinds reason
+lines_case encoding kinds ContentEncoding f = inl (refl, f)
+lines_case encoding kinds NoContentType f = inr (inl (refl, f))
+lines_case encoding kinds WrongContentType f = inr (inr (inl (refl, f)))
+lines_case encoding kinds NoBoundary f = inr (inr (inr (refl, f)))
+lines_case encoding kinds NoFirst f = absurd f
+lines_case encoding kinds BadPartHead f = absurd f
+lines_case encoding kinds NoClose f = absurd f
+lines_case encoding kinds TooManyParts f = absurd f
+lines_case encoding kinds BadExtra f = absurd f
+lines_case encoding kinds ExtraAndPlain f = absurd f
+lines_case encoding kinds TooManyAnnotations f = absurd f
+lines_case encoding kinds NoAnnotations f = absurd f
+
+media_apart : (encoding : Option (List ℕ)) (kinds : List (List ℕ × List ℕ)) → LinesFault encoding kinds WrongContentType → ¬ (LinesFault encoding kinds NoBoundary)
+media_apart encoding kinds (v, t, bad) (w, u, good, none) =
+    bad (ap (λ (x : List ℕ). lower (media_of x)) (type_once encoding kinds v w t u) ∙ good)
+
+lines_reason_once : (encoding : Option (List ℕ)) (kinds : List (List ℕ × List ℕ)) (r s : Reason) → LinesCase encoding kinds r → LinesCase encoding kinds s → r ≡ s
+lines_reason_once encoding kinds r s (inl (e, f)) (inl (h, g)) = e ∙ sym h
+lines_reason_once encoding kinds r s (inl (e, f)) (inr (inl (h, g))) = absurd (f g.0)
+lines_reason_once encoding kinds r s (inl (e, f)) (inr (inr (inl (h, g)))) = absurd (f g.1.plain)
+lines_reason_once encoding kinds r s (inl (e, f)) (inr (inr (inr (h, g)))) = absurd (f g.1.plain)
+lines_reason_once encoding kinds r s (inr (inl (e, f))) (inl (h, g)) = absurd (g f.0)
+lines_reason_once encoding kinds r s (inr (inl (e, f))) (inr (inl (h, g))) = e ∙ sym h
+lines_reason_once encoding kinds r s (inr (inl (e, f))) (inr (inr (inl (h, g)))) = absurd (f.1 (ap length g.1.one))
+lines_reason_once encoding kinds r s (inr (inl (e, f))) (inr (inr (inr (h, g)))) = absurd (f.1 (ap length g.1.one))
+lines_reason_once encoding kinds r s (inr (inr (inl (e, f)))) (inl (h, g)) = absurd (g f.1.plain)
+lines_reason_once encoding kinds r s (inr (inr (inl (e, f)))) (inr (inl (h, g))) = absurd (g.1 (ap length f.1.one))
+lines_reason_once encoding kinds r s (inr (inr (inl (e, f)))) (inr (inr (inl (h, g)))) = e ∙ sym h
+lines_reason_once encoding kinds r s (inr (inr (inl (e, f)))) (inr (inr (inr (h, g)))) = absurd (media_apart encoding kinds f g)
+lines_reason_once encoding kinds r s (inr (inr (inr (e, f)))) (inl (h, g)) = absurd (g f.1.plain)
+lines_reason_once encoding kinds r s (inr (inr (inr (e, f)))) (inr (inl (h, g))) = absurd (g.1 (ap length f.1.one))
+lines_reason_once encoding kinds r s (inr (inr (inr (e, f)))) (inr (inr (inl (h, g)))) = absurd (media_apart encoding kinds g f)
+lines_reason_once encoding kinds r s (inr (inr (inr (e, f)))) (inr (inr (inr (h, g)))) = e ∙ sym h
+
+-- what a fault of the fields is
+abbrev SaysCase : List PartText → Reason → Type 0
+SaysCase parts reason =
+    ((reason ≡ BadExtra) × HasBadExtra parts)
+    ⊎ (((reason ≡ ExtraAndPlain) × SaysFault parts ExtraAndPlain)
+    ⊎ (((reason ≡ TooManyAnnotations) × SaysFault parts TooManyAnnotations)
+    ⊎ ((reason ≡ NoAnnotations) × SaysFault parts NoAnnotations)))
+
+says_case : (parts : List PartText) (reason : Reason) → SaysFault parts reason → SaysCase parts reason
+says_case parts BadExtra f = inl (refl, f)
+says_case parts ExtraAndPlain f = inr (inl (refl, f))
+says_case parts TooManyAnnotations f = inr (inr (inl (refl, f)))
+says_case parts NoAnnotations f = inr (inr (inr (refl, f)))
+says_case parts ContentEncoding f = absurd f
+says_case parts NoContentType f = absurd f
+says_case parts WrongContentType f = absurd f
+says_case parts NoBoundary f = absurd f
+says_case parts NoFirst f = absurd f
+says_case parts BadPartHead f = absurd f
+says_case parts NoClose f = absurd f
+says_case parts TooManyParts f = absurd f
+
+bad_or_mixed : (parts : List PartText) → HasBadExtra parts → ¬ (SaysFault parts ExtraAndPlain)
+bad_or_mixed parts (inl (p, q, more, b)) (x, ms, a, i, some) = one_not_two x p q more (sym a ∙ b)
+bad_or_mixed parts (inr (p, b, none)) (x, ms, a, i, some) = none ms (subst (λ (y : PartText). IsExtra y.content ms) (one_part x p (sym a ∙ b)) i)
+
+mixed_or_said : (parts : List PartText) (fields : FieldTexts) → SaysFault parts ExtraAndPlain → ¬ (SaysFields parts fields)
+mixed_or_said parts fields (x, ms, a, i, some) says = some (not_both parts fields x says a)
+
+many_or_none : (parts : List PartText) → SaysFault parts TooManyAnnotations → ¬ (SaysFault parts NoAnnotations)
+many_or_none parts (f, says, many) (g, says', few, none) =
+    let same : count_of f ≡ count_of g = ap count_of (fields_once parts f g says says') in absurd (omega (arith, same, many, few))
+
+says_reason_once : (parts : List PartText) (r s : Reason) → SaysCase parts r → SaysCase parts s → r ≡ s
+says_reason_once parts r s (inl (e, f)) (inl (h, g)) = e ∙ sym h
+says_reason_once parts r s (inl (e, f)) (inr (inl (h, g))) = absurd (bad_or_mixed parts f g)
+says_reason_once parts r s (inl (e, f)) (inr (inr (inl (h, g)))) = absurd (good_extra parts g.0 g.1 f)
+says_reason_once parts r s (inl (e, f)) (inr (inr (inr (h, g)))) = absurd (good_extra parts g.0 g.1 f)
+says_reason_once parts r s (inr (inl (e, f))) (inl (h, g)) = absurd (bad_or_mixed parts g f)
+says_reason_once parts r s (inr (inl (e, f))) (inr (inl (h, g))) = e ∙ sym h
+says_reason_once parts r s (inr (inl (e, f))) (inr (inr (inl (h, g)))) = absurd (mixed_or_said parts g.0 f g.1)
+says_reason_once parts r s (inr (inl (e, f))) (inr (inr (inr (h, g)))) = absurd (mixed_or_said parts g.0 f g.1)
+says_reason_once parts r s (inr (inr (inl (e, f)))) (inl (h, g)) = absurd (good_extra parts f.0 f.1 g)
+says_reason_once parts r s (inr (inr (inl (e, f)))) (inr (inl (h, g))) = absurd (mixed_or_said parts f.0 g f.1)
+says_reason_once parts r s (inr (inr (inl (e, f)))) (inr (inr (inl (h, g)))) = e ∙ sym h
+says_reason_once parts r s (inr (inr (inl (e, f)))) (inr (inr (inr (h, g)))) = absurd (many_or_none parts f g)
+says_reason_once parts r s (inr (inr (inr (e, f)))) (inl (h, g)) = absurd (good_extra parts f.0 f.1 g)
+says_reason_once parts r s (inr (inr (inr (e, f)))) (inr (inl (h, g))) = absurd (mixed_or_said parts f.0 g f.1)
+says_reason_once parts r s (inr (inr (inr (e, f)))) (inr (inr (inl (h, g)))) = absurd (many_or_none parts g f)
+says_reason_once parts r s (inr (inr (inr (e, f)))) (inr (inr (inr (h, g)))) = e ∙ sym h
+
+-- the reason that a fault of the cut is; one that is none stands for a boundary that isn't good
+reason_of : PartsError → Reason
+reason_of fault.NoFirst = NoFirst
+reason_of (fault.BadPartHead part) = BadPartHead
+reason_of fault.NoClose = NoClose
+reason_of fault.TooManyParts = TooManyParts
+reason_of fault.BadBoundary = NoBoundary
+reason_of fault.NoMemory = NoBoundary
+
+-- what a fault of the body is: of its cut, or of what its parts say
+abbrev BodyCase : List ℕ → List ℕ → Reason → Type 0
+BodyCase b body reason =
+    ((f : PartsError) × CutFault b body f × (reason ≡ reason_of f)) ⊎ ((parts : List PartText) × Cut b body parts × SaysFault parts reason)
+
+body_case : (b body : List ℕ) (reason : Reason) → BodyFault b body reason → BodyCase b body reason
+unfolding reason_of
+body_case b body NoFirst f = inl (fault.NoFirst, f, refl)
+body_case b body BadPartHead (n, f) = inl (fault.BadPartHead n, f, refl)
+body_case b body NoClose f = inl (fault.NoClose, f, refl)
+body_case b body TooManyParts f = inl (fault.TooManyParts, f, refl)
+body_case b body ContentEncoding f = inr f
+body_case b body NoContentType f = inr f
+body_case b body WrongContentType f = inr f
+body_case b body NoBoundary f = inr f
+body_case b body BadExtra f = inr f
+body_case b body ExtraAndPlain f = inr f
+body_case b body TooManyAnnotations f = inr f
+body_case b body NoAnnotations f = inr f
+
+body_reason_once : (b body : List ℕ) (r s : Reason) → BodyCase b body r → BodyCase b body s → r ≡ s
+body_reason_once b body r s (inl (f, is, e)) (inl (g, is', h)) = e ∙ (ap reason_of (fault_once b body f g is is') ∙ sym h)
+body_reason_once b body r s (inl (f, is, e)) (inr (parts, cut, says)) = absurd (fault_not_cut b body parts f cut is)
+body_reason_once b body r s (inr (parts, cut, says)) (inl (f, is, e)) = absurd (fault_not_cut b body parts f cut is)
+body_reason_once b body r s (inr (parts, cut, says)) (inr (parts', cut', says')) =
+    says_reason_once parts' r s (says_case parts' r (subst (λ (x : List PartText). SaysFault x r) (cut_once b body parts parts' cut cut') says)) (says_case parts' s says')
+
+pub reason_once : (encoding : Option (List ℕ)) (kinds : List (List ℕ × List ℕ)) (body : List ℕ) (r s : Reason) → SubmissionFault encoding kinds body r → SubmissionFault encoding kinds body s → r ≡ s
+reason_once encoding kinds body r s (inl f) (inl g) = lines_reason_once encoding kinds r s (lines_case encoding kinds r f) (lines_case encoding kinds s g)
+reason_once encoding kinds body r s (inl f) (inr (b, lines, g)) = absurd (lines_not_refused encoding kinds b r lines f)
+reason_once encoding kinds body r s (inr (b, lines, f)) (inl g) = absurd (lines_not_refused encoding kinds b s lines g)
+reason_once encoding kinds body r s (inr (b, lines, f)) (inr (c, lines', g)) =
+    body_reason_once c body r s (body_case c body r (subst (λ (x : List ℕ). BodyFault x body r) (lines_once encoding kinds b c lines lines') f)) (body_case c body s g)
+
 pub one_submission : IsOneSubmission
-one_submission = record { once = submission_once; not_refused = not_refused }
+one_submission = record { once = submission_once; not_refused = not_refused; one_reason = reason_once }

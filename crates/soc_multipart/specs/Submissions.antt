@@ -108,9 +108,11 @@ abbrev pub BodyRefusal : List ℕ → List ℕ → FormError → Type 0
 BodyRefusal boundary body (Malformed reason) = BodyFault boundary body reason
 BodyRefusal boundary body NoMemory = ⊤
 
--- a message is one submission at most, and none that has a reason to be refused
+-- a message is one submission at most, or has one reason to be refused
 pub record IsOneSubmission : Type 0 where
   pub once : (encoding : Option (List ℕ)) (kinds : List (List ℕ × List ℕ)) (body : List ℕ) (said said' : SubmissionText)
       → SubmissionOf encoding kinds body said → SubmissionOf encoding kinds body said' → said ≡ said'
   pub not_refused : (encoding : Option (List ℕ)) (kinds : List (List ℕ × List ℕ)) (body : List ℕ) (said : SubmissionText) (reason : Reason)
       → SubmissionOf encoding kinds body said → ¬ (SubmissionFault encoding kinds body reason)
+  pub one_reason : (encoding : Option (List ℕ)) (kinds : List (List ℕ × List ℕ)) (body : List ℕ) (reason reason' : Reason)
+      → SubmissionFault encoding kinds body reason → SubmissionFault encoding kinds body reason' → reason ≡ reason'

@@ -53,7 +53,7 @@ pub fn read_submission(
     said_by(alloc, parts.as_slice())
 }
 
-/// A message is one submission at most, and none that has a reason to be refused.
+/// A message is one submission at most, or has one reason to be refused.
 pub fn submission_is_one()
     ensures { IsOneSubmission }
 {}

@@ -1,0 +1,115 @@
+-- What messages come to.
+use Rattle.std.proofs.Common.{◌≡◌, ℕ, List, [], ◌∷◌, Option, None, Some, Result, Ok, Err, refl, sym, ap, subst, ◌∙◌}
+use Rattle.std.specs.Prelude.{IfOk}
+use Rattle.soc_raw.specs.declared.no_memory.NoMemory.{NoMemory}
+use Rattle.soc_edge.specs.Ahead.{Outlook}
+use Rattle.soc_edge.proofs.Ahead.{Hands-none}
+use Rattle.soc_multipart.specs.Submissions.{SubmissionText}
+use Rattle.soc_multipart.specs.declared.reasons.Reason.{Reason}
+use Rattle.soc_schema.specs.declared.caller.Caller.{Caller}
+use Rattle.soc_query.specs.declared.error.QueryError.{QueryError}
+use Rattle.soc_query.specs.declared.error.QueryError.TheVariants as Q
+use Rattle.soc_query.specs.Queries.{Asked, IsRefusal}
+use Rattle.soc_tops.specs.declared.error.TopsError.{TopsError}
+use Rattle.soc_tops.specs.declared.error.TopsError.TheVariants as T
+use Rattle.soc_tops.specs.declared.query.TopsQuery.{TopsQuery}
+use Rattle.soc_tops.specs.Asked.{IsRefusal as IsTopsRefusal}
+use Rattle.soc_http.specs.declared.route.Route.{Route}
+use Rattle.soc_http.specs.declared.route.Route.TheVariants as R
+use Rattle.soc_http.specs.declared.route.RouteError.{RouteError}
+use Rattle.soc_http.specs.Message.{Message}
+use Rattle.soc_http.specs.Route.{route_of}
+use Rattle.soc_desk.specs.Commands.{CommandText}
+use Rattle.soc_session.specs.declared.forms.Form.{Form}
+use Rattle.soc_session.specs.declared.plans.Plan.{Plan as Planned}
+use Rattle.soc_session.specs.declared.rules.Rules.{Rules}
+use Rattle.soc_session.specs.Plan.{Drawn, IsDrawn, IsMalformed, Plan, says, asks, about, search_by, tops_by, MayDrawFor, Plans, PlansAt, PlansFor, PlansRoute, PlansSubmission, HoldsSubmission, asker_of, plan_of}
+use Rattle.soc_session.specs.Replies.{malformed, not_found, query_refusal, tops_refusal}
+use Rattle.soc_session.specs.inner.Plans.{Draws, HandsDrawn, plan_text}
+
+-- nothing was drawn
+pub Draws-none : (P : List Drawn → Plan → Type 0) (x : Outlook) (result : Result Planned NoMemory) (plan : Plan) → P [] plan → IfOk result (λ p. plan_text p ≡ plan)
+    → Draws P x x result
+Draws-none P x (Ok p) plan holds is = record { drawn = []; hands = Hands-none x; plans = subst (P []) (sym is) holds }
+Draws-none P x (Err error) plan holds is = record { drawn = []; hands = Hands-none x; plans = tt }
+
+-- a plan of others
+pub Draws-map : (P Q : List Drawn → Plan → Type 0) (x y : Outlook) (result : Result Planned NoMemory) → ((drawn : List Drawn) (plan : Plan) → P drawn plan → Q drawn plan)
+    → Draws P x y result → Draws Q x y result
+Draws-map P Q x y (Ok p) f d = record { drawn = d.drawn; hands = d.hands; plans = f d.drawn (plan_text p) d.plans }
+Draws-map P Q x y (Err error) f d = record { drawn = d.drawn; hands = d.hands; plans = may d.drawn d.plans }
+  where
+    may : (drawn : List Drawn) → MayDrawFor P drawn → MayDrawFor Q drawn
+    may [] m = tt
+    may (first ∷ more) m = (m.0, f (first ∷ more) m.0 m.1)
+
+-- ---- submissions
+
+pub Draws-one : (rules : Rules) (message : Message) (said : SubmissionText) (drawn : Drawn) (x y : Outlook) (result : Result Planned NoMemory) → HoldsSubmission message said
+    → IsDrawn drawn → HandsDrawn x y (drawn ∷ []) → IfOk result (λ p. plan_text p ≡ plan_of rules.rules drawn said said.sent_id) → Draws (PlansSubmission rules message) x y result
+Draws-one rules message said drawn x y (Ok p) submits range hands is = record { drawn = drawn ∷ []; hands = hands; plans = (said, submits, range, is) }
+Draws-one rules message said drawn x y (Err error) submits range hands is =
+    record { drawn = drawn ∷ []; hands = hands; plans = (plan_of rules.rules drawn said said.sent_id, (said, submits, range, refl)) }
+
+pub Draws-malformed : (rules : Rules) (message : Message) (reason : Reason) (x : Outlook) (result : Result Planned NoMemory) → IsMalformed message reason
+    → IfOk result (λ p. plan_text p ≡ says (malformed reason)) → Draws (PlansSubmission rules message) x x result
+Draws-malformed rules message reason x result is said = Draws-none (PlansSubmission rules message) x result (says (malformed reason)) (reason, is, refl) said
+
+-- ---- routes
+
+-- a submission's plans are its route's
+pub Draws-submit : (rules : Rules) (message : Message) (route : Route) (caller : Caller) (x y : Outlook) (result : Result Planned NoMemory) → route ≡ R.Submit
+    → Draws (PlansSubmission rules message) x y result → Draws (λ drawn plan. PlansRoute rules message drawn plan route caller) x y result
+Draws-submit rules message route caller x y result is draws =
+    Draws-map (PlansSubmission rules message) (λ drawn plan. PlansRoute rules message drawn plan route caller) x y result
+    (λ drawn plan p. subst (λ r. PlansRoute rules message drawn plan r caller) (sym is) p) draws
+
+-- a route that draws nothing
+pub Draws-route : (rules : Rules) (message : Message) (route at : Route) (caller : Caller) (x : Outlook) (result : Result Planned NoMemory) (plan : Plan) → route ≡ at
+    → IfOk result (λ p. plan_text p ≡ plan) → PlansRoute rules message [] plan at caller → Draws (λ drawn plan. PlansRoute rules message drawn plan route caller) x x result
+Draws-route rules message route at caller x result plan is said holds =
+    Draws-none (λ drawn plan. PlansRoute rules message drawn plan route caller) x result plan (subst (λ r. PlansRoute rules message [] plan r caller) (sym is) holds) said
+
+-- a route's plans are the message's
+pub Plans-at : (rules : Rules) (message : Message) (drawn : List Drawn) (plan : Plan) (found : Result Route RouteError)
+    → route_of message.head.verb message.head.path ≡ found → PlansAt rules message drawn plan found → Plans rules message drawn plan
+Plans-at rules message drawn plan found is plans = subst (PlansAt rules message drawn plan) (sym is) plans
+
+pub Plans-for : (rules : Rules) (message : Message) (drawn : List Drawn) (plan : Plan) (route : Route) (asker : Option Caller)
+    → route_of message.head.verb message.head.path ≡ Ok route → asker ≡ asker_of rules message.head → PlansFor rules message drawn plan route asker
+    → Plans rules message drawn plan
+Plans-for rules message drawn plan route asker is who plans =
+    Plans-at rules message drawn plan (Ok route) is (subst (PlansFor rules message drawn plan route) who plans)
+
+pub Draws-for : (rules : Rules) (message : Message) (route : Route) (caller : Caller) (x y : Outlook) (result : Result Planned NoMemory)
+    → route_of message.head.verb message.head.path ≡ Ok route → Some caller ≡ asker_of rules message.head
+    → Draws (λ drawn plan. PlansRoute rules message drawn plan route caller) x y result → Draws (Plans rules message) x y result
+Draws-for rules message route caller x y result is who draws =
+    Draws-map (λ drawn plan. PlansRoute rules message drawn plan route caller) (Plans rules message) x y result
+    (λ drawn plan p. Plans-for rules message drawn plan route (Some caller) is who p) draws
+
+-- ---- what is asked of one crash
+
+pub about-missing : (found : Option (List ℕ)) (command : List ℕ → CommandText) (form : Form) (result : Result Planned NoMemory) → None ≡ found
+    → IfOk result (λ p. plan_text p ≡ says not_found) → IfOk result (λ p. plan_text p ≡ about found command form)
+about-missing found command form (Ok p) is said = said ∙ ap (λ f. about f command form) is
+about-missing found command form (Err error) is said = tt
+
+pub about-found : (found : Option (List ℕ)) (id : List ℕ) (command : List ℕ → CommandText) (form : Form) (plan : Plan) → Some id ≡ found
+    → plan ≡ asks (command id) form → plan ≡ about found command form
+about-found found id command form plan is asked = asked ∙ ap (λ f. about f command form) is
+
+-- ---- searches
+
+pub search-refused : (asked : Result Asked QueryError) (form : Form) (error : QueryError) (plan : Plan) → IsRefusal asked error → (error ≡ Q.NoMemory → ⊥)
+    → plan ≡ says (query_refusal error) → plan ≡ search_by asked form
+search-refused asked form (Q.UnknownField name) plan is other said = said ∙ ap (λ a. search_by a form) (sym is)
+search-refused asked form (Q.NotGranted name permission) plan is other said = said ∙ ap (λ a. search_by a form) (sym is)
+search-refused asked form (Q.BadValue name) plan is other said = said ∙ ap (λ a. search_by a form) (sym is)
+search-refused asked form (Q.BadNumber name) plan is other said = said ∙ ap (λ a. search_by a form) (sym is)
+search-refused asked form Q.NoMemory plan is other said = absurd (other refl)
+
+pub tops-refused : (asked : Result TopsQuery TopsError) (form : Form) (error : TopsError) (plan : Plan) → IsTopsRefusal asked error → (error ≡ T.NoMemory → ⊥)
+    → plan ≡ says (tops_refusal error) → plan ≡ tops_by asked form
+tops-refused asked form (T.BadParameter name) plan is other said = said ∙ ap (λ a. tops_by a form) (sym is)
+tops-refused asked form T.NoMemory plan is other said = absurd (other refl)

@@ -1,0 +1,5 @@
+use Rattle.soc_session.proofs.SampleLemmas.{product-row}
+use Rattle.soc_session.proofs.tests.sample.row.Goals as goal
+
+pub returns-in-Ok : goal.returns-in-Ok
+returns-in-Ok c = product-row c.args.caller c.in-Ok.row _ c.in-Ok.ensures

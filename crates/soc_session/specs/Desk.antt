@@ -1,0 +1,64 @@
+-- The desk along a session: what is asked for each message, and what comes of it.
+use Rattle.std.specs.Prelude.{◌≡◌, ◌⊎◌, Bool, false, List, Option, None, Some}
+use Rattle.std.specs.Option.{option_map_or}
+use Rattle.soc_http.specs.declared.reply.Answered.{Answered}
+use Rattle.soc_http.specs.Message.{Message}
+use Rattle.soc_desk.specs.declared.desk.Command.{Command}
+use Rattle.soc_desk.specs.declared.desk.Receipt.{Receipt}
+use Rattle.soc_desk.specs.Commands.{CommandText, command_text}
+use Rattle.soc_desk.specs.Kinds.{IsReplyTo}
+use Rattle.soc_session.specs.declared.forms.Form.{Form}
+use Rattle.soc_session.specs.declared.rules.Rules.{Rules}
+use Rattle.soc_session.specs.Plan.{Drawn, Plan, says, asks, Plans, MayDraw}
+use Rattle.soc_session.specs.Replies.{BuildsText, desk_reply, no_memory}
+
+-- what the desk was asked, and what it gave
+pub record Asking : Type 0 where
+  pub command : Command
+  pub receipt : Receipt
+
+-- a message, what was drawn for it, what the desk was asked for it, and what it was answered
+pub record Exchange : Type 0 where
+  pub message : Message
+  pub drawn : List Drawn
+  pub asked : Option Asking
+  pub reply : Answered
+
+-- the desk's reply is answered as it is; a text that is built of it alone, which no change stands behind, memory may want for
+abbrev pub AnswersAsking : CommandText → Form → Asking → Answered → Type 0
+AnswersAsking command form asking reply =
+    (command_text asking.command ≡ command)
+    × IsReplyTo asking.command asking.receipt.reply
+    × ((reply ≡ desk_reply form asking.receipt.reply) ⊎ (BuildsText asking.receipt.reply × (reply ≡ no_memory)))
+
+-- the desk is asked once for what needs it, and not for what doesn't
+abbrev pub AnswersPlan : Plan → Option Asking → Answered → Type 0
+AnswersPlan (says said) None reply = reply ≡ said
+AnswersPlan (says said) (Some asking) reply = ⊥
+AnswersPlan (asks command form) None reply = ⊥
+AnswersPlan (asks command form) (Some asking) reply = AnswersAsking command form asking reply
+
+-- memory wanted before the desk was asked
+pub record WantsMemory (rules : Rules) (exchange : Exchange) : Type 0 where
+  pub draws : MayDraw rules exchange.message exchange.drawn
+  pub unasked : exchange.asked ≡ None
+  pub reply : exchange.reply ≡ no_memory
+
+-- what a message comes to under the rules
+pub record MeetsPlan (rules : Rules) (exchange : Exchange) : Type 0 where
+  pub plan : Plan
+  pub plans : Plans rules exchange.message exchange.drawn plan
+  pub answers : AnswersPlan plan exchange.asked exchange.reply
+
+-- a message is answered by the rules and the desk
+abbrev pub IsExchange : Rules → Exchange → Type 0
+IsExchange rules exchange = MeetsPlan rules exchange ⊎ WantsMemory rules exchange
+
+-- the desk has stopped
+abbrev pub says_stopped : Option Asking → Bool
+says_stopped asked = option_map_or (λ asking. asking.receipt.stopped) asked false
+
+-- the desk before and after what it was asked
+abbrev pub StepsDesk : {K : Type 0} → (K → Command → Receipt → K → Type 0) → K → Option Asking → K → Type 0
+StepsDesk step before None after = after ≡ before
+StepsDesk step before (Some asking) after = step before asking.command asking.receipt after

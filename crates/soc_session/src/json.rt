@@ -1,0 +1,120 @@
+//! What is answered as JSON (RFC 8259), compact, with names in byte order.
+ghost use Rattle.std.specs.Prelude.{◌≡◌, ◌++◌, filter, IfOk, OnOk};
+ghost use Rattle.serde_json.specs.Data.{string};
+ghost use Rattle.serde_json.specs.Written.{compact_text};
+ghost use Rattle.soc_query.specs.Json.{comma_after, joined};
+ghost use Rattle.soc_schema.specs.Fields.{field_entry, field_table};
+ghost use Rattle.soc_schema.specs.Permits.{holds};
+ghost use Rattle.soc_session.specs.Json.{annotation_json, annotations_json, field_json, fields_json, kind_name};
+
+use serde_json::Value as Json;
+use soc_raw::{Bytes, NoMemory, Texts};
+use soc_schema::{Caller, Field, FieldKind, granted};
+use std::alloc::Global;
+
+/// How many fields the table has.
+const FIELDS: u8 = 36;
+
+/// An object of the annotations' names and values.
+pub(crate) fn annotations_json(alloc: Global, annotations: &Texts) -> Result<Bytes, NoMemory>
+    ensures { IfOk result (λ text. text ≡ annotations_json annotations.now) }
+{
+    let mut out = Vec::new(alloc);
+    put(&mut out, "{")?;
+    put_annotations(alloc, &mut out, annotations)?;
+    put(&mut out, "}")?;
+    Ok(Bytes::from(out))
+}
+
+fn put_annotations(alloc: Global, out: &mut Vec<u8>, annotations: &Texts) -> Result<(), NoMemory>
+    ensures { OnOk result (out.new.items ≡ out.old.items ++ joined annotation_json annotations.now) }
+{
+    for i in 0..annotations.len() {
+        let (name, value) = annotations.at(i);
+        put_comma(out, i)?;
+        put_annotation(alloc, out, name, value)?;
+    }
+    Ok(())
+}
+
+fn put_annotation(alloc: Global, out: &mut Vec<u8>, name: &str, value: &str) -> Result<(), NoMemory>
+    ensures { OnOk result (out.new.items ≡ out.old.items ++ annotation_json (name.now, value.now)) }
+{
+    put_text(alloc, out, name)?;
+    put(out, ":")?;
+    put_text(alloc, out, value)
+}
+
+/// An object of the fields that the caller may see, each with its kind and what it takes to see it.
+pub(crate) fn fields_json(alloc: Global, caller: &Caller) -> Result<Bytes, NoMemory>
+    ensures { IfOk result (λ text. text ≡ fields_json caller.now) }
+{
+    let mut out = Vec::new(alloc);
+    put(&mut out, "{")?;
+    put_fields(&mut out, caller)?;
+    put(&mut out, "}")?;
+    Ok(Bytes::from(out))
+}
+
+fn put_fields(out: &mut Vec<u8>, caller: &Caller) -> Result<(), NoMemory>
+    ensures { OnOk result (out.new.items ≡ out.old.items
+        ++ joined field_json (filter (λ field. holds caller.now.permissions field.permission) field_table)) }
+{
+    let mut count = 0;
+    for place in 0..FIELDS {
+        let field = Field::at(place);
+        if granted(caller, field) {
+            put_comma(out, count)?;
+            put_field(out, field)?;
+            count += 1;
+        }
+    }
+    Ok(())
+}
+
+fn put_field(out: &mut Vec<u8>, field: Field) -> Result<(), NoMemory>
+    ensures { OnOk result (out.new.items ≡ out.old.items ++ field_json (field_entry field)) }
+{
+    put(out, "\"")?;
+    put(out, field.name())?;
+    put(out, "\":{\"kind\":\"")?;
+    put(out, kind_name(field.kind()))?;
+    put(out, "\",\"permission\":\"")?;
+    put(out, field.permission().name())?;
+    put(out, "\"}")?;
+    Ok(())
+}
+
+fn kind_name(kind: FieldKind) -> &'static str
+    ensures { result.now ≡ kind_name kind }
+{
+    match kind {
+        FieldKind::Text => "text",
+        FieldKind::Number => "number",
+        FieldKind::Flag => "flag",
+    }
+}
+
+/// A comma, unless nothing stands before.
+fn put_comma(out: &mut Vec<u8>, before: usize) -> Result<(), NoMemory>
+    ensures { OnOk result (out.new.items ≡ out.old.items ++ comma_after before) }
+{
+    if before > 0 {
+        put(out, ",")?;
+    }
+    Ok(())
+}
+
+fn put_text(alloc: Global, out: &mut Vec<u8>, text: &str) -> Result<(), NoMemory>
+    ensures { OnOk result (out.new.items ≡ out.old.items ++ compact_text (string text.now)) }
+{
+    let json = Json::String(String::from_str(alloc, text)?).to_string(alloc)?;
+    put(out, json.as_str())
+}
+
+fn put(out: &mut Vec<u8>, text: &str) -> Result<(), NoMemory>
+    ensures { OnOk result (out.new.items ≡ out.old.items ++ text.now) }
+{
+    out.extend_from_slice(text.as_bytes())?;
+    Ok(())
+}

@@ -1,0 +1,42 @@
+//! What a message's query or form says: which crash, and which of its dumps.
+ghost use Rattle.std.specs.Prelude.{◌≡◌, IfOk};
+ghost use Rattle.soc_http.specs.Query.{query_pairs};
+ghost use Rattle.soc_session.specs.Parameters.{crash_named, dump_named, id_in};
+
+use soc_http::{Head, first_value, pairs_of};
+use soc_raw::{CrashId, NoMemory, Pairs};
+use std::alloc::Global;
+
+/// The pairs of a target's query.
+pub(crate) fn query_in(alloc: Global, head: &Head) -> Result<Pairs, NoMemory>
+    ensures { IfOk result (λ pairs. pairs ≡ query_pairs head.now.query) }
+{
+    pairs_of(alloc, head.query.as_str().as_bytes())
+}
+
+/// The crash id that a text is.
+pub(crate) fn id_in(text: &str) -> Option<CrashId>
+    ensures { result ≡ id_in text.now }
+{
+    CrashId::parse(text)
+}
+
+/// The crash that the first pair of this name names.
+pub(crate) fn crash_named(name: &str, pairs: &Pairs) -> Option<CrashId>
+    ensures { result ≡ crash_named name.now pairs.now }
+{
+    match first_value(pairs, name) {
+        Some(text) => id_in(text),
+        None => None,
+    }
+}
+
+/// The dump that is asked for.
+pub(crate) fn dump_named(pairs: &Pairs) -> &str
+    ensures { result.now ≡ dump_named pairs.now }
+{
+    match first_value(pairs, "name") {
+        Some(name) => name,
+        None => "upload_file_minidump",
+    }
+}

@@ -1,0 +1,131 @@
+//! Submissions.
+ghost use Rattle.std.specs.Prelude.{◌≡◌, ◌≤◌, length, IfOk, IfErr};
+ghost use Rattle.soc_edge.specs.Ahead.{outlook};
+ghost use Rattle.soc_raw.specs.Day.{IsMoment};
+ghost use Rattle.soc_multipart.specs.declared.form_error.FormError.TheVariants.{Malformed};
+ghost use Rattle.soc_multipart.specs.declared.reasons.Reason.{Reason as Why};
+ghost use Rattle.soc_multipart.specs.Fits.{FitsCrash};
+ghost use Rattle.soc_multipart.specs.SubmissionViews.{submission_text};
+ghost use Rattle.soc_session.specs.Plan.{HoldsSubmission, IsMalformed, PlansSubmission, crash_with, keeps, plan_by, plan_of, says};
+ghost use Rattle.soc_session.specs.Replies.{malformed};
+ghost use Rattle.soc_session.specs.inner.Plans.{Draws, drawn_of, message_of, plan_text};
+
+use crate::drawing::{Drawing, draw};
+use crate::forms::Form;
+use crate::plans::Plan;
+use crate::replies::Room;
+use crate::rules::Rules;
+use soc_desk::Command;
+use soc_edge::{Clock, Draws};
+use soc_http::{Head, encoding_of, lines_named};
+use soc_multipart::{FormError, Reason, Submission, read_submission};
+use soc_raw::{CrashId, Digit, NoMemory, RawCrash, Text};
+use soc_throttle::{Outcome, RuleSet, Verdict};
+use std::alloc::Global;
+
+/// `/submit`: a crash is kept, by the rules.
+pub(super) fn submission<C: Clock, W: Draws>(
+    alloc: Global,
+    rules: &Rules,
+    head: &Head,
+    body: &[u8],
+    clock: &mut C,
+    draws: &mut W,
+) -> Result<Plan, NoMemory>
+    requires { length body.now ≤ 16777216 }
+    ensures { Draws (PlansSubmission rules.now (message_of head.now body.now))
+        (outlook (C.told clock.old) (W.told draws.old))
+        (outlook (C.told clock.new) (W.told draws.new)) result }
+{
+    match submission_in(alloc, head, body) {
+        Ok(said) => {
+            let drawing = draw(clock, draws);
+            decide(alloc, &rules.rules, said, drawing)
+        }
+        Err(FormError::Malformed(reason)) => refuse(alloc, reason),
+        Err(FormError::NoMemory) => Err(NoMemory),
+    }
+}
+
+/// Answers that a submission is malformed.
+fn refuse(alloc: Global, reason: Reason) -> Result<Plan, NoMemory>
+    ensures { IfOk result (λ plan. plan_text plan ≡ says (malformed reason)) }
+{
+    Ok(Plan::Says(Room::new(alloc)?.malformed(reason)))
+}
+
+/// What a submission says.
+fn submission_in(alloc: Global, head: &Head, body: &[u8]) -> Result<Submission, FormError>
+    requires { length body.now ≤ 16777216 }
+    ensures says { IfOk result (λ said. HoldsSubmission (message_of head.now body.now) (submission_text said)) }
+    ensures fits { IfOk result (λ said. FitsCrash (submission_text said)) }
+    ensures refused { IfErr result (λ error. (reason : Why) → error ≡ Malformed reason → IsMalformed (message_of head.now body.now) reason) }
+{
+    let kinds = lines_named(alloc, &head.lines, "content-type")?;
+    let said = read_submission(alloc, encoding_of(&head.lines), &kinds, body)?;
+    Ok(said)
+}
+
+/// What becomes of a submission: a sent id is used, else the rules decide.
+fn decide(
+    alloc: Global,
+    rules: &RuleSet,
+    said: Submission,
+    drawing: Drawing,
+) -> Result<Plan, NoMemory>
+    requires fits { FitsCrash (submission_text said) }
+    requires range { IsMoment drawing.moment }
+    ensures { IfOk result (λ plan. plan_text plan ≡ plan_of rules.now (drawn_of drawing) (submission_text said) said.sent_id) }
+{
+    if let Some(id) = said.sent_id {
+        return keep(alloc, id, "from_crash_id", drawing, said);
+    }
+    let verdict = rules.verdict(&said.annotations, drawing.throttle);
+    follow(alloc, verdict, drawing, said)
+}
+
+/// Follows a rule's verdict on a submission without an id.
+fn follow(
+    alloc: Global,
+    verdict: Verdict<'_>,
+    drawing: Drawing,
+    said: Submission,
+) -> Result<Plan, NoMemory>
+    requires short { length verdict.rule.now ≤ 40 }
+    requires fits { FitsCrash (submission_text said) }
+    requires range { IsMoment drawing.moment }
+    ensures { IfOk result (λ plan. plan_text plan ≡
+        plan_by (verdict.entry.rule.now, verdict.entry.outcome) (drawn_of drawing) (submission_text said)) }
+{
+    let digit = match verdict.outcome {
+        Outcome::Accept => Digit::Accepted,
+        Outcome::Defer => Digit::Deferred,
+        Outcome::Reject => return Ok(Plan::Says(Room::new(alloc)?.rejected(verdict.rule))),
+    };
+    let id = CrashId::make(drawing.id, digit, drawing.moment);
+    keep(alloc, id, verdict.rule, drawing, said)
+}
+
+/// Asks the desk to keep a submission under this id and the name of the rule that took it.
+fn keep(
+    alloc: Global,
+    id: CrashId,
+    rule: &str,
+    drawing: Drawing,
+    said: Submission,
+) -> Result<Plan, NoMemory>
+    requires short { length rule.now ≤ 40 }
+    requires fits { FitsCrash (submission_text said) }
+    requires range { IsMoment drawing.moment }
+    ensures { IfOk result (λ plan. plan_text plan ≡ keeps (crash_with id rule.now (drawn_of drawing) (submission_text said))) }
+{
+    let raw = RawCrash {
+        id,
+        moment: drawing.moment,
+        draw: drawing.throttle,
+        rule: Text::of(alloc, rule)?,
+        annotations: said.annotations,
+        dumps: said.dumps,
+    };
+    Ok(Plan::asking(Command::Submit { raw }, Form::Submission))
+}
