@@ -10,6 +10,7 @@ use Rattle.soc_schema.specs.declared.value.Value.TheVariants.{Text}
 use Rattle.soc_schema.specs.Fields.{uuid_field}
 use Rattle.soc_schema.specs.Reports.{TellsCrash}
 use Rattle.soc_schema.specs.Rows.{value_of}
+use Rattle.soc_schema.specs.RowText.{HasText, row_text}
 use Rattle.soc_ledger.specs.declared.event.Event.{Event}
 use Rattle.soc_ledger.specs.declared.event.Event.TheVariants as event
 use Rattle.soc_ledger.specs.Due.{is_due}
@@ -103,12 +104,12 @@ row_in basis log id = row_back basis id (reverse log)
 
 -- ---- which logs are legal
 
--- what a change behind these says of its crash is so
+-- What a change behind these says of its crash is so, and the row of a report is one that has a text.
 abbrev pub IsSound : List Change → Change → Type 0
 IsSound older (keep (accept crash)) = IsId crash.id × IfSome crash.raw (λ raw. (raw.id ≡ crash.id) × IsCrash raw)
 IsSound older (keep (report made)) =
     (length made.digest ≡ 32) × (value_of made.row uuid_field ≡ Some (Text made.id))
-    × IfSome (raw_of older made.id) (λ raw. TellsCrash raw made.row)
+    × IfSome (raw_of older made.id) (λ raw. TellsCrash raw made.row) × HasText made.row (row_text made.row)
 IsSound older (keep (ask _)) = ⊤
 IsSound older (keep (withdraw _)) = ⊤
 IsSound older (done _) = ⊤

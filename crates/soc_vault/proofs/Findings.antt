@@ -57,9 +57,10 @@ moves_by before after mark body given at moved fits same size =
 
 -- ---- all entries
 
-pub reading_begins : (was_given : ℕ → List Entry → Type 0) (disk : DiskTold) (opening : OpeningState) → IsDisk disk → ((start : ℕ) → was_given start []) → IfSome disk.content (λ bytes. HasRead opening [] bytes disk.images) → Reading was_given disk disk opening opening
-reading_begins was_given disk opening sound given reads = record {
+pub reading_begins : (was_given : ℕ → List Entry → Type 0) (name : Option (List ℕ)) (disk : DiskTold) (opening : OpeningState) → IsDisk disk → ((start : ℕ) → was_given start []) → IfSome disk.content (λ bytes. HasRead opening [] bytes disk.images) → Reading was_given name name disk disk opening opening
+reading_begins was_given name disk opening sound given reads = record {
   has = record { start = opening.place; entries = []; given = given opening.place; behind = sym (add-zero opening.place); reads = reads };
+  name_stays = refl;
   looks = Looks-none disk sound;
   limit = refl;
 }

@@ -28,6 +28,7 @@ pub fn open<D: Disk, R: Recover>(
 ) -> Result<Journal, OpenError>
     requires { (start : ℕ) → R.was_given into.old start [] }
     ensures opens { IfOk result (λ journal. Opens (R.was_given into.new) limit (D.state disk.old) (D.state disk.new) journal) }
+    ensures name_stays { R.name into.new ≡ R.name into.old }
     ensures not_ours { IsErrOf result OpenError.NotOurs → IfSome (D.state disk.old).content (λ bytes. (bytes ≢ []) × ¬ (HasHeader bytes)) }
     ensures bad_entry { (place : ℕ) → IsErrOf result (OpenError.BadEntry place) → IfSome (D.state disk.old).content (λ bytes. StopsAt R.was_given R.refuses into.new bytes place) }
     ensures any_moment { IfSome (D.state disk.old).content (λ bytes.
@@ -54,6 +55,7 @@ fn give_all<D: Disk, R: Recover>(
     requires fresh { (start : ℕ) → R.was_given into.old start [] }
     requires reads { IfSome (D.state disk.old).content (λ bytes. HasRead opening [] bytes (D.state disk.old).images) }
     ensures given { IfOk result (λ all. HasGivenAll (R.was_given into.new) all (D.state disk.old).content (D.state disk.new).images) }
+    ensures name_stays { R.name into.new ≡ R.name into.old }
     ensures ended { IfOk result (λ all. IsTrue all.ended) }
     ensures limit { IfOk result (λ all. all.limit ≡ opening.limit) }
     ensures bad_entry { (place : ℕ) → IsErrOf result (OpenError.BadEntry place) → IfSome (D.state disk.old).content (λ bytes. StopsAt R.was_given R.refuses into.new bytes place) }

@@ -1,5 +1,5 @@
 //! Vaults over disks in memory: what they keep, what a refused call leaves, and which disks aren't opened.
-ghost use Rattle.std.specs.Prelude.{◌≡◌, ◌≤◌, length, vec_len, IfOk, ⊤};
+ghost use Rattle.std.specs.Prelude.{◌≡◌, ◌≤◌, length, vec_len, IfOk, None, ⊤};
 ghost use Rattle.soc_journal.specs.Entries.{max_body};
 
 mod untold;
@@ -22,6 +22,8 @@ struct Bodies {
 
 impl Recover for Bodies {
     ghost was_given = { λ bodies start entries. ⊤ };
+
+    ghost name = { λ bodies. None };
 
     ghost refuses = { λ entries entry. ⊤ };
 

@@ -40,8 +40,9 @@ pub record HasGivenAll (was_given : ℕ → List Entry → Type 0) (opening : Op
   pub behind : opening.place ≡ place_from start entries
   pub reads : IfSome told (λ bytes. HasReadAll opening entries bytes images)
 
--- while an opening is read: what was given so far, and that the disk was only looked at
-pub record Reading (was_given : ℕ → List Entry → Type 0) (first now : DiskTold) (begun opening : OpeningState) : Type 0 where
+-- while an opening is read: what was given so far, to one of the same name, and that the disk was only looked at
+pub record Reading (was_given : ℕ → List Entry → Type 0) (first_name name : Option (List ℕ)) (first now : DiskTold) (begun opening : OpeningState) : Type 0 where
   pub has : HasGiven was_given opening first.content now.images
+  pub name_stays : name ≡ first_name
   pub looks : Looks first now
   pub limit : opening.limit ≡ begun.limit

@@ -3,7 +3,7 @@ use Rattle.soc_vault.proofs.opening.give_all.Goals as goal
 
 pub loop-found-init : goal.loop-found-init
 loop-found-init g c =
-    reading_begins (g.R.Recover.was_given c.args.into.now) (g.D.Disk.state c.args.disk.now) c.args.opening (g.met.D.Disk.sound c.args.disk.now) c.requires.fresh c.requires.reads
+    reading_begins (g.R.Recover.was_given c.args.into.now) (g.R.Recover.name c.args.into.now) (g.D.Disk.state c.args.disk.now) c.args.opening (g.met.D.Disk.sound c.args.disk.now) c.requires.fresh c.requires.reads
 
 pub loop-found-smaller : goal.loop-found-smaller
 loop-found-smaller g c =

@@ -1,0 +1,76 @@
+-- One more change that may follow a legal log, and what legal logs tell of their crashes.
+use Rattle.std.proofs.Common.{◌≡◌, ℕ, Bool, true, false, IsTrue, List, [], ◌∷◌, ◌++◌, map, reverse, Option, Some, None, IfSome, IsSome, sym, ap, subst, ◌∙◌, refl}
+use Rattle.std.specs.Prelude.{bytes_eq, filter_map}
+use Rattle.std.specs.List.{AllByRecursion, cons_option}
+use Rattle.std.proofs.lemmas.List.Elements.{filter_map-append}
+use Rattle.std.proofs.lemmas.List.{append-nil, map-append}
+use Rattle.soc_raw.specs.CrashId.{IsId}
+use Rattle.soc_raw.specs.Record.{Crash, IsCrash}
+use Rattle.soc_ledger.specs.declared.event.Event.{Event}
+use Rattle.soc_ledger.specs.Events.{accepted_ids}
+use Rattle.soc_ledger.specs.Legal.{IsLegalNext, IsLegal as AreLegal}
+use Rattle.soc_ledger.proofs.Lists.{all-more}
+use Rattle.soc_ledger.proofs.Logs.{legal-more}
+use Rattle.soc_journal.specs.Entries.{Entry}
+use Rattle.soc_desk.specs.Basis.{Basis}
+use Rattle.soc_desk.specs.Log.{Change, Kept, Accepted, accept, ask, withdraw, report, keep, done, stop, accepted_in, accepted_of, event_of, events, IsSound, AreSoundBack, IsLegal}
+use Rattle.soc_desk.specs.State.{State, IsLegalState, settled, entry_of, entries_of, kept_in, kept_of}
+use Rattle.soc_desk.proofs.Logs.{events-more, reverse-cons, reverse-more, reverse-twice}
+use Rattle.soc_desk.proofs.Found.{AreTold}
+
+pub accepted-more : (log : List Change) (change : Change) → accepted_of (log ++ change ∷ []) ≡ accepted_of log ++ accepted_of (change ∷ [])
+accepted-more log change = filter_map-append accepted_in log (change ∷ [])
+
+pub kept-more : (log : List Change) (change : Kept) → kept_of (log ++ keep change ∷ []) ≡ kept_of log ++ change ∷ []
+kept-more log change = filter_map-append kept_in log (keep change ∷ [])
+
+pub entries-more : (log : List Change) (change : Kept) → entries_of (kept_of (log ++ keep change ∷ [])) ≡ entries_of (kept_of log) ++ entry_of change ∷ []
+entries-more log change = ap entries_of (kept-more log change) ∙ map-append entry_of (kept_of log) (change ∷ [])
+
+module _ (basis : Basis) (log : List Change) (change : Change) where
+  pub legal-next : IsLegal basis log → IsLegalNext (events basis log) (event_of basis change) → IsSound log change → (IsTrue basis.is_told → AreTold (accepted_of (change ∷ [])))
+      → IsLegal basis (log ++ change ∷ [])
+  legal-next legal next sound told = record {
+    events_legal = subst AreLegal (sym (events-more basis log change)) (legal-more (events basis log) (event_of basis change) legal.events_legal next);
+    sound = subst AreSoundBack (sym (reverse-more log change)) (subst (λ (older : List Change). IsSound older change) (sym (reverse-twice log)) sound, legal.sound);
+    told = λ is_told. subst AreTold (sym (accepted-more log change)) (all-more (λ (crash : Accepted). IsSome crash.raw) (accepted_of log) (accepted_of (change ∷ [])) (legal.told is_told) (told is_told));
+  }
+
+pub settled-legal : (basis : Basis) (log : List Change) → IsLegal basis log → IsLegalState basis (settled log)
+settled-legal basis log legal = record { log = legal; doubt = tt }
+
+pub doubt-legal : (basis : Basis) (log : List Change) (change : Kept) → IsLegal basis log → IsLegal basis (log ++ keep change ∷ []) → IsLegalState basis (record { log = log; doubt = Some change })
+doubt-legal basis log change legal next = record { log = legal; doubt = next }
+
+-- ---- the accepted crashes
+
+-- the accepted ids, by the crashes
+pub ids_of-log : (basis : Basis) (log : List Change) → accepted_ids (events basis log) ≡ map (λ (crash : Accepted). crash.id) (accepted_of log)
+ids_of-log basis [] = refl
+ids_of-log basis (keep (accept crash) ∷ log) = ap (λ ids. crash.id ∷ ids) (ids_of-log basis log)
+ids_of-log basis (keep (ask other) ∷ log) = ids_of-log basis log
+ids_of-log basis (keep (withdraw other) ∷ log) = ids_of-log basis log
+ids_of-log basis (keep (report made) ∷ log) = ids_of-log basis log
+ids_of-log basis (done other ∷ log) = ids_of-log basis log
+ids_of-log basis (stop ∷ log) = ids_of-log basis log
+
+-- a crash that is told is one, with the id under which it was accepted
+abbrev pub IsSoundCrash : Accepted → Type 0
+IsSoundCrash crash = IsId crash.id × IfSome crash.raw (λ raw. (raw.id ≡ crash.id) × IsCrash raw)
+
+sound_here : (older : List Change) (change : Change) → IsSound older change → AllByRecursion IsSoundCrash (accepted_of (change ∷ []))
+sound_here older (keep (accept crash)) sound = (sound, tt)
+sound_here older (keep (ask id)) sound = tt
+sound_here older (keep (withdraw id)) sound = tt
+sound_here older (keep (report made)) sound = tt
+sound_here older (done id) sound = tt
+sound_here older stop sound = tt
+
+sound_back : (back : List Change) → AreSoundBack back → AllByRecursion IsSoundCrash (accepted_of (reverse back))
+sound_back [] sound = tt
+sound_back (change ∷ older) sound =
+    subst (AllByRecursion IsSoundCrash) (sym (ap accepted_of (reverse-cons change older) ∙ accepted-more (reverse older) change))
+    (all-more IsSoundCrash (accepted_of (reverse older)) (accepted_of (change ∷ [])) (sound_back older sound.1) (sound_here (reverse older) change sound.0))
+
+pub sound_crashes : (log : List Change) → AreSoundBack (reverse log) → AllByRecursion IsSoundCrash (accepted_of log)
+sound_crashes log sound = subst (λ (l : List Change). AllByRecursion IsSoundCrash (accepted_of l)) (reverse-twice log) (sound_back (reverse log) sound)

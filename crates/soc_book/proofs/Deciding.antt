@@ -1,0 +1,318 @@
+-- What a command that writes does, from what it settles, decides and appends.
+use Rattle.std.proofs.Common.{◌≡◌, ◌⊎◌, inl, inr, ℕ, ◌<◌, ◌≤◌, Bool, true, false, IsTrue, List, [], ◌∷◌, ◌++◌, Option, Some, None, IfSome, IsSome, IsSomeAnd, MatchOption, Result, Ok, Err, sym, ap, subst, ◌∙◌, refl, arith, append_assoc}
+use Rattle.std.specs.Prelude.{⊤}
+use Rattle.std.proofs.lemmas.List.{append-nil, map-append}
+use Rattle.soc_raw.specs.declared.raw_crash.RawCrash.{RawCrash}
+use Rattle.soc_schema.specs.declared.caller.Caller.{Caller}
+use Rattle.soc_schema.specs.declared.permission.Permission.{Permission}
+use Rattle.soc_edge.specs.Disk.{DiskTold, IsDisk, GoesOn, LeavesOnly, Looks, DiskFailed}
+use Rattle.soc_edge.specs.Faults.{Rose, last_count}
+use Rattle.soc_edge.proofs.Disks.{GoesOn-append, LeavesOnly-append, LeavesOnly-weaker}
+use Rattle.soc_ledger.specs.declared.event.Event.{Event}
+use Rattle.soc_desk.specs.declared.desk.Command.{Command}
+use Rattle.soc_desk.specs.declared.desk.Command.TheVariants as C
+use Rattle.soc_desk.specs.declared.desk.Reply.{Reply}
+use Rattle.soc_desk.specs.declared.desk.Reply.TheVariants as R
+use Rattle.soc_desk.specs.declared.desk.Refusal.{Refusal}
+use Rattle.soc_desk.specs.declared.desk.Refusal.TheVariants as F
+use Rattle.soc_desk.specs.Asks.{Gains, IsStoreFault, IsAltered}
+use Rattle.soc_desk.specs.Basis.{Basis}
+use Rattle.soc_desk.specs.Decisions.{Decision, answers, appends, decide, lacked}
+use Rattle.soc_desk.specs.Desk.{IfElse, Refuses, Appends, Decides, FailsRead, FailsMend, SettlesAndDecides, StepWriting, Step}
+use Rattle.soc_desk.specs.Grows.{BehindDoubt, Writes, Grows}
+use Rattle.soc_desk.specs.Kinds.{IsReplyTo}
+use Rattle.soc_desk.specs.Log.{Change, Kept, keep, event_of, events}
+use Rattle.soc_desk.specs.State.{State, settled, Settles, kept_of, has_room, StandsFor, Allowed, Survives}
+use Rattle.soc_book.specs.inner.Does.{Adds, Does, IsDecided, IsSettledReply}
+use Rattle.soc_book.specs.inner.Pieces.{Begins, EndsAs, IsAppended, IsWritten, RepliesAs}
+use Rattle.soc_book.proofs.Changes.{kept-more}
+
+-- ---- the commands that write
+
+-- what is known of each command that writes
+pub record IsWriting (basis : Basis) (command : Command) : Type 0 where
+  pub step : (before : State) (reply : Reply) (after : State) → StepWriting basis before command reply after → Step basis before command reply after
+  pub grows : (log : List Event) (reply : Reply) (piece : List Event) → Writes log piece reply (Adds command reply) → Grows log command reply piece
+  pub no_memory : lacked command ≡ None → IsReplyTo command (R.Refused F.NoMemory)
+  pub store_fault : lacked command ≡ None → IsReplyTo command (R.Refused F.StoreFault)
+  pub journal_full : lacked command ≡ None → IsReplyTo command (R.Refused F.JournalFull)
+  pub fault_adds : (log : List Event) → Adds command (R.Refused F.StoreFault) log []
+  pub unaltered : (reply : Reply) → IsReplyTo command reply → IsAltered reply → ⊥
+
+pub writes_submit : (basis : Basis) (raw : RawCrash) → IsWriting basis (C.Submit raw)
+writes_submit basis raw = record {
+  step = λ before reply after step. step;
+  grows = λ log reply piece grows. grows;
+  no_memory = λ none. (none, tt);
+  store_fault = λ none. (none, tt);
+  journal_full = λ none. (none, tt);
+  fault_adds = λ log. (tt, refl);
+  unaltered = unaltered;
+} where
+  unaltered : (reply : Reply) → IsReplyTo (C.Submit raw) reply → IsAltered reply → ⊥
+  unaltered (R.Refused (F.Altered id)) kind is = absurd kind.1
+  unaltered (R.Refused _) kind is = is
+  unaltered _ kind is = is
+
+pub writes_priority : (basis : Basis) (caller : Caller) (id : List ℕ) → IsWriting basis (C.Priority caller id)
+writes_priority basis caller id = record {
+  step = λ before reply after step. step;
+  grows = λ log reply piece grows. grows;
+  no_memory = λ none. (none, tt);
+  store_fault = λ none. (none, tt);
+  journal_full = λ none. (none, tt);
+  fault_adds = λ log. refl;
+  unaltered = unaltered;
+} where
+  unaltered : (reply : Reply) → IsReplyTo (C.Priority caller id) reply → IsAltered reply → ⊥
+  unaltered (R.Refused (F.Altered other)) kind is = absurd kind.1
+  unaltered (R.Refused _) kind is = is
+  unaltered _ kind is = is
+
+pub writes_reprocess : (basis : Basis) (caller : Caller) (id : List ℕ) → IsWriting basis (C.Reprocess caller id)
+writes_reprocess basis caller id = record {
+  step = λ before reply after step. step;
+  grows = λ log reply piece grows. grows;
+  no_memory = λ none. (none, tt);
+  store_fault = λ none. (none, tt);
+  journal_full = λ none. (none, tt);
+  fault_adds = λ log. refl;
+  unaltered = unaltered;
+} where
+  unaltered : (reply : Reply) → IsReplyTo (C.Reprocess caller id) reply → IsAltered reply → ⊥
+  unaltered (R.Refused (F.Altered other)) kind is = absurd kind.1
+  unaltered (R.Refused _) kind is = is
+  unaltered _ kind is = is
+
+pub writes_withdraw : (basis : Basis) (caller : Caller) (id : List ℕ) → IsWriting basis (C.Withdraw caller id)
+writes_withdraw basis caller id = record {
+  step = λ before reply after step. step;
+  grows = λ log reply piece grows. grows;
+  no_memory = λ none. (none, tt);
+  store_fault = λ none. (none, tt);
+  journal_full = λ none. (none, tt);
+  fault_adds = λ log. refl;
+  unaltered = unaltered;
+} where
+  unaltered : (reply : Reply) → IsReplyTo (C.Withdraw caller id) reply → IsAltered reply → ⊥
+  unaltered (R.Refused (F.Altered other)) kind is = absurd kind.1
+  unaltered (R.Refused _) kind is = is
+  unaltered _ kind is = is
+
+-- ---- disks
+
+-- a fault in a later part of a call is one in the whole
+pub failed_later : (disk middle disk' : DiskTold) → GoesOn disk middle → DiskFailed middle disk' → DiskFailed disk disk'
+failed_later disk middle disk' goes_on (inl rose) =
+    let kept : disk.faults ≤ middle.faults = goes_on.faults_never_fall in
+    let more : middle.faults < disk'.faults = rose in
+    inl (omega arith)
+failed_later disk middle disk' goes_on (inr last) = inr last
+
+-- what stands once a doubt is settled was allowed before
+allowed_settled : (log : List Change) (doubt : Option Kept) (log' : List Change) → Settles log doubt log' → (image : List ℕ) → Allowed (settled log') image → Allowed (record { log = log; doubt = doubt }) image
+allowed_settled log None log' same image (inl text) = inl (subst (λ (l : List Change). StandsFor image (kept_of l)) same text)
+allowed_settled log (Some change) log' (inl kept) image (inl text) =
+    inr (subst (λ (ks : List Kept). StandsFor image ks) (kept-more log change) (subst (λ (l : List Change). StandsFor image (kept_of l)) kept text))
+allowed_settled log (Some change) log' (inr dropped) image (inl text) = inl (subst (λ (l : List Change). StandsFor image (kept_of l)) dropped text)
+allowed_settled log None log' same image (inr never) = absurd never
+allowed_settled log (Some change) log' settles image (inr never) = absurd never
+
+-- what is appended behind a doubt that was kept, or without one
+gains_behind : (basis : Basis) (log : List Change) (doubt : Option Kept) (log' own after : List Change) (command : Command) (reply : Reply) (Adding : List Event → List Event → Type 0)
+    → ((piece : List Event) → BehindDoubt (events basis log) piece Adding → Grows (events basis log) command reply piece) → Settles log doubt log' → after ≡ log' ++ own → Adding (events basis log') (events basis own)
+    → Gains basis log command reply after
+gains_behind basis log None log' own after command reply Adding grows same behind adds = record {
+  piece = own;
+  behind = behind ∙ ap (λ (l : List Change). l ++ own) same;
+  grows = grows (events basis own) (inl (subst (λ (l : List Change). Adding (events basis l) (events basis own)) same adds));
+}
+gains_behind basis log (Some change) log' own after command reply Adding grows (inl kept) behind adds = record {
+  piece = keep change ∷ own;
+  behind = behind ∙ (ap (λ (l : List Change). l ++ own) kept ∙ append_assoc log (keep change ∷ []) own);
+  grows = grows (events basis (keep change ∷ own))
+      (inr (event_of basis (keep change), events basis own, refl, subst (λ (l : List Event). Adding l (events basis own)) (ap (events basis) kept ∙ map-append (event_of basis) log (keep change ∷ [])) adds));
+}
+gains_behind basis log (Some change) log' own after command reply Adding grows (inr dropped) behind adds = record {
+  piece = own;
+  behind = behind ∙ ap (λ (l : List Change). l ++ own) dropped;
+  grows = grows (events basis own) (inl (subst (λ (l : List Change). Adding (events basis l) (events basis own)) dropped adds));
+}
+
+plain_writes : (log piece : List Event) (reply : Reply) (Adding : List Event → List Event → Type 0) → IsSettledReply reply → BehindDoubt log piece Adding → Writes log piece reply Adding
+plain_writes log piece (R.Refused F.NoMemory) Adding plain behind = absurd plain
+plain_writes log piece (R.Refused (F.NoPermission name)) Adding plain behind = absurd plain
+plain_writes log piece _ Adding plain behind = behind
+
+-- ---- before the log decides
+
+module _ (basis : Basis) (command : Command) (writing : IsWriting basis command) (before : State) (disk disk' : DiskTold) (looks : Looks disk disk')
+    (allowed : IsTrue basis.is_told → (image : List ℕ) → disk.images image → Allowed before image) where
+  survives_same : IsTrue basis.is_told → Survives disk disk' before before
+  survives_same is_told = LeavesOnly-weaker disk disk' disk.images (λ image. Allowed before image ⊎ Allowed before image) (λ image left. inl (allowed is_told image left)) looks.any_moment
+
+  -- the state stays
+  early : (reply : Reply) → IsReplyTo command reply → Writes (events basis before.log) [] reply (Adds command reply) → (IsStoreFault reply → DiskFailed disk disk') → StepWriting basis before command reply before
+      → Does basis before disk command reply before disk'
+  early reply kind grows fault step = record {
+    kind = kind;
+    gains = record { piece = []; behind = sym (append-nil before.log); grows = writing.grows (events basis before.log) reply [] grows };
+    goes_on = looks.goes_on;
+    fault = fault;
+    altered = λ is. absurd (writing.unaltered reply kind is);
+    step = λ is_told. writing.step before reply before step;
+    survives = survives_same;
+  }
+
+  pub lacks_permission : (name : Permission) → lacked command ≡ Some name → Does basis before disk command (R.Refused (F.NoPermission name)) before disk'
+  lacks_permission name lacks = early (R.Refused (F.NoPermission name)) lacks refl (λ never. absurd never)
+      (inr (subst (λ (o : Option Permission). MatchOption o (FailsMend before (R.Refused (F.NoPermission name)) before ⊎ SettlesAndDecides basis before command (R.Refused (F.NoPermission name)) before)
+      (λ n. Refuses before (F.NoPermission n) (R.Refused (F.NoPermission name)) before)) (sym lacks) (refl, refl)))
+
+  pub wants_memory : lacked command ≡ None → Does basis before disk command (R.Refused F.NoMemory) before disk'
+  wants_memory permitted = early (R.Refused F.NoMemory) (writing.no_memory permitted) refl (λ never. absurd never) (inl (refl, refl))
+
+  pub fails_mend : lacked command ≡ None → IsSome before.doubt → DiskFailed disk disk' → Does basis before disk command (R.Refused F.StoreFault) before disk'
+  fails_mend permitted doubt failed = early (R.Refused F.StoreFault) (writing.store_fault permitted) (inl (writing.fault_adds (events basis before.log))) (λ is. failed)
+      (inr (subst (λ (o : Option Permission). MatchOption o (FailsMend before (R.Refused F.StoreFault) before ⊎ SettlesAndDecides basis before command (R.Refused F.StoreFault) before)
+      (λ n. Refuses before (F.NoPermission n) (R.Refused F.StoreFault) before)) (sym permitted) (inl (doubt, (refl, refl)))))
+
+  -- the doubt isn't settled
+  pub doesnt_begin : (Now : State → Type 0) (refusal : Refusal) → lacked command ≡ None → Begins before disk disk' (Err refusal) Now → (after : State) × Now after × Does basis before disk command (R.Refused refusal) after disk'
+  doesnt_begin Now F.StoreFault permitted (doubt, failed, now) = (before, now, fails_mend permitted doubt failed)
+  doesnt_begin Now F.NoMemory permitted now = (before, now, wants_memory permitted)
+  doesnt_begin Now F.JournalFull permitted never = absurd never
+  doesnt_begin Now (F.OtherContent id) permitted never = absurd never
+  doesnt_begin Now F.NoCrash permitted never = absurd never
+  doesnt_begin Now F.NotProcessed permitted never = absurd never
+  doesnt_begin Now F.TooManyCrashes permitted never = absurd never
+  doesnt_begin Now (F.NoPermission name) permitted never = absurd never
+  doesnt_begin Now (F.Altered id) permitted never = absurd never
+  doesnt_begin Now (F.Withdrawn id) permitted never = absurd never
+
+  -- the doubt was settled, and then the log decides
+  module _ (disk'' : DiskTold) (reply : Reply) (after : State) (permitted : lacked command ≡ None) (log : List Change) (settles : Settles before.log before.doubt log)
+      (decided : IsDecided basis log disk' command reply after disk'') where
+    survives_both : IsTrue basis.is_told → Survives disk disk'' before after
+    survives_both is_told = LeavesOnly-append disk disk' disk'' (λ image. Allowed before image ⊎ Allowed after image) looks.goes_on decided.goes_on
+        (LeavesOnly-weaker disk disk' disk.images (λ image. Allowed before image ⊎ Allowed after image) (λ image left. inl (allowed is_told image left)) looks.any_moment)
+        (LeavesOnly-weaker disk' disk'' (λ image. Allowed (settled log) image ⊎ Allowed after image) (λ image. Allowed before image ⊎ Allowed after image)
+        (λ image left. elim left [
+          | inl earlier ↦ inl (allowed_settled before.log before.doubt log settles image earlier)
+          | inr later ↦ inr later
+        ]) (decided.survives is_told))
+
+    pub does_behind : Does basis before disk command reply after disk''
+    does_behind = record {
+      kind = decided.kind;
+      gains = gains_behind basis before.log before.doubt log decided.own after.log command reply (Adds command reply)
+          (λ piece behind. writing.grows (events basis before.log) reply piece (plain_writes (events basis before.log) piece reply (Adds command reply) decided.plain behind)) settles decided.behind decided.adds;
+      goes_on = GoesOn-append disk disk' disk'' looks.goes_on decided.goes_on;
+      fault = λ is. failed_later disk disk' disk'' looks.goes_on (decided.fault is);
+      altered = λ is. absurd (writing.unaltered reply decided.kind is);
+      step = λ is_told. writing.step before reply after
+          (inr (subst (λ (o : Option Permission). MatchOption o (FailsMend before reply after ⊎ SettlesAndDecides basis before command reply after) (λ n. Refuses before (F.NoPermission n) reply after)) (sym permitted)
+          (inr (record { log = log; settles = settles; decides = decided.decides is_told }))));
+      survives = survives_both;
+    }
+
+  pub begun_does : (Now : State → Type 0) (disk'' : DiskTold) (reply : Reply) → lacked command ≡ None → Begins before disk disk' (Ok tt) Now
+      → (Later : State → Type 0) → ((log : List Change) → Now (settled log) → (after : State) × Later after × IsDecided basis log disk' command reply after disk'')
+      → (after : State) × Later after × Does basis before disk command reply after disk''
+  begun_does Now disk'' reply permitted (log, settles, now) Later decides =
+      let d = decides log now in
+      (d.0, d.1, does_behind disk'' reply d.0 permitted log settles d.2)
+
+-- ---- what the settled log decides
+
+module _ (basis : Basis) (log : List Change) (disk disk' : DiskTold) (command : Command) where
+  -- an answer: nothing is written
+  pub answered : (said : Reply) → Looks disk disk' → (IsTrue basis.is_told → (image : List ℕ) → disk.images image → Allowed (settled log) image) → IsReplyTo command said → IsSettledReply said
+      → (IsStoreFault said → DiskFailed disk disk') → Adds command said (events basis log) []
+      → (IsTrue basis.is_told → IsSomeAnd (decide basis log command) (λ decision. Decides basis log decision said (settled log)) ⊎ FailsRead basis log command said (settled log))
+      → IsDecided basis log disk command said (settled log) disk'
+  answered said looks allowed kind plain fault adds decides = record {
+    kind = kind;
+    plain = plain;
+    own = [];
+    behind = sym (append-nil log);
+    adds = adds;
+    goes_on = looks.goes_on;
+    fault = fault;
+    decides = decides;
+    survives = λ is_told. LeavesOnly-weaker disk disk' disk.images (λ image. Allowed (settled log) image ⊎ Allowed (settled log) image) (λ image left. inl (allowed is_told image left)) looks.any_moment;
+  }
+
+  -- the decision of a settled log, by what it is
+  pub decided_as : (decision : Decision) (reply : Reply) (after : State) → decide basis log command ≡ Some decision → Decides basis log decision reply after
+      → IsSomeAnd (decide basis log command) (λ d. Decides basis log d reply after) ⊎ FailsRead basis log command reply after
+  decided_as decision reply after is decides =
+      let P : Option Decision → Type 0 = λ o. IsSomeAnd o (λ d. Decides basis log d reply after) in
+      inl (subst P (sym is) decides)
+
+  -- a change that may be appended with this reply
+  pub record MayAppend (change : Kept) (written : Reply) : Type 0 where
+    pub kind : IsReplyTo command written
+    pub fault_kind : IsReplyTo command (R.Refused F.StoreFault)
+    pub full_kind : IsReplyTo command (R.Refused F.JournalFull)
+    pub plain : IsSettledReply written
+    pub no_fault : IsStoreFault written → ⊥
+    pub adds : Adds command written (events basis log) (event_of basis (keep change) ∷ [])
+    pub fault_adds : Adds command (R.Refused F.StoreFault) (events basis log) []
+    pub full_adds : Adds command (R.Refused F.JournalFull) (events basis log) []
+
+  module _ (change told : Kept) (written : Reply) (may : MayAppend change written) (same : IsTrue basis.is_told → change ≡ told) (is : IsTrue basis.is_told → decide basis log command ≡ Some (appends told written)) where
+    decides_to : (b : Bool) (reply : Reply) (after : State) → IsTrue basis.is_told → has_room basis log change ≡ b
+        → IfElse b (((reply ≡ written) × (after ≡ settled (log ++ keep change ∷ []))) ⊎ ((reply ≡ R.Refused F.StoreFault) × (after ≡ record { log = log; doubt = Some change })))
+        ((reply ≡ R.Refused F.JournalFull) × (after ≡ settled log)) → IsSomeAnd (decide basis log command) (λ d. Decides basis log d reply after) ⊎ FailsRead basis log command reply after
+    decides_to b reply after is_told room ends =
+        let P : Bool → Type 0 = λ x. IfElse x (((reply ≡ written) × (after ≡ settled (log ++ keep change ∷ []))) ⊎ ((reply ≡ R.Refused F.StoreFault) × (after ≡ record { log = log; doubt = Some change })))
+        ((reply ≡ R.Refused F.JournalFull) × (after ≡ settled log)) in
+        let here : Appends basis log change written reply after = subst P (sym room) ends in
+        decided_as (appends told written) reply after (is is_told) (subst (λ (k : Kept). Appends basis log k written reply after) (same is_told) here)
+
+    appended : (result : Result (Unit {0}) Refusal) (reply : Reply) (after : State) → IsAppended basis log disk change result after disk' → RepliesAs result written reply → IsDecided basis log disk command reply after disk'
+    appended (Ok done) reply after did said = record {
+      kind = subst (λ (r : Reply). IsReplyTo command r) (sym said) may.kind;
+      plain = subst IsSettledReply (sym said) may.plain;
+      own = keep change ∷ [];
+      behind = ap (λ (s : State). s.log) did.ends.0;
+      adds = subst (λ (r : Reply). Adds command r (events basis log) (event_of basis (keep change) ∷ [])) (sym said) may.adds;
+      goes_on = did.goes_on;
+      fault = λ fault. absurd (may.no_fault (subst IsStoreFault said fault));
+      decides = λ is_told. decides_to true reply after is_told (did.ends.1 is_told) (inl (said, did.ends.0));
+      survives = did.survives;
+    }
+    appended (Err F.StoreFault) reply after did said = record {
+      kind = subst (λ (r : Reply). IsReplyTo command r) (sym said) may.fault_kind;
+      plain = subst IsSettledReply (sym said) tt;
+      own = [];
+      behind = ap (λ (s : State). s.log) did.ends.0 ∙ sym (append-nil log);
+      adds = subst (λ (r : Reply). Adds command r (events basis log) []) (sym said) may.fault_adds;
+      goes_on = did.goes_on;
+      fault = λ fault. did.ends.1;
+      decides = λ is_told. decides_to true reply after is_told (did.ends.2 is_told) (inr (said, did.ends.0));
+      survives = did.survives;
+    }
+    appended (Err F.JournalFull) reply after did said = record {
+      kind = subst (λ (r : Reply). IsReplyTo command r) (sym said) may.full_kind;
+      plain = subst IsSettledReply (sym said) tt;
+      own = [];
+      behind = ap (λ (s : State). s.log) did.ends.0 ∙ sym (append-nil log);
+      adds = subst (λ (r : Reply). Adds command r (events basis log) []) (sym said) may.full_adds;
+      goes_on = did.goes_on;
+      fault = λ fault. absurd (subst IsStoreFault said fault);
+      decides = λ is_told. decides_to false reply after is_told (did.ends.1 is_told) (said, did.ends.0);
+      survives = did.survives;
+    }
+    appended (Err (F.OtherContent id)) reply after did said = absurd did.ends
+    appended (Err F.NoCrash) reply after did said = absurd did.ends
+    appended (Err F.NotProcessed) reply after did said = absurd did.ends
+    appended (Err F.TooManyCrashes) reply after did said = absurd did.ends
+    appended (Err (F.NoPermission name)) reply after did said = absurd did.ends
+    appended (Err (F.Altered id)) reply after did said = absurd did.ends
+    appended (Err (F.Withdrawn id)) reply after did said = absurd did.ends
+    appended (Err F.NoMemory) reply after did said = absurd did.ends
+
+    pub written_decides : (reply : Reply) (after : State) → IsWritten basis log disk change written reply after disk' → IsDecided basis log disk command reply after disk'
+    written_decides reply after wrote = appended wrote.result reply after wrote.appended wrote.replies

@@ -1,0 +1,123 @@
+-- What a book opens with, from what its journal's entries gave.
+use Rattle.std.proofs.Common.{◌≡◌, ℕ, ◌+◌, ◌<◌, ◌^◌, Bool, true, false, IsTrue, List, [], ◌∷◌, ◌++◌, length, map, Option, Some, None, IfSome, IsSome, IsSomeAnd, inl, inr, sym, ap, subst, ◌∙◌, refl, arith}
+use Rattle.std.proofs.lemmas.Option.{IfSome_then}
+use Rattle.soc_raw.specs.Record.{Crash}
+use Rattle.soc_schema.specs.declared.value.Cell.{Cell}
+use Rattle.soc_edge.specs.Disk.{DiskTold}
+use Rattle.soc_journal.specs.Entries.{Entry, entries_text, first_gate, place_behind}
+use Rattle.soc_journal.specs.States.{JournalState, AtRest}
+use Rattle.soc_ledger.specs.State.{LedgerState}
+use Rattle.soc_ledger.proofs.Lists.{true_is_not_false}
+use Rattle.soc_vault.specs.Openings.{Opens, StopsAt, place_from}
+use Rattle.soc_vault.specs.Vaults.{Means}
+use Rattle.soc_desk.specs.declared.desk.Limits.{Limits}
+use Rattle.soc_desk.specs.Basis.{Basis}
+use Rattle.soc_desk.specs.Log.{Change, Kept}
+use Rattle.soc_desk.specs.Opens.{RefusesEntry, as_told, log_of}
+use Rattle.soc_desk.specs.State.{State, settled, entries_of, kept_of}
+use Rattle.soc_book.specs.declared.book.Change.{Change as Pending}
+use Rattle.soc_book.specs.declared.opening.Recovery.{Recovery}
+use Rattle.soc_book.specs.Openings.{BreaksJournal, BreaksLog, IsBasisOf, OpensBook, StopsAtEntry}
+use Rattle.soc_book.specs.inner.Recoveries.{Recovers, Rows}
+use Rattle.soc_book.specs.inner.Stands.{IsOnDisk, Stands}
+use Rattle.soc_book.proofs.Changes.{settled-legal}
+use Rattle.soc_book.proofs.Kept.{kept_of-log, told_all}
+
+-- ---- where no entry is taken
+
+abbrev pub was_given : Recovery → ℕ → List Entry → Type 0
+was_given recovery start entries = Recovers recovery.own recovery.ledger recovery.store start entries
+
+abbrev pub refuses : List Entry → Entry → Type 0
+refuses entries entry = (basis : Basis) → RefusesEntry basis entries entry
+
+stops_at : (now : Recovery) (bytes : List ℕ) (place : ℕ) → StopsAt was_given refuses now bytes place → StopsAtEntry bytes place
+stops_at now bytes place (inl breaks) = inl (record {
+  bad = breaks.bad;
+  entries = breaks.entries;
+  rest = breaks.rest;
+  begins = breaks.begins;
+  behind = breaks.behind;
+  kept = breaks.given.kept;
+  are = breaks.given.are;
+})
+stops_at now bytes place (inr refused) = inr (record {
+  entries = refused.entries;
+  entry = refused.entry;
+  rest = refused.rest;
+  begins = refused.begins;
+  behind = refused.behind;
+  kept = refused.taken.kept;
+  are = refused.taken.are;
+  refused = refused.refused;
+})
+
+pub stops_entry : (now : Recovery) (content : Option (List ℕ)) (place : ℕ) → IfSome content (λ bytes. StopsAt was_given refuses now bytes place) → IfSome content (λ bytes. StopsAtEntry bytes place)
+stops_entry now content place stops = IfSome_then content stops (λ bytes here. stops_at now bytes place here)
+
+-- ---- what is opened
+
+told_gate : (content : Option (List ℕ)) (images : List ℕ → Type 0) (journal : JournalState) (entries : List Entry) → IsSomeAnd content (λ bytes. AtRest journal entries bytes images) → journal.gate ≡ place_behind entries
+told_gate None images journal entries means = absurd means
+told_gate (Some bytes) images journal entries means = means.gate_stands
+
+some_told : {P : List ℕ → Type 0} (content : Option (List ℕ)) (R : Type 0) → IsSome content → IfSome content P → ((bytes : List ℕ) → P bytes → R) → R
+some_told None R some told then = absurd (true_is_not_false (sym some))
+some_told (Some bytes) R some told then = then bytes told
+
+-- the same of equal tables
+pub moved : {X : Type 0} (state : X → DiskTold) (before : DiskTold) (basis : Basis) (limits limits' : Limits) (ledger ledger' : LedgerState) (rows rows' : Rows) (pending : Option Pending) (journal journal' : JournalState) (x y : X)
+    → limits' ≡ limits → ledger' ≡ ledger → rows' ≡ rows → pending ≡ None → journal' ≡ journal → y ≡ x
+    → OpensBook basis before (state x) (Stands basis limits ledger rows None journal (state x)) → OpensBook basis before (state y) (Stands basis limits' ledger' rows' pending journal' (state y))
+moved {X = X} state before basis limits limits' ledger ledger' rows rows' pending journal journal' x y same_limits same_ledger same_rows none same_journal same opens =
+    let At : Limits → LedgerState → Rows → Option Pending → JournalState → X → Type 0 = λ l a r p j z. OpensBook basis before (state z) (Stands basis l a r p j (state z)) in
+    subst (λ (l : Limits). At l ledger' rows' pending journal' y) (sym same_limits)
+    (subst (λ (a : LedgerState). At limits a rows' pending journal' y) (sym same_ledger)
+    (subst (λ (r : Rows). At limits ledger r pending journal' y) (sym same_rows)
+    (subst (λ (p : Option Pending). At limits ledger rows p journal' y) (sym none)
+    (subst (λ (j : JournalState). At limits ledger rows None j y) (sym same_journal)
+    (subst (λ (z : X). At limits ledger rows None journal z) (sym same) opens)))))
+
+module _ (own : Option (List ℕ)) (ledger : LedgerState) (rows : Rows) (limits : Limits) (row_of : Crash → List Cell) (digest : Option (List ℕ)) (before after : DiskTold) (journal : JournalState)
+    (limit : ℕ) (limit_is : limit ≡ limits.journal_bytes) (small : limit < 2 ^ 64) (opens : Opens (λ start entries. Recovers own ledger rows start entries) limit before after journal) (same_own : own ≡ digest)
+    (basis : Basis) (is : IsBasisOf row_of digest limits before.content basis) where
+  abbrev log : List Change
+  log = log_of (map (as_told basis.is_told) opens.given.kept)
+
+  means : IsTrue basis.is_told → Means after journal opens.entries None
+  means is_told = some_told before.content (Means after journal opens.entries None) (is.tells is_told) opens.means (λ bytes here. here)
+
+  begins : IsTrue basis.is_told → opens.start ≡ first_gate
+  begins is_told =
+      let gate : journal.gate ≡ place_behind opens.entries = told_gate after.content after.images journal opens.entries (means is_told) in
+      let stands : journal.gate ≡ place_from opens.start opens.entries = ap (λ (j : JournalState). j.gate) opens.journal_is in
+      omega (arith, gate, stands)
+
+  all_by : (b : Bool) → IsTrue b → entries_of (kept_of (log_of (map (as_told b) opens.given.kept))) ≡ opens.entries
+  all_by true is_told = ap entries_of (kept_of-log (map (as_told true) opens.given.kept) ∙ told_all opens.given.kept) ∙ sym (opens.given.are basis).entries_are
+  all_by false is_told = absurd (true_is_not_false (sym is_told))
+
+  stands : Stands basis limits ledger rows None journal after (settled log)
+  stands = record {
+    legal = settled-legal basis log (opens.given.legal basis);
+    holds = opens.given.holds basis (is.digest_is ∙ sym same_own) begins;
+    doubt = tt;
+    crashes = is.crashes_are;
+    bytes = is.bytes;
+    limit = ap (λ (j : JournalState). j.limit) opens.journal_is ∙ (limit_is ∙ sym is.bytes);
+    short = let same = is.bytes in omega (arith, same, limit_is, small);
+    told = λ is_told. record {
+      means = subst (λ (es : List Entry). Means after journal es None) (sym (all_by basis.is_told is_told)) (means is_told);
+      fits = tt;
+    };
+  }
+
+  pub opens_book : OpensBook basis before after (Stands basis limits ledger rows None journal after)
+  opens_book = record {
+    entries = opens.entries;
+    log = log;
+    found = opens.found;
+    opens = record { kept = opens.given.kept; are = opens.given.are basis; log_is = refl };
+    now = stands;
+    stands = opens.stands;
+  }

@@ -1,0 +1,224 @@
+-- The tables once a change is added to them stand for the log with that change.
+use Rattle.std.proofs.Common.{◌≡◌, ◌≢◌, ℕ, ◌+◌, ◌-◌, ◌<◌, ◌≤◌, ◌^◌, Bool, true, false, not, ◌&&◌, cond, IsTrue, List, [], ◌∷◌, ◌++◌, length, map, Option, Some, None, IfSome, IsSome, sym, ap, subst, ◌∙◌, refl, arith, length-append, inl, inr}
+use Rattle.std.specs.Prelude.{bytes_eq, nat_le, is_some, slice_get}
+use Rattle.std.specs.List.{AllByRecursion}
+use Rattle.std.specs.Option.{option_map, option_map_or}
+use Rattle.std.proofs.lemmas.Bool.{cases_lt}
+use Rattle.std.proofs.lemmas.List.{append-nil}
+use Rattle.std.proofs.lemmas.Option.{IfSome_then}
+use Rattle.std.proofs.lemmas.Slice.Eq.{bytes_eq-Decides}
+use Rattle.soc_raw.specs.Record.{Crash, head_text, content_text, record_of}
+use Rattle.soc_raw.proofs.Lengths.{record_length}
+use Rattle.soc_schema.specs.declared.value.Cell.{Cell}
+use Rattle.soc_journal.specs.Entries.{Entry, head_size, place_behind}
+use Rattle.soc_ledger.specs.declared.crash.Filed.{Filed}
+use Rattle.soc_ledger.specs.declared.event.Event.{Event}
+use Rattle.soc_ledger.specs.declared.event.Event.TheVariants as E
+use Rattle.soc_ledger.specs.Due.{is_due}
+use Rattle.soc_ledger.specs.Events.{is_held, was_accepted, accepted_ids, is_among}
+use Rattle.soc_ledger.specs.State.{LedgerState, id_of, with_event}
+use Rattle.soc_ledger.proofs.Lists.{AreDistinct, true_is_not_false, same_text, all-weaker}
+use Rattle.soc_ledger.proofs.Logs.{distinct_ids, not_true}
+use Rattle.soc_store.specs.Stored.{PlacesRise, row_at, without_row}
+use Rattle.soc_store.proofs.StoreLemmas.{rise_without}
+use Rattle.soc_vault.specs.Vaults.{IsAt}
+use Rattle.soc_desk.specs.Basis.{Basis}
+use Rattle.soc_desk.specs.Decisions.{accepting}
+use Rattle.soc_desk.specs.Log.{Change, Kept, Accepted, KeptReport, accept, ask, withdraw, report, keep, done, stop, accepted_of, event_of, events, is_own, IsLegal}
+use Rattle.soc_desk.specs.State.{entry_of, entries_of, kept_of, body_of}
+use Rattle.soc_desk.proofs.Logs.{events-more}
+use Rattle.soc_book.specs.declared.book.Change.{Change as Pending}
+use Rattle.soc_book.specs.declared.book.Change.TheVariants as P
+use Rattle.soc_book.specs.declared.submission.NewCrash.{NewCrash}
+use Rattle.soc_book.specs.inner.Books.{Tells}
+use Rattle.soc_book.specs.inner.Stands.{Fits, FitsHeld, IsFiledAt, Pushes, IsFiledOf, IsFiled, AreFiled, HasRow, HasRows, Holds, IsPending}
+use Rattle.soc_book.proofs.Changes.{accepted-more, entries-more, ids_of-log}
+use Rattle.soc_book.proofs.Filing.{AreFiled-more, AreFiled-push, filed_ids, id_of-front, id_of-last, among_ids, distinct_numbers}
+use Rattle.soc_book.proofs.Rows.{row_accept, row_ask, row_new, row_others, row_report, row_withdrawn, row_at-others, row_at-taken, no_row_past, all_left}
+
+-- where the entry of a kept change stands, and that it ends below 2 ^ 64
+pub record IsPlaced (basis : Basis) (log : List Change) (change : Kept) (place : ℕ) : Type 0 where
+  pub place_is : place ≡ place_behind (entries_of (kept_of log))
+  pub ends : place + head_size + length (body_of change) < 2 ^ 64
+
+abbrev row_of : ℕ → List (ℕ × List Cell) → Option (List Cell)
+row_of number rows = option_map (λ s. s.1) (row_at number rows)
+
+module _ (basis : Basis) (log : List Change) (ledger : LedgerState) (rows : List (ℕ × List Cell)) (legal : IsLegal basis log) (holds : Holds basis log ledger rows) where
+  abbrev now : List Event
+  now = events basis log
+
+  pub ids : map (λ (f : Filed). f.id) ledger.crashes ≡ accepted_ids now
+  ids = filed_ids (entries_of (kept_of log)) (accepted_of log) ledger.crashes holds.filed ∙ sym (ids_of-log basis log)
+
+  pub was : (number : ℕ) → number < length ledger.crashes → was_accepted now (id_of ledger number) ≡ true
+  was number less = ap (λ xs. is_among xs (id_of ledger number)) (sym ids) ∙ among_ids ledger.crashes number less
+
+  pub one_number : (m n : ℕ) → m < length ledger.crashes → n < length ledger.crashes → id_of ledger m ≡ id_of ledger n → m ≡ n
+  one_number m n first second same = distinct_numbers ledger.crashes m n (subst AreDistinct (sym ids) (distinct_ids now legal.events_legal)) first second same
+
+  -- the events once one is added
+  events-pushed : (event : Event) (change : Change) → event_of basis change ≡ event → ledger.log ++ event ∷ [] ≡ events basis (log ++ change ∷ [])
+  events-pushed event change is = ap (λ l. l ++ event ∷ []) holds.events_are ∙ (ap (λ e. now ++ e ∷ []) (sym is) ∙ sym (events-more basis log change))
+
+  -- where the crashes and the rows stay, and each row still stands
+  module _ (change : Kept) (none : accepted_of (keep change ∷ []) ≡ []) where
+    filed-kept : AreFiled (entries_of (kept_of (log ++ keep change ∷ []))) (accepted_of (log ++ keep change ∷ [])) ledger.crashes
+    filed-kept =
+        let more = AreFiled-more (entries_of (kept_of log)) (entry_of change ∷ []) (accepted_of log) ledger.crashes holds.filed in
+        let same : accepted_of (log ++ keep change ∷ []) ≡ accepted_of log = accepted-more log (keep change) ∙ (ap (λ (xs : List Accepted). accepted_of log ++ xs) none ∙ append-nil (accepted_of log)) in
+        subst (λ (es : List Entry). AreFiled es (accepted_of (log ++ keep change ∷ [])) ledger.crashes) (sym (entries-more log change))
+        (subst (λ (cs : List Accepted). AreFiled (entries_of (kept_of log) ++ entry_of change ∷ []) cs ledger.crashes) (sym same) more)
+
+    pub kept_holds : (event : Event) (rows' : List (ℕ × List Cell)) → event_of basis (keep change) ≡ event → HasRows basis (log ++ keep change ∷ []) ledger rows' → Holds basis (log ++ keep change ∷ []) (with_event ledger event) rows'
+    kept_holds event rows' is has = record {
+      events_are = events-pushed event (keep change) is;
+      filed = filed-kept;
+      rows_are = record { rise = has.rise; each = has.each; no_other = has.no_other };
+    }
+
+  -- ---- an ask
+
+  pub pushed_ask : (id : List ℕ) → Holds basis (log ++ keep (ask id) ∷ []) (with_event ledger (E.Asked id)) rows
+  pushed_ask id = kept_holds (ask id) refl (E.Asked id) rows refl (record {
+    rise = holds.rows_are.rise;
+    each = λ number less. row_ask basis log legal id (id_of ledger number) (row_of number rows) (holds.rows_are.each number less);
+    no_other = holds.rows_are.no_other;
+  })
+
+  -- ---- a report of a crash that isn't due
+
+  pub pushed_report : (made : KeptReport) (id : List ℕ) → id ≡ made.id → is_own basis made.digest ≡ true → is_due now made.id ≡ false
+      → Holds basis (log ++ keep (report made) ∷ []) (with_event ledger (E.Reported id true)) rows
+  pushed_report made id same own idle = kept_holds (report made) refl (E.Reported id true) rows (ap (λ x. E.Reported x (is_own basis made.digest)) (sym same) ∙ ap (λ b. E.Reported id b) own) (record {
+    rise = holds.rows_are.rise;
+    each = λ number less. row_report basis log legal made (id_of ledger number) (row_of number rows) idle (holds.rows_are.each number less);
+    no_other = holds.rows_are.no_other;
+  })
+
+  -- ---- a withdrawal
+
+  withdrawn_row : (number other : ℕ) → number < length ledger.crashes → other < length ledger.crashes → (b : Bool) → bytes_eq (id_of ledger number) (id_of ledger other) ≡ b
+      → HasRow basis (log ++ keep (withdraw (id_of ledger number)) ∷ []) (id_of ledger other) (row_of other (without_row number rows))
+  withdrawn_row number other within less true is =
+      let same : number ≡ other = one_number number other within less (same_text (id_of ledger number) (id_of ledger other) is) in
+      let gone : row_of other (without_row number rows) ≡ None =
+      ap (λ n. row_of n (without_row number rows)) (sym same) ∙ ap (λ (o : Option (ℕ × List Cell)). option_map (λ s. s.1) o) (row_at-taken number rows holds.rows_are.rise) in
+      subst (λ (o : Option (List Cell)). HasRow basis (log ++ keep (withdraw (id_of ledger number)) ∷ []) (id_of ledger other) o) (sym gone)
+      (subst (λ x. HasRow basis (log ++ keep (withdraw (id_of ledger number)) ∷ []) x None) (ap (λ n. id_of ledger n) same) (row_withdrawn basis log legal (id_of ledger number)))
+  withdrawn_row number other within less false is =
+      let differs : other ≢ number = λ same. true_is_not_false (sym ((bytes_eq-Decides (id_of ledger number) (id_of ledger other)).1 (ap (λ n. id_of ledger n) (sym same))) ∙ is) in
+      let kept : row_of other (without_row number rows) ≡ row_of other rows = ap (λ (o : Option (ℕ × List Cell)). option_map (λ s. s.1) o) (row_at-others number other rows differs) in
+      subst (λ (o : Option (List Cell)). HasRow basis (log ++ keep (withdraw (id_of ledger number)) ∷ []) (id_of ledger other) o) (sym kept)
+      (row_others basis log legal (id_of ledger number) (id_of ledger other) (row_of other rows) is (holds.rows_are.each other less))
+
+  pub pushed_withdraw : (number : ℕ) → number < length ledger.crashes → Holds basis (log ++ keep (withdraw (id_of ledger number)) ∷ []) (with_event ledger (E.Withdrawn (id_of ledger number))) (without_row number rows)
+  pushed_withdraw number within = kept_holds (withdraw (id_of ledger number)) refl (E.Withdrawn (id_of ledger number)) (without_row number rows) refl (record {
+    rise = rise_without number rows holds.rows_are.rise;
+    each = λ other less. withdrawn_row number other within less (bytes_eq (id_of ledger number) (id_of ledger other)) refl;
+    no_other = all_left (λ s. s.0 < length ledger.crashes) number rows holds.rows_are.no_other;
+  })
+
+  -- ---- an acceptance
+
+  module _ (new : NewCrash) (crash : Accepted) (filed : Filed) (place : ℕ) (at : IsFiledAt new place filed) (id : new.id ≡ crash.id) (tells : IfSome crash.raw (Tells new)) (fresh : was_accepted now crash.id ≡ false)
+      (told : IsSome crash.raw → IsPlaced basis log (accept crash) place) where
+    abbrev longer : List Change
+    longer = log ++ keep (accept crash) ∷ []
+
+    abbrev grown : LedgerState
+    grown = record (with_event ledger (E.Accepted filed.id)) { crashes = ledger.crashes ++ filed ∷ [] }
+
+    same_id : filed.id ≡ crash.id
+    same_id = at.id ∙ id
+
+    filed_of : (raw : Crash) → crash.raw ≡ Some raw → Tells new raw → IsFiledOf (entries_of (kept_of log) ++ entry_of (accept crash) ∷ []) filed raw
+    filed_of raw is of =
+        let placed = told (ap is_some is) in
+        let body : body_of (accept crash) ≡ record_of raw = ap (λ (o : Option Crash). option_map_or record_of o []) is in
+        let long : length (body_of (accept crash)) ≡ length (head_text raw) + length (content_text raw) = ap (λ (x : List ℕ). length x) body ∙ record_length raw in
+        let ends : place + head_size + length (body_of (accept crash)) < 2 ^ 64 = placed.ends in
+        let content : new.content ≡ length (head_text raw) = of.content in
+        let fits : place + head_size + new.content < 2 ^ 64 = omega arith in
+        record {
+          product = at.product ∙ of.product;
+          digest = at.digest ∙ of.digest;
+          at = record {
+            before = entries_of (kept_of log);
+            behind = [];
+            whole = ap (λ (e : Entry). entries_of (kept_of log) ++ e ∷ []) (ap (λ (b : List ℕ). record { kind = 65; body = b }) body);
+            place_is = at.place_is ∙ placed.place_is;
+          };
+          content = at.content fits ∙ (ap (λ n. place + (head_size + n)) content ∙ ap (λ n. n + (head_size + length (head_text raw))) (sym at.place_is));
+        }
+
+    is_filed : IsFiled (entries_of (kept_of log) ++ entry_of (accept crash) ∷ []) crash filed
+    is_filed = record { id = same_id; told = with_raw crash.raw refl tells } where
+      with_raw : (o : Option Crash) → crash.raw ≡ o → IfSome o (Tells new) → IfSome o (IsFiledOf (entries_of (kept_of log) ++ entry_of (accept crash) ∷ []) filed)
+      with_raw None is of = tt
+      with_raw (Some raw) is of = filed_of raw is of
+
+    all_filed : AreFiled (entries_of (kept_of longer)) (accepted_of longer) (ledger.crashes ++ filed ∷ [])
+    all_filed =
+        let more = AreFiled-more (entries_of (kept_of log)) (entry_of (accept crash) ∷ []) (accepted_of log) ledger.crashes holds.filed in
+        subst (λ (es : List Entry). AreFiled es (accepted_of longer) (ledger.crashes ++ filed ∷ [])) (sym (entries-more log (accept crash)))
+        (subst (λ (cs : List Accepted). AreFiled (entries_of (kept_of log) ++ entry_of (accept crash) ∷ []) cs (ledger.crashes ++ filed ∷ [])) (sym (accepted-more log (keep (accept crash))))
+        (AreFiled-push (entries_of (kept_of log) ++ entry_of (accept crash) ∷ []) (accepted_of log) ledger.crashes crash filed more is_filed))
+
+    one_more : length (ledger.crashes ++ filed ∷ []) ≡ length ledger.crashes + 1
+    one_more = length-append ledger.crashes (filed ∷ [])
+
+    row_before : (number : ℕ) → number < length ledger.crashes → HasRow basis longer (id_of grown number) (row_of number rows)
+    row_before number less =
+        subst (λ x. HasRow basis longer x (row_of number rows)) (sym (id_of-front ledger.crashes (filed ∷ []) ledger grown number refl refl less))
+        (row_accept basis log legal crash (id_of ledger number) (row_of number rows) (was number less) (holds.rows_are.each number less))
+
+    row_last : HasRow basis longer (id_of grown (length ledger.crashes)) (row_of (length ledger.crashes) rows)
+    row_last =
+        let none : row_of (length ledger.crashes) rows ≡ None = ap (λ (o : Option (ℕ × List Cell)). option_map (λ s. s.1) o) (no_row_past (length ledger.crashes) rows holds.rows_are.no_other) in
+        subst (λ x. HasRow basis longer x (row_of (length ledger.crashes) rows)) (sym (id_of-last ledger.crashes filed grown refl ∙ same_id))
+        (subst (λ (o : Option (List Cell)). HasRow basis longer crash.id o) (sym none) (row_new basis log legal crash fresh))
+
+    each_row : (number : ℕ) → number < length (ledger.crashes ++ filed ∷ []) → HasRow basis longer (id_of grown number) (row_of number rows)
+    each_row number less =
+        let under : number < length ledger.crashes + 1 = subst (λ n. number < n) one_more less in
+        elim (cases_lt number (length ledger.crashes)) [
+          | inl below ↦ row_before number below
+          | inr above ↦ let last : length ledger.crashes ≡ number = omega arith in subst (λ n. HasRow basis longer (id_of grown n) (row_of n rows)) last row_last
+        ]
+
+    pub pushed_accept : Holds basis longer grown rows
+    pushed_accept = record {
+      events_are = events-pushed (E.Accepted filed.id) (keep (accept crash)) (ap E.Accepted (sym same_id));
+      filed = all_filed;
+      rows_are = record {
+        rise = holds.rows_are.rise;
+        each = each_row;
+        no_other = all-weaker (λ s. s.0 < length ledger.crashes) (λ s. s.0 < length (ledger.crashes ++ filed ∷ [])) (λ s less. let n = one_more in let low : s.0 < length ledger.crashes = less in omega arith) rows holds.rows_are.no_other;
+      };
+    }
+
+  -- ---- each change
+
+  told_pending : (new : NewCrash) (raw : Option Crash) → IfSome raw (λ r. Tells new r × IsTrue basis.is_told) → IsSome raw → IsTrue basis.is_told
+  told_pending new None tells some = absurd (true_is_not_false (sym some))
+  told_pending new (Some raw) tells some = tells.1
+
+  moved : (log' : List Change) (x ledger' : LedgerState) (y rows' : List (ℕ × List Cell)) → ledger' ≡ x → rows' ≡ y → Holds basis log' x y → Holds basis log' ledger' rows'
+  moved log' x ledger' y rows' same_ledger same_rows here = subst (λ (l : LedgerState). Holds basis log' l rows') (sym same_ledger) (subst (λ (r : List (ℕ × List Cell)). Holds basis log' x r) (sym same_rows) here)
+
+  pub pushed : (pending : Pending) (change : Kept) (place : ℕ) (ledger' : LedgerState) (rows' : List (ℕ × List Cell)) → Fits ledger pending → IsPending basis log ledger pending change
+      → (IsTrue basis.is_told → IsPlaced basis log change place) → Pushes ledger rows pending place ledger' rows' → Holds basis (log ++ keep change ∷ []) ledger' rows'
+  pushed (P.Accept new) (accept crash) place ledger' rows' fits is placed (filed, at, same_ledger, same_rows) =
+      moved (log ++ keep (accept crash) ∷ []) (record (with_event ledger (E.Accepted filed.id)) { crashes = ledger.crashes ++ filed ∷ [] }) ledger' rows rows' same_ledger same_rows
+      (pushed_accept new crash filed place at is.0 (IfSome_then crash.raw is.1 (λ raw both. both.0)) (ap (λ l. was_accepted l crash.id) (sym holds.events_are) ∙ (ap (λ x. was_accepted ledger.log x) (sym is.0) ∙ fits.1))
+      (λ some. placed (told_pending new crash.raw is.1 some)))
+  pushed (P.Ask number) (ask id) place ledger' rows' fits is placed (same_ledger, same_rows) =
+      moved (log ++ keep (ask id) ∷ []) (with_event ledger (E.Asked id)) ledger' rows rows' (same_ledger ∙ ap (λ x. with_event ledger (E.Asked x)) is) same_rows (pushed_ask id)
+  pushed (P.Withdraw number) (withdraw id) place ledger' rows' fits is placed (same_ledger, same_rows) =
+      subst (λ x. Holds basis (log ++ keep (withdraw x) ∷ []) ledger' rows') is
+      (moved (log ++ keep (withdraw (id_of ledger number)) ∷ []) (with_event ledger (E.Withdrawn (id_of ledger number))) ledger' (without_row number rows) rows' same_ledger same_rows (pushed_withdraw number fits.1))
+  pushed (P.Report number) (report made) place ledger' rows' fits is placed (same_ledger, same_rows) =
+      moved (log ++ keep (report made) ∷ []) (with_event ledger (E.Reported (id_of ledger number) true)) ledger' rows rows' same_ledger same_rows
+      (pushed_report made (id_of ledger number) is.0 is.1 (not_true (is_due now made.id) is.2))
+  pushed _ _ place ledger' rows' fits is placed pushes = absurd is

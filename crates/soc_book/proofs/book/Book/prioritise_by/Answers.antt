@@ -1,0 +1,25 @@
+use Rattle.std.proofs.Common.{refl}
+use Rattle.soc_desk.specs.declared.desk.Command.TheVariants.{Priority}
+use Rattle.soc_book.specs.inner.Stands.{Stands}
+use Rattle.soc_book.proofs.Deciding.{begun_does, doesnt_begin, writes_priority}
+use Rattle.soc_book.proofs.Standing.{images_allowed}
+use Rattle.soc_book.proofs.book.Book.prioritise_by.Goals as goal
+
+pub returns-in-Err-clause-does : goal.returns-in-Err-clause-does
+returns-in-Err-clause-does g c basis state stands =
+    let s = c.args.self.now in
+    let before = g.D.Disk.state s.vault.disk.now in
+    let between = g.D.Disk.state c.begin.new.self.vault.disk.now in
+    doesnt_begin basis (Priority c.args.caller.now c.args.id) (writes_priority basis c.args.caller.now c.args.id) state before between c.begin.ensures.looks
+    (λ is_told. images_allowed basis s.vault.journal before state.log state.doubt (stands.told is_told))
+    (Stands basis c.begin.new.self.limits c.begin.new.self.ledger c.begin.new.self.store c.begin.new.self.doubt c.begin.new.self.vault.journal between) c.in-Err.refusal refl (c.in-Err.ensures.stands basis state stands)
+
+pub returns-clause-does : goal.returns-clause-does
+returns-clause-does g c basis state stands =
+    let s = c.args.self.now in
+    let before = g.D.Disk.state s.vault.disk.now in
+    let between = g.D.Disk.state c.begin.new.self.vault.disk.now in
+    begun_does basis (Priority c.args.caller.now c.args.id) (writes_priority basis c.args.caller.now c.args.id) state before between c.begin.ensures.looks
+    (λ is_told. images_allowed basis s.vault.journal before state.log state.doubt (stands.told is_told))
+    (Stands basis c.begin.new.self.limits c.begin.new.self.ledger c.begin.new.self.store c.begin.new.self.doubt c.begin.new.self.vault.journal between) (g.D.Disk.state c.prioritise_settled.new.self.vault.disk.now) c.prioritise_settled.result refl (c.in_default-begin.ensures.stands basis state stands)
+    (Stands basis c.prioritise_settled.new.self.limits c.prioritise_settled.new.self.ledger c.prioritise_settled.new.self.store c.prioritise_settled.new.self.doubt c.prioritise_settled.new.self.vault.journal (g.D.Disk.state c.prioritise_settled.new.self.vault.disk.now)) (c.prioritise_settled.ensures.decided basis)

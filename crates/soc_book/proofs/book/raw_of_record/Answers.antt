@@ -1,0 +1,18 @@
+use Rattle.std.proofs.Common.{◌≡◌, ℕ, true, false, not, List, sym, ap, ◌∙◌, refl}
+use Rattle.std.specs.Prelude.{bytes_eq}
+use Rattle.std.proofs.lemmas.Slice.Eq.{bytes_eq-Decides}
+use Rattle.soc_raw.specs.RawCrash.{crash_of}
+use Rattle.soc_raw.specs.Record.{Crash}
+use Rattle.soc_raw.proofs.Records.{same_crash}
+use Rattle.soc_ledger.proofs.Lists.{true_is_not_false}
+use Rattle.soc_book.proofs.book.raw_of_record.Goals as goal
+
+differs : (a b : List ℕ) → true ≡ not (bytes_eq a b) → a ≡ b → ⊥
+differs a b is same = true_is_not_false (is ∙ ap not ((bytes_eq-Decides a b).1 same))
+
+pub returns-then-ne : goal.returns-then-ne
+returns-then-ne c = (
+  refl,
+  λ crash is same text.
+      differs c.in-Ok.raw.id c.args.id c.if-ne.ensures (ap (λ (x : Crash). x.id) (same_crash (crash_of c.in-Ok.raw) crash c.in-Ok.ensures.whole is (c.in-Ok.ensures.ok ∙ sym text)) ∙ same),
+)

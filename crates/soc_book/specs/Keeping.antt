@@ -1,0 +1,23 @@
+-- What keeping a run's reports does: always what its reply, its log and the disk's calls tell, and where the disk tells its
+-- content a step that outlives stops.
+use Rattle.std.specs.Prelude.{◌≡◌, IsTrue, List, ℕ, ◌++◌}
+use Rattle.soc_edge.specs.Disk.{DiskTold, GoesOn, DiskFailed, LeavesOnly}
+use Rattle.soc_desk.specs.declared.desk.Reply.{Reply}
+use Rattle.soc_desk.specs.Asks.{IsStoreFault}
+use Rattle.soc_desk.specs.Basis.{Basis}
+use Rattle.soc_desk.specs.Keeps.{KeepAllows, KeepGrows, StepKeep}
+use Rattle.soc_desk.specs.Log.{Change, events}
+use Rattle.soc_desk.specs.State.{State, IsLegalState, Allowed}
+
+pub record KeepsReports (basis : Basis) (before : State) (disk : DiskTold) (reply : Reply) (after : State) (disk' : DiskTold) : Type 0 where
+  -- whatever the disk tells
+  pub piece : List Change
+  pub behind : after.log ≡ before.log ++ piece
+  pub grows : KeepGrows basis reply (events basis before.log) (events basis piece)
+  pub legal : IsLegalState basis after
+  pub goes_on : GoesOn disk disk'
+  pub fault : IsStoreFault reply → DiskFailed disk disk'
+  -- where it tells its content
+  pub step : IsTrue basis.is_told → StepKeep basis before reply after
+  pub survives : IsTrue basis.is_told → LeavesOnly disk disk' (KeepAllows before after)
+  pub allowed : IsTrue basis.is_told → (image : List ℕ) → disk'.images image → Allowed after image

@@ -1,0 +1,4 @@
+pub mod Books
+pub mod inner
+pub mod Keeping
+pub mod Openings

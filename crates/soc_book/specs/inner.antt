@@ -1,0 +1,9 @@
+pub mod Books
+pub mod Does
+pub mod Keepings
+pub mod Pieces
+pub mod Prepared
+pub mod Recoveries
+pub mod Safe
+pub mod Stands
+pub mod Turns

@@ -1,0 +1,21 @@
+-- What a book's tables owe each other is a proposition.
+use Rattle.std.specs.Prelude.{ℕ, Option, None, Some, IfSome}
+use Rattle.std.proofs.Props.{props}
+use Rattle.soc_journal.specs.States.{JournalState}
+use Rattle.soc_ledger.specs.State.{LedgerState}
+use Rattle.soc_book.specs.declared.book.Change.{Change as Pending}
+use Rattle.soc_book.specs.declared.book.Change.TheVariants as P
+use Rattle.soc_book.specs.inner.Stands.{Fits, IsSafe}
+
+fits_prop : (ledger : LedgerState) (pending : Pending) → IsProp (Fits ledger pending)
+fits_prop ledger (P.Accept new) = hlevel props
+fits_prop ledger (P.Ask number) = hlevel props
+fits_prop ledger (P.Withdraw number) = hlevel props
+fits_prop ledger (P.Report number) = hlevel props
+
+some_prop : (ledger : LedgerState) (pending : Option Pending) → IsProp (IfSome pending (Fits ledger))
+some_prop ledger None = hlevel props
+some_prop ledger (Some pending) = fits_prop ledger pending
+
+pub IsSafe-prop : (ledger : LedgerState) (journal : JournalState) (pending : Option Pending) → IsProp (IsSafe ledger journal pending)
+IsSafe-prop ledger journal pending = hlevel (props, some_prop ledger pending)

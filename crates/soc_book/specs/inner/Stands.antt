@@ -1,0 +1,158 @@
+-- How the tables of a book stand for a state of the desk's log.
+use Rattle.std.specs.Prelude.{◌≡◌, ℕ, ◌+◌, ◌<◌, ◌^◌, ◌-◌, not, ◌&&◌, if◌then◌else◌, true, false, IsTrue, List, [], ◌∷◌, ◌++◌, length, Option, None, Some, IfSome, is_some, ⊤}
+use Rattle.std.specs.Option.{option_map}
+use Rattle.std.specs.List.{AllByRecursion}
+use Rattle.sha2.specs.Sha256.{sha256}
+use Rattle.soc_raw.specs.Record.{Crash, head_text, content_text}
+use Rattle.soc_schema.specs.declared.value.Cell.{Cell}
+use Rattle.soc_schema.specs.Reports.{product_of}
+use Rattle.soc_edge.specs.Disk.{DiskTold}
+use Rattle.soc_journal.specs.Entries.{Entry, head_size}
+use Rattle.soc_journal.specs.States.{JournalState}
+use Rattle.soc_journal.specs.declared.settled.Settled.{Settled}
+use Rattle.soc_journal.specs.declared.settled.Settled.TheVariants as S
+use Rattle.soc_ledger.specs.declared.crash.Filed.{Filed}
+use Rattle.soc_ledger.specs.declared.event.Event.TheVariants as E
+use Rattle.soc_ledger.specs.State.{LedgerState, id_of, with_event}
+use Rattle.soc_ledger.specs.Due.{is_due}
+use Rattle.soc_ledger.specs.Events.{is_held, was_accepted}
+use Rattle.soc_ledger.specs.Reported.{has_report}
+use Rattle.soc_store.specs.Stored.{PlacesRise, row_at, without_row}
+use Rattle.soc_vault.specs.Vaults.{IsAt, Means}
+use Rattle.soc_desk.specs.declared.desk.Limits.{Limits}
+use Rattle.soc_desk.specs.Basis.{Basis}
+use Rattle.soc_desk.specs.Decisions.{accepting}
+use Rattle.soc_desk.specs.Log.{Accepted, Kept, accept, ask, withdraw, report, Change, events, accepted_of, row_in, is_own}
+use Rattle.soc_desk.specs.State.{State, IsLegalState, entry_of, entries_of, kept_of, has_room}
+use Rattle.soc_book.specs.declared.book.Change.{Change as Pending}
+use Rattle.soc_book.specs.declared.book.Change.TheVariants as P
+use Rattle.soc_book.specs.declared.submission.NewCrash.{NewCrash}
+use Rattle.soc_book.specs.inner.Books.{Tells}
+
+-- ---- what a change needs of the ledger
+
+-- the crash of the number is held, and there is room for one more event
+abbrev pub FitsHeld : LedgerState → ℕ → Type 0
+FitsHeld ledger number = (0 < ledger.room) × (number < length ledger.crashes) × IsTrue (is_held ledger.log (id_of ledger number))
+
+abbrev pub Fits : LedgerState → Pending → Type 0
+Fits ledger (P.Accept new) = (0 < ledger.room) × (was_accepted ledger.log new.id ≡ false) × (length ledger.crashes < 2 ^ 32 - 1)
+Fits ledger (P.Ask number) = FitsHeld ledger number
+Fits ledger (P.Withdraw number) = FitsHeld ledger number
+Fits ledger (P.Report number) = FitsHeld ledger number
+
+-- the journal is in doubt exactly where a change waits, and the ledger can take that one
+pub record IsSafe (ledger : LedgerState) (journal : JournalState) (pending : Option Pending) : Type 0 where
+  pub unsettled : is_some journal.doubt ≡ is_some pending
+  pub fits : IfSome pending (Fits ledger)
+
+-- ---- what a change does to the tables
+
+-- what is kept of a new crash, once its entry stands at a place
+pub record IsFiledAt (new : NewCrash) (place : ℕ) (filed : Filed) : Type 0 where
+  pub id : filed.id ≡ new.id
+  pub place_is : filed.place ≡ place
+  pub content : place + head_size + new.content < 2 ^ 64 → filed.content ≡ place + (head_size + new.content)
+  pub product : filed.product ≡ new.product
+  pub digest : filed.digest ≡ new.digest
+
+abbrev pub Pushes : LedgerState → List (ℕ × List Cell) → Pending → ℕ → LedgerState → List (ℕ × List Cell) → Type 0
+Pushes ledger rows (P.Accept new) place ledger' rows' = (filed : Filed) × IsFiledAt new place filed
+    × (ledger' ≡ record (with_event ledger (E.Accepted filed.id)) { crashes = ledger.crashes ++ filed ∷ [] }) × (rows' ≡ rows)
+Pushes ledger rows (P.Ask number) place ledger' rows' = (ledger' ≡ with_event ledger (E.Asked (id_of ledger number))) × (rows' ≡ rows)
+Pushes ledger rows (P.Withdraw number) place ledger' rows' =
+    (ledger' ≡ with_event ledger (E.Withdrawn (id_of ledger number))) × (rows' ≡ without_row number rows)
+Pushes ledger rows (P.Report number) place ledger' rows' = (ledger' ≡ with_event ledger (E.Reported (id_of ledger number) true)) × (rows' ≡ rows)
+
+-- the change is of a crash that was accepted before
+abbrev pub IsKnownCrash : Pending → Type 0
+IsKnownCrash (P.Accept new) = ⊥
+IsKnownCrash (P.Ask number) = ⊤
+IsKnownCrash (P.Withdraw number) = ⊤
+IsKnownCrash (P.Report number) = ⊤
+
+-- the change in doubt is added where its entry was kept, and else nothing
+abbrev pub AddsSettled : LedgerState → List (ℕ × List Cell) → Option Pending → Settled → LedgerState → List (ℕ × List Cell) → Type 0
+AddsSettled ledger rows (Some pending) (S.Kept place) ledger' rows' = Pushes ledger rows pending place ledger' rows'
+AddsSettled ledger rows (Some pending) S.Clean ledger' rows' = (ledger' ≡ ledger) × (rows' ≡ rows)
+AddsSettled ledger rows (Some pending) S.Dropped ledger' rows' = (ledger' ≡ ledger) × (rows' ≡ rows)
+AddsSettled ledger rows None outcome ledger' rows' = (ledger' ≡ ledger) × (rows' ≡ rows)
+
+-- ---- the crashes
+
+-- what is kept in memory of a raw crash whose entry stands among these
+pub record IsFiledOf (entries : List Entry) (filed : Filed) (raw : Crash) : Type 0 where
+  pub product : filed.product ≡ product_of raw
+  pub digest : filed.digest ≡ sha256 (content_text raw)
+  pub at : IsAt entries filed.place (entry_of (accepting raw))
+  pub content : filed.content ≡ filed.place + (head_size + length (head_text raw))
+
+pub record IsFiled (entries : List Entry) (crash : Accepted) (filed : Filed) : Type 0 where
+  pub id : filed.id ≡ crash.id
+  pub told : IfSome crash.raw (IsFiledOf entries filed)
+
+-- each accepted crash is kept at its number
+abbrev pub AreFiled : List Entry → List Accepted → List Filed → Type 0
+AreFiled entries [] [] = ⊤
+AreFiled entries [] (_ ∷ _) = ⊥
+AreFiled entries (_ ∷ _) [] = ⊥
+AreFiled entries (crash ∷ crashes) (filed ∷ others) = IsFiled entries crash filed × AreFiled entries crashes others
+
+-- ---- the rows
+
+-- the row that is shown of a crash
+abbrev pub shown_row : Basis → List Change → List ℕ → Option (List Cell)
+shown_row basis log id = if is_held (events basis log) id then row_in basis log id else None
+
+-- what the store has at a number: a row exactly where the crash is held and has a report
+pub record HasRow (basis : Basis) (log : List Change) (id : List ℕ) (row : Option (List Cell)) : Type 0 where
+  pub has : is_some row ≡ (is_held (events basis log) id && has_report (events basis log) id)
+  pub told : IsTrue basis.is_told → row ≡ shown_row basis log id
+
+-- each row stands at its crash's number, and there is no other
+pub record HasRows (basis : Basis) (log : List Change) (ledger : LedgerState) (rows : List (ℕ × List Cell)) : Type 0 where
+  pub rise : PlacesRise rows
+  pub each : (number : ℕ) → number < length ledger.crashes → HasRow basis log (id_of ledger number) (option_map (λ s. s.1) (row_at number rows))
+  pub no_other : AllByRecursion (λ s. s.0 < length ledger.crashes) rows
+
+-- ---- the tables
+
+-- ledger and rows tell of this log, whose entries the journal has
+pub record Holds (basis : Basis) (log : List Change) (ledger : LedgerState) (rows : List (ℕ × List Cell)) : Type 0 where
+  pub events_are : ledger.log ≡ events basis log
+  pub filed : AreFiled (entries_of (kept_of log)) (accepted_of log) ledger.crashes
+  pub rows_are : HasRows basis log ledger rows
+
+-- ---- the doubt
+
+-- a change that waits for its entry to be settled, of a crash by its number
+abbrev pub IsPending : Basis → List Change → LedgerState → Pending → Kept → Type 0
+IsPending basis log ledger (P.Accept new) (accept crash) = (new.id ≡ crash.id) × IfSome crash.raw (λ raw. Tells new raw × IsTrue basis.is_told)
+IsPending basis log ledger (P.Ask number) (ask id) = id_of ledger number ≡ id
+IsPending basis log ledger (P.Withdraw number) (withdraw id) = id_of ledger number ≡ id
+IsPending basis log ledger (P.Report number) (report made) = (id_of ledger number ≡ made.id)
+    × IsTrue (is_own basis made.digest) × IsTrue (not (is_due (events basis log) made.id))
+IsPending basis log ledger _ _ = ⊥
+
+abbrev pub ArePending : Basis → List Change → LedgerState → Option Pending → Option Kept → Type 0
+ArePending basis log ledger None None = ⊤
+ArePending basis log ledger (Some pending) (Some change) = IsPending basis log ledger pending change
+ArePending basis log ledger _ _ = ⊥
+
+-- ---- the whole
+
+-- the disk holds the journal of the log, and of the change in doubt, which fits it
+pub record IsOnDisk (basis : Basis) (journal : JournalState) (disk : DiskTold) (state : State) : Type 0 where
+  pub means : Means disk journal (entries_of (kept_of state.log)) (option_map entry_of state.doubt)
+  pub fits : IfSome state.doubt (λ change. IsTrue (has_room basis state.log change))
+
+-- ledger, rows, doubt, journal and disk stand for a state of the log
+pub record Stands (basis : Basis) (limits : Limits) (ledger : LedgerState) (rows : List (ℕ × List Cell)) (pending : Option Pending) (journal : JournalState) (disk : DiskTold) (state : State) : Type 0 where
+  pub legal : IsLegalState basis state
+  pub holds : Holds basis state.log ledger rows
+  pub doubt : ArePending basis state.log ledger pending state.doubt
+  pub crashes : basis.crashes ≡ limits.crashes
+  pub bytes : basis.journal_bytes ≡ limits.journal_bytes
+  pub limit : journal.limit ≡ basis.journal_bytes
+  pub short : basis.journal_bytes < 2 ^ 64
+  pub told : IsTrue basis.is_told → IsOnDisk basis journal disk state

@@ -1,0 +1,19 @@
+//! A desk over a journal on a disk.
+#![tactic(auto)]
+
+mod asks;
+mod book;
+mod keep;
+mod opening;
+mod prepared;
+mod reads;
+mod report;
+mod submission;
+mod submit;
+#[cfg(test)]
+mod tests;
+mod turns;
+
+pub use book::Book;
+pub use opening::Restored;
+pub use prepared::Prepared;
