@@ -10,12 +10,18 @@ use std::test::Fail;
 const HEAD: &[u8] =
     b"de1bb258-cbbf-4589-a673-34f800160918\x00\xd9\xddW\x00\x00\x00\x00\x00\x00\x00\x00\x00\x00\x00\x00\x0a\x00\x00\x00accept_all";
 
-/// A text or a blob of a record.
-fn put(record: &mut Vec<u8>, bytes: &[u8]) -> Result<(), AllocError> {
-    let length = bytes.len() as u64;
-    for byte in length.to_le_bytes().iter().take(4) {
+/// A number of a record.
+fn put_number(record: &mut Vec<u8>, number: usize) -> Result<(), AllocError> {
+    let number = number as u64;
+    for byte in number.to_le_bytes().iter().take(4) {
         record.push(*byte)?;
     }
+    Ok(())
+}
+
+/// A text or a blob of a record.
+fn put(record: &mut Vec<u8>, bytes: &[u8]) -> Result<(), AllocError> {
+    put_number(record, bytes.len())?;
     record.extend_from_slice(bytes)?;
     Ok(())
 }
@@ -27,12 +33,12 @@ fn crash(
     dump: Option<&[u8]>,
 ) -> Result<RawCrash, Fail> {
     let mut record = Vec::from_slice(alloc, HEAD)?;
-    record.extend_from_slice(&[annotations.len() as u8, 0, 0, 0])?;
+    put_number(&mut record, annotations.len())?;
     for (name, value) in annotations {
         put(&mut record, name.as_bytes())?;
         put(&mut record, value.as_bytes())?;
     }
-    record.extend_from_slice(&[u8::from(dump.is_some()), 0, 0, 0])?;
+    put_number(&mut record, usize::from(dump.is_some()))?;
     if let Some(dump) = dump {
         put(&mut record, b"upload_file_minidump")?;
         put(&mut record, dump)?;
@@ -410,9 +416,6 @@ fn most_paths(rt: HostRuntime) -> Result<(), Fail> {
     Ok(())
 }
 
-/// What threads may share and hand over.
-fn threads_share<T: Send + Sync>(_value: &T) {}
-
 const ONE_SYMBOL_FILE: [(&str, &str); 3] = [
     ("prefix.txt", "a"),
     ("symbols.txt", "p"),
@@ -431,7 +434,6 @@ fn digests(rt: HostRuntime) -> Result<(), Fail> {
     ];
     assert_eq!(rt; texts.digest(), digest);
     let kit = Kit::read(alloc, &texts, &mut RegexMaker::new())?;
-    threads_share(&kit);
     assert_eq!(rt; Reporter::digest(&kit), Some(digest));
     Ok(())
 }

@@ -26,8 +26,11 @@ fn read(alloc: Global, irrelevant: &str, prefix: &str, sentinel: &str) -> Result
     )
 }
 
+/// Patterns that stand for their own text, of which some begin with others, beside one that doesn't.
+const TOGETHER: &str = "zz\nabcd\nc@0x[0-9]\nbzz\nabc\nb\nabc\nabce";
+
 /// Patterns, frames, and whether a match begins where the frame does.
-const MATCHES: [(&str, &str, bool); 16] = [
+const MATCHES: [(&str, &str, bool); 27] = [
     ("abort", "abort", true),
     ("abort", "abort_message", true),
     ("abort", "mozabort", false),
@@ -44,6 +47,17 @@ const MATCHES: [(&str, &str, bool); 16] = [
     ("x", "", false),
     ("é+", "éé", true),
     ("\\bRelease", "nsFoo::Release", false),
+    (TOGETHER, "ab", false),
+    (TOGETHER, "abc", true),
+    (TOGETHER, "abcd", true),
+    (TOGETHER, "abd", false),
+    (TOGETHER, "a", false),
+    (TOGETHER, "b", true),
+    (TOGETHER, "bzz", true),
+    (TOGETHER, "c@0x1", true),
+    (TOGETHER, "c@0x", false),
+    (TOGETHER, "zz", true),
+    (TOGETHER, "zy", false),
 ];
 
 #[test]
@@ -135,37 +149,6 @@ fn first_sentinel(rt: HostRuntime) -> Result<(), Fail> {
     for _ in 0..3 {
         assert!(rt; matchers.is_sentinel("b") && !matchers.is_sentinel("a"));
         assert!(rt; !matchers.is_prefix("b") && !matchers.is_irrelevant("b"));
-    }
-    Ok(())
-}
-
-/// Literal patterns of which some begin with others, beside one that isn't literal, and which frames they match.
-const TOGETHER: [(&str, bool); 12] = [
-    ("ab", false),
-    ("abc", true),
-    ("abcd", true),
-    ("abd", false),
-    ("", false),
-    ("a", false),
-    ("b", true),
-    ("bzz", true),
-    ("c@0x1", true),
-    ("c@0x", false),
-    ("zz", true),
-    ("zy", false),
-];
-
-#[test]
-fn literals_are_looked_up_beside_others(rt: HostRuntime) -> Result<(), Fail> {
-    let alloc = rt.alloc();
-    let file = "zz\nabcd\nc@0x[0-9]\nbzz\nabc\nb\nabc\nabce";
-    let lists = read(alloc, file, file, file)?;
-    let mut matchers = lists.matchers(alloc)?;
-    for (frame, want) in &TOGETHER {
-        assert_eq!(rt; lists.is_irrelevant(alloc, frame)?, *want);
-        assert_eq!(rt; matchers.is_irrelevant(frame), *want);
-        assert_eq!(rt; matchers.is_prefix(frame), *want);
-        assert_eq!(rt; matchers.is_sentinel(frame), *want);
     }
     Ok(())
 }
