@@ -9,9 +9,9 @@ use crate::arrivals::Incoming;
 use crate::replies::Room;
 use crate::rules::Rules;
 use crate::tasks::{Task, task_of};
-use soc_interim_desk::{Command, Desk};
 use soc_edge::{Clock, Draws};
 use soc_http::{Answered, Routes};
+use soc_interim_desk::{Command, Desk};
 use soc_raw::NoMemory;
 use std::alloc::Global;
 

@@ -14,9 +14,9 @@ use crate::arrivals::{Incoming, next_message};
 use crate::ending::SessionEnd;
 use crate::replies::Room;
 use crate::rules::Rules;
-use soc_interim_desk::Desk;
 use soc_edge::{Clock, Draws, Sink, Source};
 use soc_http::{Answered, Buffer, HeadError, Routes, WriteFault, write_reply};
+use soc_interim_desk::Desk;
 use std::alloc::Global;
 
 /// Whether a session goes on behind a message.

@@ -3,8 +3,8 @@ ghost use Rattle.std.specs.Prelude.{◌≡◌, ◌+◌, ◌<◌, ◌≤◌, ◌+
 ghost use Rattle.soc_interim_session.specs.Replies.{closing, desk_refusal, desk_reply, head_refusal, kept, malformed, no_memory, plain, processed_text, rejected, wrong_method, json};
 ghost use Rattle.soc_interim_session.specs.Rows.{IsRow};
 
-use soc_interim_desk::{Refusal, Reply};
 use soc_http::{Answered, HeadError, Kind, Verb};
+use soc_interim_desk::{Refusal, Reply};
 use soc_multipart::Reason;
 use soc_raw::{Bytes, CrashId, NoMemory};
 use soc_schema::row_json;

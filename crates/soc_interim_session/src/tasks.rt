@@ -14,12 +14,12 @@ ghost use Rattle.soc_interim_session.specs.inner.Tasks.{HandsDrawn, IsTask, IsTa
 use crate::lines::{asker, is_known};
 use crate::replies::Room;
 use crate::rules::Rules;
-use soc_interim_desk::Command;
 use soc_edge::{Clock, Draws};
 use soc_http::{
     Answered, Head, Route, RouteError, Routes, Verb, encoding_of, first_value, lines_named,
     pairs_of,
 };
+use soc_interim_desk::Command;
 use soc_multipart::{FormError, Reason, Submission, read_submission};
 use soc_raw::{CrashId, Digit, NoMemory, RawCrash, Text};
 use soc_schema::Caller;

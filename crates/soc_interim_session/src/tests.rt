@@ -3,9 +3,9 @@ mod worked;
 
 use self::worked::{AMPLE, ANSWERS, CUT_SHORT, ENDS, FETCH_SUBMIT, FIREFOX, STORED, WRONG_METHOD};
 use crate::{Rules, SessionEnd, session};
-use soc_interim_desk::{Book, Limits, Small};
 use soc_edge::{Both, Ids16, MemClock, MemDraws, MemSink, MemSource, Numbers};
 use soc_http::{Buffer, Routes};
+use soc_interim_desk::{Book, Limits, Small};
 use soc_raw::Bytes;
 use soc_schema::{Products, Tokens};
 use soc_text::before;

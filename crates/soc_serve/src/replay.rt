@@ -7,9 +7,9 @@ ghost use Rattle.soc_serve.specs.inner.Refusals.{Refuses};
 
 use crate::setup::{FileRefusal, Setup, SetupError, refusal_line, set_up};
 use crate::texts::read_texts;
-use soc_interim_desk::{Book, Small};
 use soc_edge::{Clock, Draws, Failed, Sink, Source, Tree, TreeError, write_all};
 use soc_http::{Buffer, Routes};
+use soc_interim_desk::{Book, Small};
 use soc_interim_session::{SessionEnd, session};
 use std::alloc::Global;
 

@@ -6,9 +6,9 @@ use crate::settings::{Settings, SettingsError};
 use crate::texts::Texts;
 use crate::token_text::{TokensError, read_tokens};
 use soc_interim_desk::Limits;
+use soc_interim_session::Rules;
 use soc_raw::{Bytes, NoMemory, Text};
 use soc_schema::Tokens;
-use soc_interim_session::Rules;
 use std::alloc::Global;
 
 /// What a run goes by.
