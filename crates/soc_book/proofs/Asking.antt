@@ -1,19 +1,17 @@
 -- What asks and withdrawals decide over a settled log.
-use Rattle.std.proofs.Common.{◌≡◌, ◌⊎◌, inl, inr, ℕ, ◌<◌, Bool, true, false, not, ◌&&◌, ◌||◌, IsTrue, List, [], ◌∷◌, ◌++◌, length, Option, Some, None, IfSome, IsSome, IsSomeAnd, Result, Ok, Err, sym, ap, subst, ◌∙◌, refl}
-use Rattle.std.specs.Prelude.{is_some, if◌then◌else◌, ⊤}
+use Rattle.std.proofs.Common.{◌≡◌, ℕ, Bool, true, false, not, ◌||◌, IsTrue, List, [], ◌∷◌, ◌++◌, Option, Some, None, Err, sym, ap, ◌∙◌, refl}
+use Rattle.std.specs.Prelude.{if◌then◌else◌}
 use Rattle.soc_schema.specs.declared.caller.Caller.{Caller}
 use Rattle.soc_schema.specs.declared.value.Cell.{Cell}
 use Rattle.soc_schema.specs.Permits.{shows}
-use Rattle.soc_edge.specs.Disk.{DiskTold, IsDisk, Looks}
+use Rattle.soc_edge.specs.Disk.{DiskTold, IsDisk}
 use Rattle.soc_edge.proofs.Disks.{Looks-none}
-use Rattle.soc_journal.specs.Entries.{Entry}
 use Rattle.soc_journal.specs.States.{JournalState}
-use Rattle.soc_ledger.specs.declared.crash.Standing.{Standing}
 use Rattle.soc_ledger.specs.declared.event.Event.{Event}
-use Rattle.soc_ledger.specs.Due.{due_since, is_due}
+use Rattle.soc_ledger.specs.Due.{is_due}
 use Rattle.soc_ledger.specs.Events.{is_held}
 use Rattle.soc_ledger.specs.Reported.{has_report}
-use Rattle.soc_ledger.specs.State.{LedgerState, id_of, standing_of}
+use Rattle.soc_ledger.specs.State.{LedgerState, id_of}
 use Rattle.soc_desk.specs.declared.desk.Command.{Command}
 use Rattle.soc_desk.specs.declared.desk.Command.TheVariants as C
 use Rattle.soc_desk.specs.declared.desk.Limits.{Limits}
@@ -24,16 +22,14 @@ use Rattle.soc_desk.specs.declared.desk.Refusal.TheVariants as F
 use Rattle.soc_desk.specs.Basis.{Basis}
 use Rattle.soc_desk.specs.Decisions.{Decision, answers, appends, decide, decide_priority, if_seen, lacked}
 use Rattle.soc_desk.specs.Kinds.{IsReplyTo}
-use Rattle.soc_desk.specs.Log.{Change, Kept, ask, withdraw, keep, events, IsLegal}
-use Rattle.soc_desk.specs.State.{State, settled, entry_of, Allowed}
-use Rattle.soc_desk.specs.View.{view_of, is_in}
+use Rattle.soc_desk.specs.Log.{Change, ask, withdraw, keep, events, IsLegal}
+use Rattle.soc_desk.specs.State.{State, settled, Allowed}
 use Rattle.soc_book.specs.declared.book.Change.{Change as Pending}
-use Rattle.soc_book.specs.declared.book.Change.TheVariants as P
 use Rattle.soc_book.specs.inner.Does.{Adds, IsDecided}
 use Rattle.soc_book.specs.inner.Pieces.{IsHeldAs, IsWritten, product_at, Sees}
-use Rattle.soc_book.specs.inner.Stands.{Fits, IsPending, Stands}
+use Rattle.soc_book.specs.inner.Stands.{Stands}
 use Rattle.soc_book.proofs.Changes.{legal-next}
-use Rattle.soc_book.proofs.Deciding.{answered, decided_as, MayAppend, written_decides}
+use Rattle.soc_book.proofs.Deciding.{answered, decided_as, written_decides}
 use Rattle.soc_book.proofs.Sights.{held_now, seen_in, unseen_in}
 use Rattle.soc_book.proofs.Standing.{images_allowed}
 

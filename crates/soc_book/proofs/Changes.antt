@@ -1,20 +1,17 @@
 -- One more change that may follow a legal log, and what legal logs tell of their crashes.
-use Rattle.std.proofs.Common.{◌≡◌, ℕ, Bool, true, false, IsTrue, List, [], ◌∷◌, ◌++◌, map, reverse, Option, Some, None, IfSome, IsSome, sym, ap, subst, ◌∙◌, refl}
-use Rattle.std.specs.Prelude.{bytes_eq, filter_map}
-use Rattle.std.specs.List.{AllByRecursion, cons_option}
+use Rattle.std.proofs.Common.{◌≡◌, IsTrue, List, [], ◌∷◌, ◌++◌, map, reverse, Some, IfSome, IsSome, sym, ap, subst, ◌∙◌, refl}
+use Rattle.std.specs.List.{AllByRecursion}
 use Rattle.std.proofs.lemmas.List.Elements.{filter_map-append}
-use Rattle.std.proofs.lemmas.List.{append-nil, map-append}
+use Rattle.std.proofs.lemmas.List.{map-append}
 use Rattle.soc_raw.specs.CrashId.{IsId}
-use Rattle.soc_raw.specs.Record.{Crash, IsCrash}
-use Rattle.soc_ledger.specs.declared.event.Event.{Event}
+use Rattle.soc_raw.specs.Record.{IsCrash}
 use Rattle.soc_ledger.specs.Events.{accepted_ids}
 use Rattle.soc_ledger.specs.Legal.{IsLegalNext, IsLegal as AreLegal}
 use Rattle.soc_ledger.proofs.Lists.{all-more}
 use Rattle.soc_ledger.proofs.Logs.{legal-more}
-use Rattle.soc_journal.specs.Entries.{Entry}
 use Rattle.soc_desk.specs.Basis.{Basis}
 use Rattle.soc_desk.specs.Log.{Change, Kept, Accepted, accept, ask, withdraw, report, keep, done, stop, accepted_in, accepted_of, event_of, events, IsSound, AreSoundBack, IsLegal}
-use Rattle.soc_desk.specs.State.{State, IsLegalState, settled, entry_of, entries_of, kept_in, kept_of}
+use Rattle.soc_desk.specs.State.{IsLegalState, settled, entry_of, entries_of, kept_in, kept_of}
 use Rattle.soc_desk.proofs.Logs.{events-more, reverse-cons, reverse-more, reverse-twice}
 use Rattle.soc_desk.proofs.Found.{AreTold}
 

@@ -1,12 +1,10 @@
 -- What a command that writes does, from what it settles, decides and appends.
-use Rattle.std.proofs.Common.{◌≡◌, ◌⊎◌, inl, inr, ℕ, ◌<◌, ◌≤◌, Bool, true, false, IsTrue, List, [], ◌∷◌, ◌++◌, Option, Some, None, IfSome, IsSome, IsSomeAnd, MatchOption, Result, Ok, Err, sym, ap, subst, ◌∙◌, refl, arith, append_assoc}
-use Rattle.std.specs.Prelude.{⊤}
+use Rattle.std.proofs.Common.{◌≡◌, ◌⊎◌, inl, inr, ℕ, ◌<◌, ◌≤◌, Bool, true, false, IsTrue, List, [], ◌∷◌, ◌++◌, Option, Some, None, IsSome, IsSomeAnd, MatchOption, Result, Ok, Err, sym, ap, subst, ◌∙◌, refl, arith, append_assoc}
 use Rattle.std.proofs.lemmas.List.{append-nil, map-append}
 use Rattle.soc_raw.specs.declared.raw_crash.RawCrash.{RawCrash}
 use Rattle.soc_schema.specs.declared.caller.Caller.{Caller}
 use Rattle.soc_schema.specs.declared.permission.Permission.{Permission}
-use Rattle.soc_edge.specs.Disk.{DiskTold, IsDisk, GoesOn, LeavesOnly, Looks, DiskFailed}
-use Rattle.soc_edge.specs.Faults.{Rose, last_count}
+use Rattle.soc_edge.specs.Disk.{DiskTold, GoesOn, Looks, DiskFailed}
 use Rattle.soc_edge.proofs.Disks.{GoesOn-append, LeavesOnly-append, LeavesOnly-weaker}
 use Rattle.soc_ledger.specs.declared.event.Event.{Event}
 use Rattle.soc_desk.specs.declared.desk.Command.{Command}
@@ -17,14 +15,14 @@ use Rattle.soc_desk.specs.declared.desk.Refusal.{Refusal}
 use Rattle.soc_desk.specs.declared.desk.Refusal.TheVariants as F
 use Rattle.soc_desk.specs.Asks.{Gains, IsStoreFault, IsAltered}
 use Rattle.soc_desk.specs.Basis.{Basis}
-use Rattle.soc_desk.specs.Decisions.{Decision, answers, appends, decide, lacked}
+use Rattle.soc_desk.specs.Decisions.{Decision, appends, decide, lacked}
 use Rattle.soc_desk.specs.Desk.{IfElse, Refuses, Appends, Decides, FailsRead, FailsMend, SettlesAndDecides, StepWriting, Step}
 use Rattle.soc_desk.specs.Grows.{BehindDoubt, Writes, Grows}
 use Rattle.soc_desk.specs.Kinds.{IsReplyTo}
 use Rattle.soc_desk.specs.Log.{Change, Kept, keep, event_of, events}
 use Rattle.soc_desk.specs.State.{State, settled, Settles, kept_of, has_room, StandsFor, Allowed, Survives}
 use Rattle.soc_book.specs.inner.Does.{Adds, Does, IsDecided, IsSettledReply}
-use Rattle.soc_book.specs.inner.Pieces.{Begins, EndsAs, IsAppended, IsWritten, RepliesAs}
+use Rattle.soc_book.specs.inner.Pieces.{Begins, IsAppended, IsWritten, RepliesAs}
 use Rattle.soc_book.proofs.Changes.{kept-more}
 
 -- ---- the commands that write

@@ -1,17 +1,16 @@
 -- What is kept of each accepted crash at its number.
-use Rattle.std.proofs.Common.{◌≡◌, ℕ, zero, suc, ◌+◌, ◌<◌, Bool, true, false, cond, ◌||◌, IsTrue, List, [], ◌∷◌, ◌++◌, length, map, Option, Some, None, IfSome, IsSome, sym, ap, subst, ◌∙◌, refl, append_assoc, arith}
+use Rattle.std.proofs.Common.{◌≡◌, ℕ, zero, suc, ◌<◌, Bool, true, false, cond, ◌||◌, List, [], ◌∷◌, ◌++◌, length, map, Option, Some, None, IfSome, IsSome, sym, ap, subst, ◌∙◌, refl, append_assoc, arith}
 use Rattle.std.specs.Prelude.{bytes_eq, slice_get}
 use Rattle.std.specs.List.{AllByRecursion, find}
-use Rattle.std.specs.Option.{option_map, option_map_or, option_and_then}
-use Rattle.std.proofs.lemmas.Option.{IfSome_then, slice_get-get_or}
+use Rattle.std.specs.Option.{option_map_or, option_and_then}
+use Rattle.std.proofs.lemmas.Option.{IfSome_then}
 use Rattle.soc_raw.specs.Record.{Crash, IsCrash}
 use Rattle.soc_journal.specs.Entries.{Entry}
 use Rattle.soc_ledger.specs.declared.crash.Filed.{Filed}
 use Rattle.soc_ledger.specs.State.{LedgerState, id_of}
 use Rattle.soc_ledger.specs.Events.{is_among}
-use Rattle.soc_ledger.proofs.Lists.{AreDistinct, none_is_not_some, true_is_not_false, turned, same_text, itself}
+use Rattle.soc_ledger.proofs.Lists.{AreDistinct, none_is_not_some, true_is_not_false, turned, itself}
 use Rattle.soc_vault.specs.Vaults.{IsAt}
-use Rattle.soc_desk.specs.Basis.{Basis}
 use Rattle.soc_desk.specs.Log.{Change, Accepted, accepted_of, raw_of}
 use Rattle.soc_desk.proofs.Logs.{has_id, IsApart}
 use Rattle.soc_desk.proofs.Found.{AreTold}

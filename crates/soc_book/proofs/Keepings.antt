@@ -1,5 +1,5 @@
 -- What keeping reports does, from what keeping one does.
-use Rattle.std.proofs.Common.{◌≡◌, ◌≢◌, ℕ, zero, suc, ◌+◌, ◌<◌, ◌≤◌, ◌-◌, Bool, true, false, not, ◌&&◌, ◌||◌, cond, IsTrue, List, [], ◌∷◌, ◌++◌, length, map, filter, Option, Some, None, IfSome, IsSome, IsSomeAnd, MatchOption, Result, Ok, Err, inl, inr, ◌⊎◌, ltb, refl, sym, ◌∙◌, ap, subst, arith, append_assoc, length-append}
+use Rattle.std.proofs.Common.{◌≡◌, ℕ, ◌+◌, ◌<◌, ◌≤◌, Bool, true, false, not, ◌&&◌, ◌||◌, IsTrue, List, [], ◌∷◌, ◌++◌, length, map, filter, Option, Some, None, IfSome, IsSome, IsSomeAnd, MatchOption, Result, Ok, Err, inl, inr, ◌⊎◌, refl, sym, ◌∙◌, ap, subst, arith, append_assoc, length-append}
 use Rattle.std.specs.Prelude.{bytes_eq, is_some, nat_lt, slice_get, if◌then◌else◌}
 use Rattle.std.specs.Option.{option_and_then, option_map, option_map_or}
 use Rattle.std.proofs.lemmas.Bool.{lt-ltb, le-ltb}
@@ -43,7 +43,7 @@ use Rattle.soc_book.specs.Keeping.{KeepsReports}
 use Rattle.soc_book.specs.inner.Books.{IsRowFor}
 use Rattle.soc_book.specs.inner.Keepings.{EndsEntry, EndsOne, IsEntryOfRow, IsOwnReport, KeepsAll, KeepsEntry, KeepsOne, KeptSoFar, MakesEntry, is_wanted, keep_reply, own_report, rest_ids, unless_full}
 use Rattle.soc_book.specs.inner.Pieces.{Begins, EndsAs, IsAppended, product_at}
-use Rattle.soc_book.specs.inner.Stands.{AreFiled, IsFiled, IsPending, Stands}
+use Rattle.soc_book.specs.inner.Stands.{IsFiled, IsPending, Stands}
 use Rattle.soc_book.proofs.Changes.{IsSoundCrash, kept-more, legal-next, sound_crashes}
 use Rattle.soc_book.proofs.Deciding.{failed_later}
 use Rattle.soc_book.proofs.Filing.{all_got, filed_at, found_at, got, id_of-got}

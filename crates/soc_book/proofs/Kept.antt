@@ -3,20 +3,20 @@ use Rattle.std.proofs.Common.{◌≡◌, ℕ, ◌+◌, ◌≤◌, Bool, true, fa
 use Rattle.std.specs.Prelude.{bytes_eq, if◌then◌else◌}
 use Rattle.std.specs.List.{AllByRecursion, list_any, find}
 use Rattle.std.specs.Option.{option_and_then}
-use Rattle.std.proofs.lemmas.List.{append-nil, map-append}
+use Rattle.std.proofs.lemmas.List.{map-append}
 use Rattle.soc_raw.specs.CrashId.{IsId}
-use Rattle.soc_raw.specs.Record.{Crash, IsCrash}
+use Rattle.soc_raw.specs.Record.{Crash}
 use Rattle.soc_schema.specs.Reports.{TellsCrash}
 use Rattle.soc_journal.specs.Entries.{Entry}
 use Rattle.soc_ledger.specs.declared.event.Event.{Event}
 use Rattle.soc_ledger.specs.declared.event.Event.TheVariants as E
 use Rattle.soc_ledger.specs.Events.{is_among, is_held, was_accepted, was_withdrawn, withdrawn_ids}
-use Rattle.soc_ledger.specs.Legal.{IsLegalNext, IsLegalBack, IsLegal as AreLegal}
-use Rattle.soc_ledger.proofs.Lists.{all-more, reverse-more, same_text, true_is_not_false}
+use Rattle.soc_ledger.specs.Legal.{IsLegalNext, IsLegalBack}
+use Rattle.soc_ledger.proofs.Lists.{reverse-more, same_text, true_is_not_false}
 use Rattle.soc_desk.specs.Basis.{Basis}
-use Rattle.soc_desk.specs.Log.{Accepted, Change, Kept, KeptReport, accept, ask, withdraw, report, keep, done, stop, accepted_of, event_of, events, raw_of, is_own, IsSound, AreSoundBack, IsLegal}
-use Rattle.soc_desk.specs.Opens.{AreChanges, MOST_CRASHES, as_told, log_of, told}
-use Rattle.soc_desk.specs.State.{entry_of, entries_of, kept_of}
+use Rattle.soc_desk.specs.Log.{Accepted, Change, Kept, accept, ask, withdraw, report, keep, done, stop, accepted_of, event_of, events, raw_of, is_own, IsSound, AreSoundBack, IsLegal}
+use Rattle.soc_desk.specs.Opens.{AreChanges, as_told, log_of, told}
+use Rattle.soc_desk.specs.State.{entry_of, kept_of}
 use Rattle.soc_desk.proofs.Found.{AreTold}
 use Rattle.soc_desk.proofs.Logs.{events-more, has_id, reverse-twice, was_accepted-is}
 use Rattle.soc_book.proofs.Changes.{IsSoundCrash, accepted-more, legal-next, sound_crashes}

@@ -1,10 +1,10 @@
 -- What a book opens with, from what its journal's entries gave.
-use Rattle.std.proofs.Common.{◌≡◌, ℕ, ◌+◌, ◌<◌, ◌^◌, Bool, true, false, IsTrue, List, [], ◌∷◌, ◌++◌, length, map, Option, Some, None, IfSome, IsSome, IsSomeAnd, inl, inr, sym, ap, subst, ◌∙◌, refl, arith}
+use Rattle.std.proofs.Common.{◌≡◌, ℕ, ◌<◌, ◌^◌, Bool, true, false, IsTrue, List, map, Option, Some, None, IfSome, IsSome, IsSomeAnd, inl, inr, sym, ap, subst, ◌∙◌, refl, arith}
 use Rattle.std.proofs.lemmas.Option.{IfSome_then}
 use Rattle.soc_raw.specs.Record.{Crash}
 use Rattle.soc_schema.specs.declared.value.Cell.{Cell}
 use Rattle.soc_edge.specs.Disk.{DiskTold}
-use Rattle.soc_journal.specs.Entries.{Entry, entries_text, first_gate, place_behind}
+use Rattle.soc_journal.specs.Entries.{Entry, first_gate, place_behind}
 use Rattle.soc_journal.specs.States.{JournalState, AtRest}
 use Rattle.soc_ledger.specs.State.{LedgerState}
 use Rattle.soc_ledger.proofs.Lists.{true_is_not_false}
@@ -12,14 +12,14 @@ use Rattle.soc_vault.specs.Openings.{Opens, StopsAt, place_from}
 use Rattle.soc_vault.specs.Vaults.{Means}
 use Rattle.soc_desk.specs.declared.desk.Limits.{Limits}
 use Rattle.soc_desk.specs.Basis.{Basis}
-use Rattle.soc_desk.specs.Log.{Change, Kept}
+use Rattle.soc_desk.specs.Log.{Change}
 use Rattle.soc_desk.specs.Opens.{RefusesEntry, as_told, log_of}
-use Rattle.soc_desk.specs.State.{State, settled, entries_of, kept_of}
+use Rattle.soc_desk.specs.State.{settled, entries_of, kept_of}
 use Rattle.soc_book.specs.declared.book.Change.{Change as Pending}
 use Rattle.soc_book.specs.declared.opening.Recovery.{Recovery}
-use Rattle.soc_book.specs.Openings.{BreaksJournal, BreaksLog, IsBasisOf, OpensBook, StopsAtEntry}
+use Rattle.soc_book.specs.Openings.{IsBasisOf, OpensBook, StopsAtEntry}
 use Rattle.soc_book.specs.inner.Recoveries.{Recovers, Rows}
-use Rattle.soc_book.specs.inner.Stands.{IsOnDisk, Stands}
+use Rattle.soc_book.specs.inner.Stands.{Stands}
 use Rattle.soc_book.proofs.Changes.{settled-legal}
 use Rattle.soc_book.proofs.Kept.{kept_of-log, told_all}
 

@@ -1,7 +1,6 @@
 -- The tables once a change is added to them stand for the log with that change.
-use Rattle.std.proofs.Common.{◌≡◌, ◌≢◌, ℕ, ◌+◌, ◌-◌, ◌<◌, ◌≤◌, ◌^◌, Bool, true, false, not, ◌&&◌, cond, IsTrue, List, [], ◌∷◌, ◌++◌, length, map, Option, Some, None, IfSome, IsSome, sym, ap, subst, ◌∙◌, refl, arith, length-append, inl, inr}
-use Rattle.std.specs.Prelude.{bytes_eq, nat_le, is_some, slice_get}
-use Rattle.std.specs.List.{AllByRecursion}
+use Rattle.std.proofs.Common.{◌≡◌, ◌≢◌, ℕ, ◌+◌, ◌<◌, ◌^◌, Bool, true, false, IsTrue, List, [], ◌∷◌, ◌++◌, length, map, Option, Some, None, IfSome, IsSome, sym, ap, subst, ◌∙◌, refl, arith, length-append, inl, inr}
+use Rattle.std.specs.Prelude.{bytes_eq, is_some}
 use Rattle.std.specs.Option.{option_map, option_map_or}
 use Rattle.std.proofs.lemmas.Bool.{cases_lt}
 use Rattle.std.proofs.lemmas.List.{append-nil}
@@ -15,23 +14,21 @@ use Rattle.soc_ledger.specs.declared.crash.Filed.{Filed}
 use Rattle.soc_ledger.specs.declared.event.Event.{Event}
 use Rattle.soc_ledger.specs.declared.event.Event.TheVariants as E
 use Rattle.soc_ledger.specs.Due.{is_due}
-use Rattle.soc_ledger.specs.Events.{is_held, was_accepted, accepted_ids, is_among}
+use Rattle.soc_ledger.specs.Events.{was_accepted, accepted_ids, is_among}
 use Rattle.soc_ledger.specs.State.{LedgerState, id_of, with_event}
 use Rattle.soc_ledger.proofs.Lists.{AreDistinct, true_is_not_false, same_text, all-weaker}
 use Rattle.soc_ledger.proofs.Logs.{distinct_ids, not_true}
-use Rattle.soc_store.specs.Stored.{PlacesRise, row_at, without_row}
+use Rattle.soc_store.specs.Stored.{row_at, without_row}
 use Rattle.soc_store.proofs.StoreLemmas.{rise_without}
-use Rattle.soc_vault.specs.Vaults.{IsAt}
 use Rattle.soc_desk.specs.Basis.{Basis}
-use Rattle.soc_desk.specs.Decisions.{accepting}
-use Rattle.soc_desk.specs.Log.{Change, Kept, Accepted, KeptReport, accept, ask, withdraw, report, keep, done, stop, accepted_of, event_of, events, is_own, IsLegal}
+use Rattle.soc_desk.specs.Log.{Change, Kept, Accepted, KeptReport, accept, ask, withdraw, report, keep, accepted_of, event_of, events, is_own, IsLegal}
 use Rattle.soc_desk.specs.State.{entry_of, entries_of, kept_of, body_of}
 use Rattle.soc_desk.proofs.Logs.{events-more}
 use Rattle.soc_book.specs.declared.book.Change.{Change as Pending}
 use Rattle.soc_book.specs.declared.book.Change.TheVariants as P
 use Rattle.soc_book.specs.declared.submission.NewCrash.{NewCrash}
 use Rattle.soc_book.specs.inner.Books.{Tells}
-use Rattle.soc_book.specs.inner.Stands.{Fits, FitsHeld, IsFiledAt, Pushes, IsFiledOf, IsFiled, AreFiled, HasRow, HasRows, Holds, IsPending}
+use Rattle.soc_book.specs.inner.Stands.{Fits, IsFiledAt, Pushes, IsFiledOf, IsFiled, AreFiled, HasRow, HasRows, Holds, IsPending}
 use Rattle.soc_book.proofs.Changes.{accepted-more, entries-more, ids_of-log}
 use Rattle.soc_book.proofs.Filing.{AreFiled-more, AreFiled-push, filed_ids, id_of-front, id_of-last, among_ids, distinct_numbers}
 use Rattle.soc_book.proofs.Rows.{row_accept, row_ask, row_new, row_others, row_report, row_withdrawn, row_at-others, row_at-taken, no_row_past, all_left}

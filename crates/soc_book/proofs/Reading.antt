@@ -1,7 +1,6 @@
 -- What is read of a raw crash where the disk tells it.
-use Rattle.std.proofs.Common.{◌≡◌, ◌≢◌, ℕ, Bool, true, false, IsTrue, List, Option, Some, None, IfSome, Result, Ok, Err, MatchResult, sym, ap, subst, ◌∙◌, refl}
+use Rattle.std.proofs.Common.{◌≡◌, ◌≢◌, ℕ, false, IsTrue, List, Option, Some, Result, Ok, Err, MatchResult, sym, ap, subst, ◌∙◌, refl}
 use Rattle.std.specs.Prelude.{slice_get}
-use Rattle.std.specs.Option.{option_map}
 use Rattle.std.proofs.lemmas.Bool.{false_from_ne_true}
 use Rattle.soc_raw.specs.RawCrash.{crash_of, record_text}
 use Rattle.soc_raw.specs.Record.{Crash, IsCrash, record_of}
@@ -20,8 +19,8 @@ use Rattle.soc_desk.specs.declared.desk.Limits.{Limits}
 use Rattle.soc_desk.specs.declared.desk.Refusal.{Refusal}
 use Rattle.soc_desk.specs.declared.desk.Refusal.TheVariants as F
 use Rattle.soc_desk.specs.Basis.{Basis}
-use Rattle.soc_desk.specs.Log.{Change, raw_of}
-use Rattle.soc_desk.specs.State.{State, entry_of, entries_of, kept_of}
+use Rattle.soc_desk.specs.Log.{raw_of}
+use Rattle.soc_desk.specs.State.{State, entries_of, kept_of}
 use Rattle.soc_book.specs.declared.book.Change.{Change as Pending}
 use Rattle.soc_book.specs.inner.Pieces.{Decodes, IsRead}
 use Rattle.soc_book.specs.inner.Stands.{Stands}

@@ -1,12 +1,11 @@
 -- What is taken of one more entry, and that what isn't taken may not follow.
-use Rattle.std.proofs.Common.{◌≡◌, ◌≢◌, ℕ, zero, suc, ◌+◌, ◌-◌, ◌<◌, ◌≤◌, ◌^◌, Bool, true, false, not, ◌&&◌, ◌||◌, IsTrue, List, [], ◌∷◌, ◌++◌, length, map, reverse, Option, Some, None, IfSome, IsSome, MatchOption, inl, inr, ◌↔◌, sym, ap, subst, ◌∙◌, refl, arith, length-append}
-use Rattle.std.specs.Prelude.{bytes_eq, is_some, is_err, slice_get, if◌then◌else◌, Result, Ok, Err, OnOk}
-use Rattle.std.specs.List.{AllByRecursion, find}
+use Rattle.std.proofs.Common.{◌≡◌, ℕ, zero, suc, ◌+◌, ◌<◌, ◌≤◌, ◌^◌, Bool, true, false, not, ◌&&◌, IsTrue, List, [], ◌∷◌, ◌++◌, length, map, Option, Some, None, IfSome, IsSome, MatchOption, inl, inr, ◌↔◌, sym, ap, subst, ◌∙◌, refl, arith}
+use Rattle.std.specs.Prelude.{is_some, is_err, slice_get, if◌then◌else◌, Result, Ok, Err, OnOk}
 use Rattle.std.specs.Option.{option_and_then, option_map, option_map_or}
 use Rattle.std.proofs.lemmas.List.{append-nil, length-map, map-append}
 use Rattle.soc_raw.specs.declared.no_memory.NoMemory.{NoMemory}
 use Rattle.soc_raw.specs.CrashId.{IsId}
-use Rattle.soc_raw.specs.Record.{Crash, IsCrash, record_of, head_text}
+use Rattle.soc_raw.specs.Record.{Crash, IsCrash, record_of}
 use Rattle.soc_raw.proofs.Records.{same_crash}
 use Rattle.soc_schema.specs.declared.value.Cell.{Cell}
 use Rattle.soc_schema.specs.declared.value.Value.TheVariants.{Text}
@@ -15,7 +14,6 @@ use Rattle.soc_schema.specs.Reports.{TellsCrash, product_of, bare_row}
 use Rattle.soc_schema.specs.Rows.{value_of}
 use Rattle.soc_journal.specs.Entries.{Entry, accept_kind, ask_kind, withdraw_kind, report_kind, first_gate, head_size, place_behind}
 use Rattle.soc_ledger.specs.declared.crash.Filed.{Filed}
-use Rattle.soc_ledger.specs.declared.event.Event.{Event}
 use Rattle.soc_ledger.specs.declared.event.Event.TheVariants as E
 use Rattle.soc_ledger.specs.Due.{is_due}
 use Rattle.soc_ledger.specs.Events.{is_held, was_accepted}
@@ -27,21 +25,20 @@ use Rattle.soc_store.specs.Stored.{with_row}
 use Rattle.soc_vault.specs.Openings.{place_from}
 use Rattle.soc_desk.specs.Basis.{Basis}
 use Rattle.soc_desk.specs.Decisions.{accepting}
-use Rattle.soc_desk.specs.Log.{Accepted, Change, Kept, KeptReport, accept, ask, withdraw, report, keep, accepted_of, event_of, events, is_own, raw_of, IsSound, IsLegal}
+use Rattle.soc_desk.specs.Log.{Accepted, Change, Kept, KeptReport, accept, ask, withdraw, report, keep, accepted_of, event_of, events, is_own, raw_of, IsSound}
 use Rattle.soc_desk.specs.Opens.{AreChanges, RefusesEntry, as_told, log_of, told}
 use Rattle.soc_desk.specs.State.{body_of, kind_of, entry_of, entries_of, kept_of}
 use Rattle.soc_desk.proofs.Found.{AreTold}
 use Rattle.soc_desk.proofs.Logs.{accepted_apart}
-use Rattle.soc_book.specs.declared.book.Change.{Change as Pending}
 use Rattle.soc_book.specs.declared.book.Change.TheVariants as P
 use Rattle.soc_book.specs.declared.submission.NewCrash.{NewCrash}
 use Rattle.soc_book.specs.inner.Books.{Tells, IsReport}
 use Rattle.soc_book.specs.inner.Pieces.{product_at}
-use Rattle.soc_book.specs.inner.Recoveries.{IsRowOf, NoCrashOf, NoHeldOf, NoReportOf, Recovers, Rows, Takes, TakesCrash, TakesId, TakesNot, TakesReport, is_among_own, kept_pair, told_pair}
-use Rattle.soc_book.specs.inner.Stands.{Fits, FitsHeld, Holds, IsPending, Pushes}
+use Rattle.soc_book.specs.inner.Recoveries.{IsRowOf, NoCrashOf, NoReportOf, Recovers, Rows, Takes, TakesCrash, TakesId, TakesNot, TakesReport, is_among_own, kept_pair, told_pair}
+use Rattle.soc_book.specs.inner.Stands.{Holds, IsPending}
 use Rattle.soc_book.proofs.Changes.{IsSoundCrash, accepted-more, sound_crashes}
 use Rattle.soc_book.proofs.Filing.{all_got, found_at, got, id_of-got}
-use Rattle.soc_book.proofs.Kept.{IsLast, IsLastOf, accepted_alike, changes_more, events_told, held_alike, held_id, kept_of-log, last_of, log-more, told-more, told_all, told_legal_more}
+use Rattle.soc_book.proofs.Kept.{IsLast, accepted_alike, changes_more, events_told, held_alike, held_id, kept_of-log, last_of, log-more, told-more, told_all, told_legal_more}
 use Rattle.soc_book.proofs.Pushing.{IsPlaced, pushed}
 use Rattle.soc_book.proofs.Reporting.{holds_report}
 

@@ -1,7 +1,6 @@
 -- The tables once a report is in the log: its row is put where it counts as the crash's processing.
-use Rattle.std.proofs.Common.{◌≡◌, ◌≢◌, ℕ, ◌<◌, Bool, true, false, not, ◌&&◌, ◌||◌, cond, IsTrue, List, [], ◌∷◌, ◌++◌, length, reverse, Option, Some, None, sym, ap, subst, ◌∙◌, refl}
-use Rattle.std.specs.Prelude.{bytes_eq, is_some, if◌then◌else◌}
-use Rattle.std.specs.List.{AllByRecursion}
+use Rattle.std.proofs.Common.{◌≡◌, ◌≢◌, ℕ, ◌<◌, Bool, true, false, ◌&&◌, ◌||◌, List, [], ◌∷◌, ◌++◌, length, Option, Some, None, sym, ap, subst, ◌∙◌, refl}
+use Rattle.std.specs.Prelude.{bytes_eq, if◌then◌else◌}
 use Rattle.std.specs.Option.{option_map}
 use Rattle.soc_schema.specs.declared.value.Cell.{Cell}
 use Rattle.soc_ledger.specs.declared.event.Event.{Event}
@@ -11,7 +10,7 @@ use Rattle.soc_ledger.specs.Events.{is_held}
 use Rattle.soc_ledger.specs.Reported.{has_report}
 use Rattle.soc_ledger.specs.State.{LedgerState, id_of, with_event}
 use Rattle.soc_ledger.proofs.Lists.{true_is_not_false, same_text, itself}
-use Rattle.soc_store.specs.Stored.{PlacesRise, row_at, with_row}
+use Rattle.soc_store.specs.Stored.{row_at, with_row}
 use Rattle.soc_desk.specs.Basis.{Basis}
 use Rattle.soc_desk.specs.Log.{Change, KeptReport, report, keep, events, is_own, row_in, IsLegal}
 use Rattle.soc_desk.proofs.Logs.{events-more, row_in-more, reverse-twice, held_plain}

@@ -1,5 +1,5 @@
 -- The crashes whose reports are left to be kept, number by number.
-use Rattle.std.proofs.Common.{◌≡◌, ℕ, zero, suc, ◌+◌, ◌≤◌, Bool, true, false, not, ◌&&◌, ◌||◌, cond, List, [], ◌∷◌, ◌++◌, length, drop, Some, None, is_some, refl, sym, ◌∙◌, ap, subst, arith}
+use Rattle.std.proofs.Common.{◌≡◌, ℕ, zero, suc, ◌+◌, ◌≤◌, Bool, true, false, not, ◌&&◌, ◌||◌, cond, List, [], ◌∷◌, ◌++◌, length, drop, Some, is_some, refl, sym, ◌∙◌, ap, subst, arith}
 use Rattle.std.specs.Prelude.{bytes_eq, slice_get, filter}
 use Rattle.std.specs.List.{AllByRecursion}
 use Rattle.std.proofs.lemmas.List.{append-nil, drop_all}
@@ -8,7 +8,6 @@ use Rattle.soc_ledger.specs.declared.crash.Standing.{Standing}
 use Rattle.soc_ledger.specs.declared.event.Event.{Event}
 use Rattle.soc_ledger.specs.declared.event.Event.TheVariants as E
 use Rattle.soc_ledger.specs.Events.{accepted_in, accepted_ids, held_ids, is_among, is_held, was_withdrawn}
-use Rattle.soc_ledger.specs.State.{standing_of}
 use Rattle.soc_ledger.proofs.Lists.{AreDistinct, filter-filter, filter-on, itself, none_is_not_some, some-injective}
 use Rattle.soc_ledger.proofs.Whole.{standing_others}
 use Rattle.soc_desk.specs.Keeps.{is_to_keep}

@@ -1,8 +1,7 @@
 -- The rows of a store once more is in the log.
-use Rattle.std.proofs.Common.{◌≡◌, ◌≢◌, ℕ, ◌+◌, ◌<◌, ◌≤◌, Bool, true, false, not, ◌&&◌, ◌||◌, cond, IsTrue, List, [], ◌∷◌, ◌++◌, length, reverse, Option, Some, None, sym, ap, subst, ◌∙◌, refl, arith, inl, inr}
+use Rattle.std.proofs.Common.{◌≡◌, ◌≢◌, ℕ, ◌<◌, ◌≤◌, Bool, true, false, ◌&&◌, ◌||◌, cond, List, [], ◌∷◌, ◌++◌, reverse, Option, Some, None, sym, ap, ◌∙◌, refl, arith}
 use Rattle.std.specs.Prelude.{bytes_eq, is_some, if◌then◌else◌}
 use Rattle.std.specs.List.{AllByRecursion}
-use Rattle.std.specs.Option.{option_map}
 use Rattle.std.specs.Ordering.{MatchOrdering, nat_cmp, is_eq, match_ordering}
 use Rattle.std.specs.declared.cmp.Ordering.{Ordering}
 use Rattle.std.specs.declared.cmp.Ordering.TheVariants.{Less, Equal, Greater}
@@ -10,18 +9,17 @@ use Rattle.std.proofs.lemmas.Cmp.{ranked}
 use Rattle.soc_schema.specs.declared.value.Cell.{Cell}
 use Rattle.soc_ledger.specs.declared.event.Event.{Event}
 use Rattle.soc_ledger.specs.declared.event.Event.TheVariants as E
-use Rattle.soc_ledger.specs.Due.{due_since, due_since_back, is_due}
-use Rattle.soc_ledger.specs.Events.{is_held, was_accepted, was_withdrawn, accepted_ids, is_among}
+use Rattle.soc_ledger.specs.Due.{is_due}
+use Rattle.soc_ledger.specs.Events.{is_held, was_accepted}
 use Rattle.soc_ledger.specs.Reported.{has_report, reported_back, reported_after}
-use Rattle.soc_ledger.specs.State.{LedgerState, id_of, standing_of}
 use Rattle.soc_ledger.proofs.Lists.{true_is_not_false, same_text, itself, reverse-more}
 use Rattle.soc_ledger.proofs.Logs.{unknown_crash}
 use Rattle.soc_store.specs.Stored.{PlacesRise, row_at, without_row}
 use Rattle.soc_desk.specs.Basis.{Basis}
-use Rattle.soc_desk.specs.Log.{Change, Kept, Accepted, KeptReport, accept, ask, withdraw, report, keep, done, stop, accepted_of, event_of, events, is_own, row_after, row_in, IsLegal}
+use Rattle.soc_desk.specs.Log.{Change, Accepted, KeptReport, accept, ask, withdraw, report, keep, event_of, events, is_own, row_after, row_in, IsLegal}
 use Rattle.soc_desk.proofs.Logs.{events-more, row_in-more, reverse-twice, held_plain, held_accept, held_withdraw}
-use Rattle.soc_desk.proofs.Found.{AreTold, has_row}
-use Rattle.soc_book.specs.inner.Stands.{HasRow, HasRows, shown_row}
+use Rattle.soc_desk.proofs.Found.{has_row}
+use Rattle.soc_book.specs.inner.Stands.{HasRow}
 
 and_true : (b : Bool) → (b && true) ≡ b
 and_true true = refl

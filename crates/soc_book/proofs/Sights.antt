@@ -17,13 +17,11 @@ use Rattle.soc_desk.specs.Basis.{Basis}
 use Rattle.soc_desk.specs.Log.{Change, Accepted, accepted_of, events, raw_of, row_in, IsLegal}
 use Rattle.soc_desk.specs.State.{entries_of, kept_of}
 use Rattle.soc_desk.specs.View.{Seen, view_of, is_in}
-use Rattle.soc_desk.specs.declared.desk.Refusal.{Refusal}
-use Rattle.soc_desk.specs.declared.desk.Refusal.TheVariants as F
 use Rattle.soc_desk.proofs.Logs.{has_id, accepted_apart}
 use Rattle.soc_desk.proofs.Unseen.{hides, hides_unheld, is_lacking}
 use Rattle.soc_desk.proofs.Views.{item, item_of, seen_under, shown}
 use Rattle.soc_book.specs.inner.Pieces.{IsHeldAs, product_at}
-use Rattle.soc_book.specs.inner.Stands.{IsFiledOf, Holds}
+use Rattle.soc_book.specs.inner.Stands.{Holds}
 use Rattle.soc_book.proofs.Changes.{sound_crashes}
 use Rattle.soc_book.proofs.Filing.{IsKnown, known, id_of-got, got}
 

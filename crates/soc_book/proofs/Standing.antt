@@ -1,15 +1,15 @@
 -- What settling, appending and reading leave of a book that stands for a state.
-use Rattle.std.proofs.Common.{◌≡◌, ◌≢◌, ◌⊎◌, ◌↔◌, inl, inr, ℕ, ◌+◌, ◌<◌, ◌≤◌, ◌^◌, Bool, true, false, IsTrue, List, [], ◌∷◌, ◌++◌, length, map, Option, Some, None, IfSome, IsSome, IsSomeAnd, Result, Ok, Err, sym, ap, subst, ◌∙◌, refl, arith}
-use Rattle.std.specs.Prelude.{is_some, nat_le}
+use Rattle.std.proofs.Common.{◌≡◌, ◌⊎◌, inl, inr, ℕ, ◌+◌, ◌<◌, ◌≤◌, ◌^◌, true, false, IsTrue, List, [], ◌∷◌, ◌++◌, length, Option, Some, None, IsSome, IsSomeAnd, Result, Ok, Err, sym, ap, subst, ◌∙◌, refl, arith}
+use Rattle.std.specs.Prelude.{is_some}
 use Rattle.std.specs.Option.{option_map}
-use Rattle.std.proofs.lemmas.Bool.{leb-true, le-leb}
+use Rattle.std.proofs.lemmas.Bool.{leb-true}
 use Rattle.std.proofs.lemmas.Bool.Decides.{leb_tells}
 use Rattle.std.proofs.lemmas.List.{map-append}
 use Rattle.soc_schema.specs.declared.value.Cell.{Cell}
-use Rattle.soc_edge.specs.Disk.{DiskTold, IsDisk, GoesOn, LeavesOnly, Looks, DiskFailed}
+use Rattle.soc_edge.specs.Disk.{DiskTold, IsDisk, GoesOn, LeavesOnly, DiskFailed}
 use Rattle.soc_edge.specs.declared.failed.Failed.{Failed}
-use Rattle.soc_edge.proofs.Disks.{GoesOn-none, LeavesOnly-weaker}
-use Rattle.soc_journal.specs.Entries.{Entry, beside_body, entry_text, place_behind}
+use Rattle.soc_edge.proofs.Disks.{LeavesOnly-weaker}
+use Rattle.soc_journal.specs.Entries.{Entry, beside_body, place_behind}
 use Rattle.soc_journal.specs.States.{JournalState, AtRest, InDoubt, IsKeptAt, journal_after}
 use Rattle.soc_journal.specs.Text.{JournalText, EitherText}
 use Rattle.soc_journal.specs.declared.settled.Settled.{Settled}
@@ -21,12 +21,12 @@ use Rattle.soc_desk.specs.declared.desk.Limits.{Limits}
 use Rattle.soc_desk.specs.declared.desk.Refusal.TheVariants as F
 use Rattle.soc_desk.specs.Basis.{Basis}
 use Rattle.soc_desk.specs.Log.{Change, Kept, accept, ask, withdraw, report, keep, IsLegal}
-use Rattle.soc_desk.specs.State.{State, IsLegalState, settled, Settles, entry_of, entries_of, kept_of, body_of, has_room, StandsFor, Allowed, Survives}
+use Rattle.soc_desk.specs.State.{State, settled, Settles, entry_of, entries_of, kept_of, body_of, has_room, Allowed, Survives}
 use Rattle.soc_book.specs.declared.book.Change.{Change as Pending}
 use Rattle.soc_book.specs.declared.book.Change.TheVariants as P
-use Rattle.soc_book.specs.inner.Pieces.{EndsAs, IsAppended}
+use Rattle.soc_book.specs.inner.Pieces.{IsAppended}
 use Rattle.soc_book.specs.inner.Stands.{Fits, IsSafe, Pushes, AddsSettled, Holds, IsPending, ArePending, IsOnDisk, Stands}
-use Rattle.soc_book.proofs.Changes.{entries-more, kept-more, settled-legal, doubt-legal}
+use Rattle.soc_book.proofs.Changes.{entries-more, settled-legal, doubt-legal}
 use Rattle.soc_book.proofs.Pushing.{IsPlaced, pushed}
 
 -- ---- the gate of a journal that means these entries

@@ -1,5 +1,5 @@
 -- Where the content of a crash stands in its record.
-use Rattle.std.proofs.Common.{◌≡◌, ◌≤◌, ℕ, ◌+◌, ◌-◌, min, List, length, take, drop, sym, ◌∙◌, ap, arith}
+use Rattle.std.proofs.Common.{◌≡◌, ◌≤◌, ℕ, ◌-◌, min, List, length, take, drop, ◌∙◌, ap, arith}
 use Rattle.std.proofs.lemmas.List.{length-drop, take_all}
 use Rattle.soc_raw.specs.Record.{Crash, head_text, content_text, record_of}
 use Rattle.soc_raw.proofs.Lengths.{record_length, content_at}

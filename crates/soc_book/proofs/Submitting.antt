@@ -1,6 +1,6 @@
 -- What submissions decide over a settled log.
-use Rattle.std.proofs.Common.{◌≡◌, ◌⊎◌, ◌↔◌, inl, inr, ℕ, ◌+◌, ◌<◌, ◌≤◌, Bool, true, false, not, ◌&&◌, IsTrue, List, [], ◌∷◌, ◌++◌, length, take, drop, map, Option, Some, None, IfSome, IsSome, IsSomeAnd, sym, ap, subst, ◌∙◌, refl, arith}
-use Rattle.std.specs.Prelude.{bytes_eq, is_some, nat_le, slice_get, if◌then◌else◌, ⊤}
+use Rattle.std.proofs.Common.{◌≡◌, ◌↔◌, inl, inr, ℕ, ◌+◌, ◌<◌, ◌≤◌, Bool, true, false, not, ◌&&◌, IsTrue, List, [], ◌∷◌, ◌++◌, length, take, drop, Option, Some, None, IfSome, IsSomeAnd, sym, ap, subst, ◌∙◌, refl, arith}
+use Rattle.std.specs.Prelude.{bytes_eq, is_some, nat_le, slice_get, if◌then◌else◌}
 use Rattle.std.specs.Option.{option_map_or}
 use Rattle.std.proofs.Math.Seq.{take-append_seam}
 use Rattle.std.proofs.lemmas.Bool.{le-leb}
@@ -32,10 +32,9 @@ use Rattle.soc_desk.specs.declared.desk.Reply.{Reply}
 use Rattle.soc_desk.specs.declared.desk.Reply.TheVariants as R
 use Rattle.soc_desk.specs.declared.desk.Refusal.TheVariants as F
 use Rattle.soc_desk.specs.Basis.{Basis}
-use Rattle.soc_desk.specs.Decisions.{Decision, answers, appends, accepting, decide, decide_new, decide_repeated, decide_submission}
-use Rattle.soc_desk.specs.Desk.{Decides, FailsRead}
-use Rattle.soc_desk.specs.Log.{Accepted, Change, Kept, accept, accepted_of, keep, events, raw_of, IsLegal}
-use Rattle.soc_desk.specs.State.{State, settled, entry_of, entries_of, kept_of, Allowed}
+use Rattle.soc_desk.specs.Decisions.{Decision, answers, appends, accepting, decide_new, decide_repeated, decide_submission}
+use Rattle.soc_desk.specs.Log.{Accepted, Change, accept, keep, events, raw_of, IsLegal}
+use Rattle.soc_desk.specs.State.{State, settled, entry_of, entries_of, kept_of}
 use Rattle.soc_desk.proofs.Found.{found_accepted}
 use Rattle.soc_book.specs.declared.book.Change.{Change as Pending}
 use Rattle.soc_book.specs.declared.book.Change.TheVariants as P

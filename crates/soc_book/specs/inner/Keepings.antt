@@ -1,5 +1,5 @@
 -- What keeping reports does: of one crash, of all so far, and of all.
-use Rattle.std.specs.Prelude.{◌≡◌, ◌⊎◌, ℕ, ◌+◌, ◌<◌, ◌≤◌, Bool, true, false, not, ◌&&◌, IsTrue, List, ◌++◌, ◌∷◌, [], length, map, filter, drop, Option, None, Some, Result, Ok, Err}
+use Rattle.std.specs.Prelude.{◌≡◌, ◌⊎◌, ℕ, ◌+◌, ◌<◌, ◌≤◌, Bool, true, false, ◌&&◌, IsTrue, List, ◌++◌, ◌∷◌, [], length, map, filter, drop, Option, None, Some, Result, Ok, Err}
 use Rattle.soc_schema.specs.declared.value.Cell.{Cell}
 use Rattle.soc_schema.specs.RowText.{HasText, row_text}
 use Rattle.soc_edge.specs.Disk.{DiskTold, GoesOn, DiskFailed, LeavesOnly}

@@ -1,5 +1,5 @@
 -- What the pieces of a book's commands do.
-use Rattle.std.specs.Prelude.{◌≡◌, ◌⊎◌, ℕ, ◌<◌, true, false, IsTrue, List, [], ◌∷◌, ◌++◌, length, slice_get, Option, None, Some, IsSome, Result, Ok, Err, ⊤}
+use Rattle.std.specs.Prelude.{◌≡◌, ◌⊎◌, ℕ, ◌<◌, true, false, IsTrue, List, [], ◌∷◌, ◌++◌, length, slice_get, Option, Some, IsSome, Result, Ok, Err, ⊤}
 use Rattle.std.specs.Option.{option_and_then}
 use Rattle.soc_raw.specs.RawCrash.{crash_of, record_text}
 use Rattle.soc_raw.specs.Record.{Crash, IsCrash, record_of}

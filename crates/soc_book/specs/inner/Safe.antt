@@ -1,5 +1,5 @@
 -- What a book's tables owe each other is a proposition.
-use Rattle.std.specs.Prelude.{ℕ, Option, None, Some, IfSome}
+use Rattle.std.specs.Prelude.{Option, None, Some, IfSome}
 use Rattle.std.proofs.Props.{props}
 use Rattle.soc_journal.specs.States.{JournalState}
 use Rattle.soc_ledger.specs.State.{LedgerState}

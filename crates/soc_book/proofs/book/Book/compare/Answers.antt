@@ -1,4 +1,4 @@
-use Rattle.std.proofs.Common.{sym, ap, ◌∙◌, refl}
+use Rattle.std.proofs.Common.{sym, ap, ◌∙◌}
 use Rattle.soc_ledger.specs.declared.crash.Standing.{Standing}
 use Rattle.soc_raw.specs.RawCrash.{crash_of}
 use Rattle.soc_book.proofs.Submitting.{differs_on_disk, fails_read, other_digest, repeats, texts_agree, texts_differ, withdrawn}

@@ -1,15 +1,11 @@
 use Rattle.std.proofs.Common.{List, ◌≡◌, sym, ◌∙◌, ap, subst}
-use Rattle.std.specs.Prelude.{Err, Result}
 use Rattle.soc_raw.specs.Record.{Crash}
 use Rattle.soc_schema.specs.declared.value.Cell.{Cell}
 use Rattle.soc_schema.specs.Reports.{TellsCrash}
-use Rattle.soc_desk.specs.declared.desk.Refusal.{Refusal}
-use Rattle.soc_desk.specs.declared.desk.Refusal.TheVariants as F
 use Rattle.soc_desk.specs.declared.desk.Reply.{Reply}
 use Rattle.soc_desk.specs.Basis.{Basis, RowsTell}
 use Rattle.soc_desk.specs.State.{State}
 use Rattle.soc_book.specs.Keeping.{KeepsReports}
-use Rattle.soc_book.specs.inner.Pieces.{Begins}
 use Rattle.soc_book.specs.inner.Stands.{Stands}
 use Rattle.soc_book.proofs.Keepings.{allowed_in, keeps_settled, mend_fails}
 use Rattle.soc_book.proofs.book.Book.keep.Goals as goal

@@ -1,5 +1,4 @@
 use Rattle.std.proofs.Common.{◌≡◌, ◌≤◌, List, Some, None, length}
-use Rattle.soc_edge.specs.Disk.{DiskTold}
 use Rattle.soc_desk.specs.Basis.{Basis, RowsTell}
 use Rattle.soc_desk.specs.Log.{Change}
 use Rattle.soc_desk.specs.State.{settled}

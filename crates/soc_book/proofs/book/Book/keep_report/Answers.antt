@@ -1,5 +1,4 @@
-use Rattle.std.proofs.Common.{sym, ◌∙◌, Option, subst}
-use Rattle.soc_journal.specs.Entries.{Entry}
+use Rattle.std.proofs.Common.{sym, ◌∙◌}
 use Rattle.soc_desk.specs.State.{State, settled}
 use Rattle.soc_book.specs.inner.Stands.{Stands}
 use Rattle.soc_book.proofs.Keepings.{keeps_report, no_entry}

@@ -1,4 +1,3 @@
-use Rattle.std.proofs.Common.{◌≡◌, ap}
 use Rattle.soc_book.proofs.Reading.{altered_untold, decoded, id_here}
 use Rattle.soc_book.proofs.book.Book.read.Goals as goal
 
