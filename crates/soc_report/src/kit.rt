@@ -22,7 +22,7 @@ use soc_walk::Symbols;
 use std::alloc::Global;
 use std::marker::Model;
 
-/// The lists and symbols that reports are made with. It borrows their texts.
+/// The lists and symbols that reports are made with. It borrows their texts, which threads may share.
 #[derive(Drop)]
 pub struct Kit<'a> {
     texts: &'a KitText,

@@ -437,3 +437,14 @@ fn digests(rt: HostRuntime) -> Result<(), Fail> {
     assert_eq!(rt; Reporter::digest(&kit), Some(digest));
     Ok(())
 }
+
+/// What threads may share and hand over.
+fn threads_share<T: Send + Sync>(_value: &T) {}
+
+#[test]
+fn threads_share_the_texts(rt: HostRuntime) -> Result<(), Fail> {
+    let alloc = rt.alloc();
+    let texts = KitText::read(alloc, &mut tree(alloc, &[])?)?;
+    threads_share(&texts);
+    Ok(())
+}
