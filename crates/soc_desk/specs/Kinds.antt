@@ -1,5 +1,5 @@
--- Which replies a command may get, whatever the disk tells: of the command's own kind, with its own id, and with nothing
--- that its caller may not see. Privacy rests on this where a disk tells nothing, as a real file does.
+-- Which replies a command may get, whatever the disk tells: of the command's own kind, with its own id, and with granted
+-- fields and annotations alone. That a command's own reply comes only where its caller has the permission stands in `Step`.
 use Rattle.std.specs.Prelude.{◌≡◌, ℕ, IsTrue, List, map, None, Some, ⊤}
 use Rattle.std.specs.List.{AllByRecursion}
 use Rattle.soc_schema.specs.Fields.{permission_of_annotation}
