@@ -17,7 +17,7 @@ use Rattle.soc_multipart.proofs.DelimiterLemmas.{occurs_from_at, at_from_occurs}
 use Rattle.soc_multipart.proofs.HeadLemmas.{line_once, line_end_stuck, nothing_stuck}
 
 -- a head's end is no line
-ends_stuck : (tail content : List ℕ) → EndsHead tail content → HasNoStep ReadsLine tail
+pub ends_stuck : (tail content : List ℕ) → EndsHead tail content → HasNoStep ReadsLine tail
 ends_stuck tail content (inl (e, f)) = subst (HasNoStep ReadsLine) (sym e) nothing_stuck
 ends_stuck tail content (inr e) = subst (HasNoStep ReadsLine) (sym e) (line_end_stuck content)
 
@@ -96,7 +96,7 @@ line_end_found text k o h =
     (sym (take-append-drop (0 + k) text) ∙ ap (λ (x : List ℕ). take (0 + k) text ++ x) at)
 
 -- pieces that the body's end cuts off
-open_line_stuck : (tail : List ℕ) → HasNoLineEnd tail → HasNoStep ReadsLine tail
+pub open_line_stuck : (tail : List ℕ) → HasNoLineEnd tail → HasNoStep ReadsLine tail
 open_line_stuck tail h l r a =
     h (l.name ++ (58 ∷ l.raw)) r (a.whole ∙ sym (append_assoc l.name (58 ∷ l.raw) (crlf ++ r)))
 

@@ -13,16 +13,16 @@ type Said = (
     &'static [u8],
 );
 
-const CURL: &[u8] =
+pub const CURL: &[u8] =
     b"--------------------------72170cdebf956f66\r\nContent-Disposition: form-data; name=\"ProductName\"\r\n\r\nFirefox\r\n--------------------------72170cdebf956f66\r\nContent-Disposition: form-data; name=\"upload_file_minidump\"; filename=\"x.dmp\"\r\nContent-Type: application/octet-stream\r\n\r\nMDMP\x93\xa7\0\0\x09\0\0\0 \0\0\0\r\n--------------------------72170cdebf956f66--\r\n";
 
-const REQUESTS: &[u8] =
+pub const REQUESTS: &[u8] =
     b"--a286beb9144bddaf05284792f8842774\r\nContent-Disposition: form-data; name=\"Comments\"\r\n\r\ngr\xc3\xb6\xc3\x9fe \"q\"\r\n--a286beb9144bddaf05284792f8842774\r\nContent-Disposition: form-data; name=\"upload_file_minidump\"; filename=\"x.dmp\"\r\n\r\nMDMP\x93\xa7\0\0\r\n--a286beb9144bddaf05284792f8842774--\r\n";
 
-const BREAKPAD: &[u8] =
+pub const BREAKPAD: &[u8] =
     b"--------------------------fe286737a321a7b8\r\nContent-Disposition: form-data; name=\"ver\"\r\n\r\n153.7.0\r\n--------------------------fe286737a321a7b8\r\nContent-Disposition: form-data; name=\"upload_file_minidump\"; filename=\"y.dmp\"\r\nContent-Type: application/octet-stream\r\n\r\nMDMP\x93\xa7\0\0\r\0\0\0\r\n--------------------------fe286737a321a7b8--\r\n";
 
-const CRASHPAD: &[u8] =
+pub const CRASHPAD: &[u8] =
     b"-----MultipartBoundary-iMh4SJnj2ggwco2ItftpfZtV88bMls0N---\r\nContent-Disposition: form-data; name=\"lsb-release\"\r\n\r\nDebian GNU/Linux 12 (bookworm)\r\n-----MultipartBoundary-iMh4SJnj2ggwco2ItftpfZtV88bMls0N---\r\nContent-Disposition: form-data; name=\"upload_file_minidump\"; filename=\"38a06dc2-8a09-4c84-9395-32f5684a6610.dmp\"\r\nContent-Type: application/octet-stream\r\n\r\nMDMP\x93\xa7\0\0\r\n-----MultipartBoundary-iMh4SJnj2ggwco2ItftpfZtV88bMls0N-----\r\n";
 
 fn expect(
@@ -102,7 +102,7 @@ fn bodies_of_clients(rt: HostRuntime) -> Result<(), Fail> {
 }
 
 /// What is almost a delimiter of the boundary `b`: `?` stands behind each, or the closing delimiter.
-const ALMOST: [&[u8]; 14] = [
+pub const ALMOST: [&[u8]; 14] = [
     b"\r",
     b"\r\n",
     b"\r\n-",
@@ -120,7 +120,7 @@ const ALMOST: [&[u8]; 14] = [
 ];
 
 /// So many bytes, then what is almost a delimiter, then bytes up to 64 in all.
-fn dump_with(alloc: Global, almost: &[u8], offset: usize) -> Result<Vec<u8>, AllocError> {
+pub fn dump_with(alloc: Global, almost: &[u8], offset: usize) -> Result<Vec<u8>, AllocError> {
     let mut dump = Vec::new(alloc);
     for _ in 0..offset {
         dump.push(b'?')?;

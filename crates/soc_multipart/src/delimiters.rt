@@ -85,7 +85,7 @@ pub fn first_delimiter<'a>(
 }
 
 /// How the delimiter ends that a body begins with, where it does.
-fn delimiter_at_start<'a>(boundary: &[u8], body: &'a [u8]) -> Option<Ending<'a>>
+pub fn delimiter_at_start<'a>(boundary: &[u8], body: &'a [u8]) -> Option<Ending<'a>>
     ensures { MatchOption result (¬ (IsAtDelimiter (mark_of boundary.now) (crlf ++ body.now))) (λ end. IsAt (mark_of boundary.now) (crlf ++ body.now) end) }
 {
     let after = strip_front(strip_front(body, b"--")?, boundary)?;

@@ -1,24 +1,26 @@
-//! Messages of `multipart/form-data` (RFC 2046, section 5.1.1; RFC 7578): the parts of a whole body, and the
-//! submission that a message is.
+//! Bodies of `multipart/form-data` (RFC 2046, section 5.1.1; RFC 7578): the parts of a whole body, and of one that comes
+//! in pieces.
 #![tactic(auto)]
 
 #[cfg(test)]
 mod clients;
 mod delimiters;
 mod dispositions;
-mod extras;
-mod fields;
-mod form_error;
-mod form_lines;
 mod heads;
+mod owned_parts;
 mod params;
 mod parts;
-mod reasons;
-mod submissions;
+#[cfg(test)]
+mod pieces;
+mod readers;
+mod sections;
+mod tails;
 #[cfg(test)]
 mod tests;
 
-pub use form_error::FormError;
+pub use delimiters::is_boundary;
+pub use dispositions::lossy_text;
+pub use owned_parts::{OwnedPart, OwnedParts};
+pub use params::{Param, find_param, params as parameters};
 pub use parts::{Part, Parts, PartsError, cut_is_one, fault_is_one, read_whole};
-pub use reasons::Reason;
-pub use submissions::{Submission, read_submission, submission_is_one};
+pub use readers::{Reader, parts_stay};

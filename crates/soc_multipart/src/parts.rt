@@ -16,7 +16,7 @@ use std::alloc::{AllocError, AllocFailed, Global};
 use thiserror::Error;
 
 /// The most parts that a body has.
-const PARTS_LIMIT: usize = 512;
+pub const PARTS_LIMIT: usize = 512;
 
 /// A part of a body.
 #[derive(Debug, Drop)]
@@ -171,7 +171,7 @@ fn mark(alloc: Global, boundary: &[u8]) -> Result<Vec<u8>, NoMemory>
 }
 
 /// The piece as a part, where it is one.
-fn part_of<'a>(alloc: Global, piece: &'a [u8]) -> Result<Option<Part<'a>>, NoMemory>
+pub fn part_of<'a>(alloc: Global, piece: &'a [u8]) -> Result<Option<Part<'a>>, NoMemory>
     ensures { IfOk result (λ found. MatchOption found ((part : PartText) → ¬ (IsPart piece.now part)) (λ part. IsPart piece.now (part_text part))) }
 {
     let HeadLines { lines, end } = head_lines(alloc, piece)?;
@@ -209,7 +209,7 @@ fn content_of<'a>(piece: &[u8], end: HeadEnd<'a>) -> Option<&'a [u8]>
 }
 
 /// Whether a piece that the body's end cuts off is no bad part yet.
-fn may_be_part(alloc: Global, piece: &[u8]) -> Result<bool, NoMemory>
+pub fn may_be_part(alloc: Global, piece: &[u8]) -> Result<bool, NoMemory>
     ensures { IfOk result (λ may. IsTrue may ↔ MayBePart piece.now) }
 {
     let HeadLines { lines, end } = head_lines(alloc, piece)?;
@@ -231,7 +231,7 @@ fn may_be_part(alloc: Global, piece: &[u8]) -> Result<bool, NoMemory>
     }
 }
 
-fn has_line_end(text: &[u8]) -> bool
+pub fn has_line_end(text: &[u8]) -> bool
     ensures { MatchBool result (¬ (HasNoLineEnd text.now)) (HasNoLineEnd text.now) }
 {
     find(text, b"\r\n").is_some()

@@ -1,6 +1,5 @@
 //! Bodies as browsers, command lines and crash reporters write them, and bodies that are cut off or bad.
-use crate::{FormError, PartsError, Reason, Submission, read_submission, read_whole};
-use soc_raw::{Pairs, Text};
+use crate::{PartsError, read_whole};
 use std::alloc::{AllocError, Global};
 use std::process::Abort;
 use std::test::Fail;
@@ -140,70 +139,4 @@ fn refusal_of_many(alloc: Global, count: usize) -> Result<Option<PartsError>, Al
     }
     body.extend_from_slice(b"\r\n--b--")?;
     Ok(read_whole(alloc, b"b", body.as_slice()).err())
-}
-
-const ID: &str = "de1bb258-cbbf-4589-a673-34f800160918";
-
-// The submission with this body, whose boundary is `b`.
-fn submitted(alloc: Global, encoding: Option<&str>, body: &[u8]) -> Result<Submission, FormError> {
-    let mut kinds = Pairs::new(alloc);
-    let name = Text::of(alloc, "Content-Type")?;
-    let value = Text::of(alloc, "Multipart/Form-Data ; charset=x; Boundary=\"b\"")?;
-    kinds.push(name, value)?;
-    read_submission(alloc, encoding, &kinds, body)
-}
-
-#[test]
-fn plain_parts_and_dumps(rt: HostRuntime) -> Result<(), Fail> {
-    let body =
-        b"--b\r\nContent-Disposition: form-data; name=\"ProductName\"\r\n\r\nFenix\r\n--b\r\nContent-Disposition: form-data; name=\"uuid\"\r\n\r\nde1bb258-cbbf-4589-a673-34f800160918\r\n--b\r\nContent-Disposition: form-data; name=\"upload_file_minidump\"; filename=\"a.dmp\"\r\nContent-Type: application/octet-stream\r\n\r\nMDMP\r\n--b\r\nContent-Disposition: form-data; name=\"ProductName\"\r\n\r\nFirefox\r\n--b--\r\n";
-    let said = submitted(rt.alloc(), Some("Identity"), body)?;
-    assert_eq!(rt; said.annotations.len(), 1);
-    assert!(rt; said.annotations.get("ProductName") == Some("Firefox"));
-    assert_eq!(rt; said.dumps.len(), 1);
-    assert!(rt; said.dumps.get("upload_file_minidump") == Some(b"MDMP".as_slice()));
-    let id = said.sent_id.ok_or("no id")?;
-    assert_eq!(rt; id.as_str(), ID);
-    Ok(())
-}
-
-#[test]
-fn json_parts(rt: HostRuntime) -> Result<(), Fail> {
-    let said = submitted(
-        rt.alloc(),
-        None,
-        b"--b\r\nContent-Disposition: form-data; name=\"extra\"; filename=\"extra.json\"\r\nContent-Type: application/json\r\n\r\n{\"a\":1,\"b\":\"x\",\"c\":[true, null]}\r\n--b--\r\n",
-    )?;
-    assert_eq!(rt; said.annotations.len(), 3);
-    assert!(rt; said.annotations.get("a") == Some("1"));
-    assert!(rt; said.annotations.get("b") == Some("x"));
-    assert!(rt; said.annotations.get("c") == Some("[true,null]"));
-    assert_eq!(rt; said.dumps.len(), 0);
-    let list = submitted(
-        rt.alloc(),
-        None,
-        b"--b\r\nContent-Disposition: form-data; name=\"extra\"\r\nContent-Type: application/json\r\n\r\n[1]\r\n--b--\r\n",
-    )
-    .err();
-    assert!(rt; list == Some(FormError::Malformed(Reason::BadExtra)));
-    let both = submitted(
-        rt.alloc(),
-        None,
-        b"--b\r\nContent-Disposition: form-data; name=\"extra\"\r\nContent-Type: application/json\r\n\r\n{}\r\n--b\r\nContent-Disposition: form-data; name=\"x\"\r\n\r\ny\r\n--b--\r\n",
-    )
-    .err();
-    assert!(rt; both == Some(FormError::Malformed(Reason::ExtraAndPlain)));
-    Ok(())
-}
-
-#[test]
-fn refused_lines(rt: HostRuntime) -> Result<(), Fail> {
-    let gzip = submitted(rt.alloc(), Some("gzip"), FIREFOX).err();
-    assert!(rt; gzip == Some(FormError::Malformed(Reason::ContentEncoding)));
-    let none = read_submission(rt.alloc(), None, &Pairs::new(rt.alloc()), FIREFOX).err();
-    assert!(rt; none == Some(FormError::Malformed(Reason::NoContentType)));
-    assert_eq!(rt; Reason::ContentEncoding.text(), "content_encoding");
-    let cut = submitted(rt.alloc(), None, &FIREFOX[..72]).err();
-    assert!(rt; cut == Some(FormError::Malformed(Reason::NoClose)));
-    Ok(())
 }

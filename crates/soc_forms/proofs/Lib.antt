@@ -1,0 +1,10 @@
+pub mod FitLemmas
+pub mod FormLemmas
+pub mod JsonSizes
+pub mod LawLemmas
+pub mod LexSizes
+pub mod MemberLemmas
+pub mod PartSizes
+pub mod RefusalLemmas
+pub mod SubmissionLemmas
+pub mod TokenSizes

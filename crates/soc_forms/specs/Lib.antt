@@ -1,0 +1,10 @@
+pub mod Extras
+pub mod Fields
+pub mod Fits
+pub mod FormErrors
+pub mod FormLines
+pub mod Forms
+pub mod Reasons
+pub mod SubmissionViews
+pub mod Submissions
+pub mod inner

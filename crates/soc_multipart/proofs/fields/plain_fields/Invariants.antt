@@ -1,8 +1,0 @@
-use Rattle.std.proofs.Common.{◌≡◌, take}
-use Rattle.soc_multipart.specs.Fields.{plain_fields}
-use Rattle.soc_multipart.specs.inner.FieldViews.{fields_text}
-use Rattle.soc_multipart.specs.PartViews.{part_texts}
-use Rattle.soc_multipart.proofs.fields.plain_fields.Given as goal
-
-abbrev pub invariant-loop-part : goal.invariant-loop-part
-invariant-loop-part l = fields_text l.fields ≡ plain_fields (part_texts (take l.part-index l.parts))
