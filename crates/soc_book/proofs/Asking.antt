@@ -1,5 +1,5 @@
 -- What asks and withdrawals decide over a settled log.
-use Rattle.std.proofs.Common.{◌≡◌, ℕ, Bool, true, false, not, ◌||◌, IsTrue, List, [], ◌∷◌, ◌++◌, Option, Some, None, Err, sym, ap, ◌∙◌, refl}
+use Rattle.std.proofs.Common.{◌≡◌, ℕ, Bool, true, false, not, ◌||◌, IsTrue, List, [], ◌∷◌, ◌++◌, Option, Some, None, Err, sym, ap, subst, ◌∙◌, refl}
 use Rattle.std.specs.Prelude.{if◌then◌else◌}
 use Rattle.soc_schema.specs.declared.caller.Caller.{Caller}
 use Rattle.soc_schema.specs.declared.value.Cell.{Cell}
@@ -21,6 +21,7 @@ use Rattle.soc_desk.specs.declared.desk.Refusal.{Refusal}
 use Rattle.soc_desk.specs.declared.desk.Refusal.TheVariants as F
 use Rattle.soc_desk.specs.Basis.{Basis}
 use Rattle.soc_desk.specs.Decisions.{Decision, answers, appends, decide, decide_priority, if_seen, lacked}
+use Rattle.soc_desk.specs.Grows.{IsGone}
 use Rattle.soc_desk.specs.Kinds.{IsReplyTo}
 use Rattle.soc_desk.specs.Log.{Change, ask, withdraw, keep, events, IsLegal}
 use Rattle.soc_desk.specs.State.{State, settled, Allowed}
@@ -30,6 +31,7 @@ use Rattle.soc_book.specs.inner.Pieces.{IsHeldAs, IsWritten, product_at, Sees}
 use Rattle.soc_book.specs.inner.Stands.{Stands}
 use Rattle.soc_book.proofs.Changes.{legal-next}
 use Rattle.soc_book.proofs.Deciding.{answered, decided_as, written_decides}
+use Rattle.soc_book.proofs.Readings.{unseen_gone}
 use Rattle.soc_book.proofs.Sights.{held_now, seen_in, unseen_in}
 use Rattle.soc_book.proofs.Standing.{images_allowed}
 
@@ -68,9 +70,9 @@ module _ (basis : Basis) (limits : Limits) (ledger : LedgerState) (rows : List (
   -- ---- crashes that aren't seen
 
   module _ (sound : IsDisk disk) (command : Command) (decision : Decision) (is : decide basis log command ≡ Some (if_seen basis log caller id decision)) (kind : IsReplyTo command (R.Refused F.NoCrash))
-      (adds : Adds command (R.Refused F.NoCrash) before []) where
+      (adds : IsGone caller id before → Adds basis command (R.Refused F.NoCrash) None before []) where
     not_seen : Sees ledger caller id (Err F.NoCrash) → IsDecided basis log disk command (R.Refused F.NoCrash) (settled log) disk
-    not_seen unseen = answered basis log disk disk command (R.Refused F.NoCrash) (Looks-none disk sound) (allowed basis limits ledger rows pending journal disk log stands) kind tt (λ never. absurd never) adds
+    not_seen unseen = answered basis log disk disk command (R.Refused F.NoCrash) (Looks-none disk sound) (allowed basis limits ledger rows pending journal disk log stands) kind tt (λ never. absurd never) (adds (subst (IsGone caller id) stands.holds.events_are (unseen_gone ledger caller id unseen)))
         (λ is_told. decided_as basis log disk disk command (answers (R.Refused F.NoCrash)) (R.Refused F.NoCrash) (settled log) (is ∙ ap (λ (d : Decision). Some d) (unseen_decides decision unseen is_told)) (refl, refl))
 
     pub refuses : (refusal : Refusal) → Sees ledger caller id (Err refusal)
@@ -88,15 +90,15 @@ module _ (basis : Basis) (limits : Limits) (ledger : LedgerState) (rows : List (
 
   pub priority_refused : IsDisk disk → (refusal : Refusal) → Sees ledger caller id (Err refusal)
       → (after : State) × Stands basis limits ledger rows pending journal disk after × IsDecided basis log disk (C.Priority caller id) (R.Refused refusal) after disk
-  priority_refused sound refusal unseen = refuses sound (C.Priority caller id) (decide_priority basis log id) refl (refl, tt) refl refusal unseen
+  priority_refused sound refusal unseen = refuses sound (C.Priority caller id) (decide_priority basis log id) refl (refl, tt) (λ gone. ((gone, refl), refl)) refusal unseen
 
   pub reprocess_refused : IsDisk disk → lacked (C.Reprocess caller id) ≡ None → (refusal : Refusal) → Sees ledger caller id (Err refusal)
       → (after : State) × Stands basis limits ledger rows pending journal disk after × IsDecided basis log disk (C.Reprocess caller id) (R.Refused refusal) after disk
-  reprocess_refused sound permitted refusal unseen = refuses sound (C.Reprocess caller id) (appends (ask id) (R.Asked true true)) refl (permitted, tt) refl refusal unseen
+  reprocess_refused sound permitted refusal unseen = refuses sound (C.Reprocess caller id) (appends (ask id) (R.Asked true true)) refl (permitted, tt) (λ gone. ((gone, refl), refl)) refusal unseen
 
   pub withdraw_refused : IsDisk disk → lacked (C.Withdraw caller id) ≡ None → (refusal : Refusal) → Sees ledger caller id (Err refusal)
       → (after : State) × Stands basis limits ledger rows pending journal disk after × IsDecided basis log disk (C.Withdraw caller id) (R.Refused refusal) after disk
-  withdraw_refused sound permitted refusal unseen = refuses sound (C.Withdraw caller id) (appends (withdraw id) R.Withdrawn) refl (permitted, tt) refl refusal unseen
+  withdraw_refused sound permitted refusal unseen = refuses sound (C.Withdraw caller id) (appends (withdraw id) R.Withdrawn) refl (permitted, tt) (λ gone. ((gone, refl), refl)) refusal unseen
 
   -- ---- crashes that are seen
 
@@ -114,7 +116,7 @@ module _ (basis : Basis) (limits : Limits) (ledger : LedgerState) (rows : List (
     pub priority_passes : IsDisk disk → true ≡ (is_due ledger.log (id_of ledger number) || has_report ledger.log (id_of ledger number)) → IsDecided basis log disk (C.Priority caller id) (R.Asked false false) (settled log) disk
     priority_passes sound done =
         let was : (is_due before id || has_report before id) ≡ true = ap (λ b. b || has_report before id) due_now ∙ (ap (λ b. is_due ledger.log id || b) reported_now ∙ tested true done) in
-        answered basis log disk disk (C.Priority caller id) (R.Asked false false) (Looks-none disk sound) (allowed basis limits ledger rows pending journal disk log stands) refl tt (λ never. absurd never) (held_log basis limits ledger rows pending journal disk log stands id number held, was, refl)
+        answered basis log disk disk (C.Priority caller id) (R.Asked false false) (Looks-none disk sound) (allowed basis limits ledger rows pending journal disk log stands) (refl, refl) tt (λ never. absurd never) (held_log basis limits ledger rows pending journal disk log stands id number held, was, refl, refl)
         (λ is_told. decided_as basis log disk disk (C.Priority caller id) (answers (R.Asked false false)) (R.Asked false false) (settled log)
         (ap (λ (d : Decision). Some d) (seen_decides (decide_priority basis log id) number held shown_it is_told ∙ ap (λ b. if b then answers (R.Asked false false) else appends (ask id) (R.Asked true true)) was)) (refl, refl))
 
@@ -124,14 +126,14 @@ module _ (basis : Basis) (limits : Limits) (ledger : LedgerState) (rows : List (
     priority_asks disk' reply after never wrote =
         let not_yet : (is_due before id || has_report before id) ≡ false = ap (λ b. b || has_report before id) due_now ∙ (ap (λ b. is_due ledger.log id || b) reported_now ∙ tested false never) in
         written_decides basis log disk disk' (C.Priority caller id) (ask id) (ask id) (R.Asked true true) (record {
-          kind = refl;
+          kind = (refl, refl);
           fault_kind = (refl, tt);
           full_kind = (refl, tt);
           plain = tt;
           no_fault = λ fault. fault;
-          adds = (held_log basis limits ledger rows pending journal disk log stands id number held, ap not not_yet, refl);
-          fault_adds = refl;
-          full_adds = refl;
+          adds = (held_log basis limits ledger rows pending journal disk log stands id number held, ap not not_yet, refl, refl);
+          fault_adds = ((held_log basis limits ledger rows pending journal disk log stands id number held, ap not not_yet, refl), refl);
+          full_adds = ((held_log basis limits ledger rows pending journal disk log stands id number held, ap not not_yet, refl), refl);
         }) (λ is_told. refl)
         (λ is_told. ap (λ (d : Decision). Some d) (seen_decides (decide_priority basis log id) number held shown_it is_told ∙ ap (λ b. if b then answers (R.Asked false false) else appends (ask id) (R.Asked true true)) not_yet))
         reply after wrote
@@ -139,25 +141,25 @@ module _ (basis : Basis) (limits : Limits) (ledger : LedgerState) (rows : List (
     pub reprocess_asks : (disk' : DiskTold) (reply : Reply) (after : State) → lacked (C.Reprocess caller id) ≡ None → IsWritten basis log disk (ask id) (R.Asked true true) reply after disk'
         → IsDecided basis log disk (C.Reprocess caller id) reply after disk'
     reprocess_asks disk' reply after permitted wrote = written_decides basis log disk disk' (C.Reprocess caller id) (ask id) (ask id) (R.Asked true true) (record {
-      kind = (refl, refl);
+      kind = (permitted, (refl, refl));
       fault_kind = (permitted, tt);
       full_kind = (permitted, tt);
       plain = tt;
       no_fault = λ fault. fault;
-      adds = (held_log basis limits ledger rows pending journal disk log stands id number held, refl);
-      fault_adds = refl;
-      full_adds = refl;
+      adds = (held_log basis limits ledger rows pending journal disk log stands id number held, refl, refl);
+      fault_adds = ((held_log basis limits ledger rows pending journal disk log stands id number held, refl), refl);
+      full_adds = ((held_log basis limits ledger rows pending journal disk log stands id number held, refl), refl);
     }) (λ is_told. refl) (λ is_told. ap (λ (d : Decision). Some d) (seen_decides (appends (ask id) (R.Asked true true)) number held shown_it is_told)) reply after wrote
 
     pub withdraw_writes : (disk' : DiskTold) (reply : Reply) (after : State) → lacked (C.Withdraw caller id) ≡ None → IsWritten basis log disk (withdraw id) R.Withdrawn reply after disk'
         → IsDecided basis log disk (C.Withdraw caller id) reply after disk'
     withdraw_writes disk' reply after permitted wrote = written_decides basis log disk disk' (C.Withdraw caller id) (withdraw id) (withdraw id) R.Withdrawn (record {
-      kind = tt;
+      kind = (permitted, tt);
       fault_kind = (permitted, tt);
       full_kind = (permitted, tt);
       plain = tt;
       no_fault = λ fault. fault;
-      adds = (held_log basis limits ledger rows pending journal disk log stands id number held, refl);
-      fault_adds = refl;
-      full_adds = refl;
+      adds = (held_log basis limits ledger rows pending journal disk log stands id number held, refl, refl);
+      fault_adds = ((held_log basis limits ledger rows pending journal disk log stands id number held, refl), refl);
+      full_adds = ((held_log basis limits ledger rows pending journal disk log stands id number held, refl), refl);
     }) (λ is_told. refl) (λ is_told. ap (λ (d : Decision). Some d) (seen_decides (appends (withdraw id) R.Withdrawn) number held shown_it is_told)) reply after wrote

@@ -1,5 +1,6 @@
 -- What a command that writes does, from what it settles, decides and appends.
 use Rattle.std.proofs.Common.{◌≡◌, ◌⊎◌, inl, inr, ℕ, ◌<◌, ◌≤◌, Bool, true, false, IsTrue, List, [], ◌∷◌, ◌++◌, Option, Some, None, IsSome, IsSomeAnd, MatchOption, Result, Ok, Err, sym, ap, subst, ◌∙◌, refl, arith, append_assoc}
+use Rattle.std.specs.Option.{option_map}
 use Rattle.std.proofs.lemmas.List.{append-nil, map-append}
 use Rattle.soc_raw.specs.declared.raw_crash.RawCrash.{RawCrash}
 use Rattle.soc_schema.specs.declared.caller.Caller.{Caller}
@@ -20,7 +21,7 @@ use Rattle.soc_desk.specs.Desk.{IfElse, Refuses, Appends, Decides, FailsRead, Fa
 use Rattle.soc_desk.specs.Grows.{BehindDoubt, Writes, Grows}
 use Rattle.soc_desk.specs.Kinds.{IsReplyTo}
 use Rattle.soc_desk.specs.Log.{Change, Kept, keep, event_of, events}
-use Rattle.soc_desk.specs.State.{State, settled, Settles, kept_of, has_room, StandsFor, Allowed, Survives}
+use Rattle.soc_desk.specs.State.{State, doubted, settled, Settles, kept_of, has_room, StandsFor, Allowed, Survives}
 use Rattle.soc_book.specs.inner.Does.{Adds, Does, IsDecided, IsSettledReply}
 use Rattle.soc_book.specs.inner.Pieces.{Begins, IsAppended, IsWritten, RepliesAs}
 use Rattle.soc_book.proofs.Changes.{kept-more}
@@ -30,21 +31,19 @@ use Rattle.soc_book.proofs.Changes.{kept-more}
 -- what is known of each command that writes
 pub record IsWriting (basis : Basis) (command : Command) : Type 0 where
   pub step : (before : State) (reply : Reply) (after : State) → StepWriting basis before command reply after → Step basis before command reply after
-  pub grows : (log : List Event) (reply : Reply) (piece : List Event) → Writes log piece reply (Adds command reply) → Grows log command reply piece
+  pub grows : (log : List Event) (doubt : Option Event) (reply : Reply) (piece : List Event) (after : Option Event) → Writes log doubt piece reply after (Adds basis command reply after) → Grows basis log doubt command reply piece after
   pub no_memory : lacked command ≡ None → IsReplyTo command (R.Refused F.NoMemory)
   pub store_fault : lacked command ≡ None → IsReplyTo command (R.Refused F.StoreFault)
   pub journal_full : lacked command ≡ None → IsReplyTo command (R.Refused F.JournalFull)
-  pub fault_adds : (log : List Event) → Adds command (R.Refused F.StoreFault) log []
   pub unaltered : (reply : Reply) → IsReplyTo command reply → IsAltered reply → ⊥
 
 pub writes_submit : (basis : Basis) (raw : RawCrash) → IsWriting basis (C.Submit raw)
 writes_submit basis raw = record {
   step = λ before reply after step. step;
-  grows = λ log reply piece grows. grows;
+  grows = λ log doubt reply piece after grows. grows;
   no_memory = λ none. (none, tt);
   store_fault = λ none. (none, tt);
   journal_full = λ none. (none, tt);
-  fault_adds = λ log. (tt, refl);
   unaltered = unaltered;
 } where
   unaltered : (reply : Reply) → IsReplyTo (C.Submit raw) reply → IsAltered reply → ⊥
@@ -55,11 +54,10 @@ writes_submit basis raw = record {
 pub writes_priority : (basis : Basis) (caller : Caller) (id : List ℕ) → IsWriting basis (C.Priority caller id)
 writes_priority basis caller id = record {
   step = λ before reply after step. step;
-  grows = λ log reply piece grows. grows;
+  grows = λ log doubt reply piece after grows. grows;
   no_memory = λ none. (none, tt);
   store_fault = λ none. (none, tt);
   journal_full = λ none. (none, tt);
-  fault_adds = λ log. refl;
   unaltered = unaltered;
 } where
   unaltered : (reply : Reply) → IsReplyTo (C.Priority caller id) reply → IsAltered reply → ⊥
@@ -70,11 +68,10 @@ writes_priority basis caller id = record {
 pub writes_reprocess : (basis : Basis) (caller : Caller) (id : List ℕ) → IsWriting basis (C.Reprocess caller id)
 writes_reprocess basis caller id = record {
   step = λ before reply after step. step;
-  grows = λ log reply piece grows. grows;
+  grows = λ log doubt reply piece after grows. grows;
   no_memory = λ none. (none, tt);
   store_fault = λ none. (none, tt);
   journal_full = λ none. (none, tt);
-  fault_adds = λ log. refl;
   unaltered = unaltered;
 } where
   unaltered : (reply : Reply) → IsReplyTo (C.Reprocess caller id) reply → IsAltered reply → ⊥
@@ -85,11 +82,10 @@ writes_reprocess basis caller id = record {
 pub writes_withdraw : (basis : Basis) (caller : Caller) (id : List ℕ) → IsWriting basis (C.Withdraw caller id)
 writes_withdraw basis caller id = record {
   step = λ before reply after step. step;
-  grows = λ log reply piece grows. grows;
+  grows = λ log doubt reply piece after grows. grows;
   no_memory = λ none. (none, tt);
   store_fault = λ none. (none, tt);
   journal_full = λ none. (none, tt);
-  fault_adds = λ log. refl;
   unaltered = unaltered;
 } where
   unaltered : (reply : Reply) → IsReplyTo (C.Withdraw caller id) reply → IsAltered reply → ⊥
@@ -117,30 +113,42 @@ allowed_settled log None log' same image (inr never) = absurd never
 allowed_settled log (Some change) log' settles image (inr never) = absurd never
 
 -- what is appended behind a doubt that was kept, or without one
-gains_behind : (basis : Basis) (log : List Change) (doubt : Option Kept) (log' own after : List Change) (command : Command) (reply : Reply) (Adding : List Event → List Event → Type 0)
-    → ((piece : List Event) → BehindDoubt (events basis log) piece Adding → Grows (events basis log) command reply piece) → Settles log doubt log' → after ≡ log' ++ own → Adding (events basis log') (events basis own)
-    → Gains basis log command reply after
-gains_behind basis log None log' own after command reply Adding grows same behind adds = record {
+gains_behind : (basis : Basis) (before : State) (doubt : Option Kept) (log own : List Change) (after : State) (command : Command) (reply : Reply) (Adding : List Event → List Event → Type 0)
+    → ((piece : List Event) → BehindDoubt (events basis before.log) (option_map (λ change. event_of basis (keep change)) doubt) piece Adding → Grows basis (events basis before.log) (doubted basis before) command reply piece (doubted basis after))
+    → Settles before.log doubt log → after.log ≡ log ++ own → Adding (events basis log) (events basis own) → Gains basis before command reply after
+gains_behind basis before None log own after command reply Adding grows same behind adds = record {
   piece = own;
   behind = behind ∙ ap (λ (l : List Change). l ++ own) same;
-  grows = grows (events basis own) (inl (subst (λ (l : List Change). Adding (events basis l) (events basis own)) same adds));
+  grows = grows (events basis own) (subst (λ (l : List Change). Adding (events basis l) (events basis own)) same adds);
 }
-gains_behind basis log (Some change) log' own after command reply Adding grows (inl kept) behind adds = record {
+gains_behind basis before (Some change) log own after command reply Adding grows (inl kept) behind adds = record {
   piece = keep change ∷ own;
-  behind = behind ∙ (ap (λ (l : List Change). l ++ own) kept ∙ append_assoc log (keep change ∷ []) own);
+  behind = behind ∙ (ap (λ (l : List Change). l ++ own) kept ∙ append_assoc before.log (keep change ∷ []) own);
   grows = grows (events basis (keep change ∷ own))
-      (inr (event_of basis (keep change), events basis own, refl, subst (λ (l : List Event). Adding l (events basis own)) (ap (events basis) kept ∙ map-append (event_of basis) log (keep change ∷ [])) adds));
+      (inr (events basis own, refl, subst (λ (l : List Event). Adding l (events basis own)) (ap (events basis) kept ∙ map-append (event_of basis) before.log (keep change ∷ [])) adds));
 }
-gains_behind basis log (Some change) log' own after command reply Adding grows (inr dropped) behind adds = record {
+gains_behind basis before (Some change) log own after command reply Adding grows (inr dropped) behind adds = record {
   piece = own;
   behind = behind ∙ ap (λ (l : List Change). l ++ own) dropped;
   grows = grows (events basis own) (inl (subst (λ (l : List Change). Adding (events basis l) (events basis own)) dropped adds));
 }
 
-plain_writes : (log piece : List Event) (reply : Reply) (Adding : List Event → List Event → Type 0) → IsSettledReply reply → BehindDoubt log piece Adding → Writes log piece reply Adding
-plain_writes log piece (R.Refused F.NoMemory) Adding plain behind = absurd plain
-plain_writes log piece (R.Refused (F.NoPermission name)) Adding plain behind = absurd plain
-plain_writes log piece _ Adding plain behind = behind
+plain_writes : (log : List Event) (doubt : Option Event) (piece : List Event) (reply : Reply) (after : Option Event) (Adding : List Event → List Event → Type 0) → IsSettledReply reply → BehindDoubt log doubt piece Adding
+    → Writes log doubt piece reply after Adding
+plain_writes log doubt piece (R.Refused F.NoMemory) after Adding plain behind = absurd plain
+plain_writes log doubt piece (R.Refused (F.NoPermission name)) after Adding plain behind = absurd plain
+plain_writes log doubt piece (R.Refused F.StoreFault) after Adding plain behind = inr behind
+plain_writes log doubt piece _ after Adding plain behind = behind
+
+-- a doubt is one of an event
+pub mapped_some : {A B : Type 0} (f : A → B) (o : Option A) → IsSome o → IsSome (option_map f o)
+mapped_some f None some = some
+mapped_some f (Some x) some = refl
+
+-- nothing of the doubt was kept
+pub without_doubt : (log : List Event) (doubt : Option Event) (piece : List Event) (Adding : List Event → List Event → Type 0) → Adding log piece → BehindDoubt log doubt piece Adding
+without_doubt log None piece Adding adds = adds
+without_doubt log (Some event) piece Adding adds = inl adds
 
 -- ---- before the log decides
 
@@ -150,11 +158,11 @@ module _ (basis : Basis) (command : Command) (writing : IsWriting basis command)
   survives_same is_told = LeavesOnly-weaker disk disk' disk.images (λ image. Allowed before image ⊎ Allowed before image) (λ image left. inl (allowed is_told image left)) looks.any_moment
 
   -- the state stays
-  early : (reply : Reply) → IsReplyTo command reply → Writes (events basis before.log) [] reply (Adds command reply) → (IsStoreFault reply → DiskFailed disk disk') → StepWriting basis before command reply before
+  early : (reply : Reply) → IsReplyTo command reply → Writes (events basis before.log) (doubted basis before) [] reply (doubted basis before) (Adds basis command reply (doubted basis before)) → (IsStoreFault reply → DiskFailed disk disk') → StepWriting basis before command reply before
       → Does basis before disk command reply before disk'
   early reply kind grows fault step = record {
     kind = kind;
-    gains = record { piece = []; behind = sym (append-nil before.log); grows = writing.grows (events basis before.log) reply [] grows };
+    gains = record { piece = []; behind = sym (append-nil before.log); grows = writing.grows (events basis before.log) (doubted basis before) reply [] (doubted basis before) grows };
     goes_on = looks.goes_on;
     fault = fault;
     altered = λ is. absurd (writing.unaltered reply kind is);
@@ -162,18 +170,26 @@ module _ (basis : Basis) (command : Command) (writing : IsWriting basis command)
     survives = survives_same;
   }
 
+  -- what a step does where the permission isn't lacked
+  abbrev Permitted : Reply → State → Type 0
+  Permitted reply after = Refuses before F.NoMemory reply after ⊎ (FailsMend before reply after ⊎ SettlesAndDecides basis before command reply after)
+
+  allowed_step : (reply : Reply) (after : State) → lacked command ≡ None → Permitted reply after → StepWriting basis before command reply after
+  allowed_step reply after permitted step =
+      subst (λ (o : Option Permission). MatchOption o (Permitted reply after) (λ n. Refuses before (F.NoPermission n) reply after)) (sym permitted) step
+
   pub lacks_permission : (name : Permission) → lacked command ≡ Some name → Does basis before disk command (R.Refused (F.NoPermission name)) before disk'
-  lacks_permission name lacks = early (R.Refused (F.NoPermission name)) lacks refl (λ never. absurd never)
-      (inr (subst (λ (o : Option Permission). MatchOption o (FailsMend before (R.Refused (F.NoPermission name)) before ⊎ SettlesAndDecides basis before command (R.Refused (F.NoPermission name)) before)
-      (λ n. Refuses before (F.NoPermission n) (R.Refused (F.NoPermission name)) before)) (sym lacks) (refl, refl)))
+  lacks_permission name lacks = early (R.Refused (F.NoPermission name)) lacks (refl, refl) (λ never. absurd never)
+      (subst (λ (o : Option Permission). MatchOption o (Permitted (R.Refused (F.NoPermission name)) before) (λ n. Refuses before (F.NoPermission n) (R.Refused (F.NoPermission name)) before)) (sym lacks) (refl, refl))
 
   pub wants_memory : lacked command ≡ None → Does basis before disk command (R.Refused F.NoMemory) before disk'
-  wants_memory permitted = early (R.Refused F.NoMemory) (writing.no_memory permitted) refl (λ never. absurd never) (inl (refl, refl))
+  wants_memory permitted =
+      early (R.Refused F.NoMemory) (writing.no_memory permitted) (refl, refl) (λ never. absurd never) (allowed_step (R.Refused F.NoMemory) before permitted (inl (refl, refl)))
 
   pub fails_mend : lacked command ≡ None → IsSome before.doubt → DiskFailed disk disk' → Does basis before disk command (R.Refused F.StoreFault) before disk'
-  fails_mend permitted doubt failed = early (R.Refused F.StoreFault) (writing.store_fault permitted) (inl (writing.fault_adds (events basis before.log))) (λ is. failed)
-      (inr (subst (λ (o : Option Permission). MatchOption o (FailsMend before (R.Refused F.StoreFault) before ⊎ SettlesAndDecides basis before command (R.Refused F.StoreFault) before)
-      (λ n. Refuses before (F.NoPermission n) (R.Refused F.StoreFault) before)) (sym permitted) (inl (doubt, (refl, refl)))))
+  fails_mend permitted doubt failed = early (R.Refused F.StoreFault) (writing.store_fault permitted)
+      (inl (mapped_some (λ change. event_of basis (keep change)) before.doubt doubt, (refl, refl))) (λ is. failed)
+      (allowed_step (R.Refused F.StoreFault) before permitted (inr (inl (doubt, (refl, refl)))))
 
   -- the doubt isn't settled
   pub doesnt_begin : (Now : State → Type 0) (refusal : Refusal) → lacked command ≡ None → Begins before disk disk' (Err refusal) Now → (after : State) × Now after × Does basis before disk command (R.Refused refusal) after disk'
@@ -203,14 +219,14 @@ module _ (basis : Basis) (command : Command) (writing : IsWriting basis command)
     pub does_behind : Does basis before disk command reply after disk''
     does_behind = record {
       kind = decided.kind;
-      gains = gains_behind basis before.log before.doubt log decided.own after.log command reply (Adds command reply)
-          (λ piece behind. writing.grows (events basis before.log) reply piece (plain_writes (events basis before.log) piece reply (Adds command reply) decided.plain behind)) settles decided.behind decided.adds;
+      gains = gains_behind basis before before.doubt log decided.own after command reply (Adds basis command reply (doubted basis after))
+          (λ piece behind. writing.grows (events basis before.log) (doubted basis before) reply piece (doubted basis after)
+          (plain_writes (events basis before.log) (doubted basis before) piece reply (doubted basis after) (Adds basis command reply (doubted basis after)) decided.plain behind)) settles decided.behind decided.adds;
       goes_on = GoesOn-append disk disk' disk'' looks.goes_on decided.goes_on;
       fault = λ is. failed_later disk disk' disk'' looks.goes_on (decided.fault is);
       altered = λ is. absurd (writing.unaltered reply decided.kind is);
       step = λ is_told. writing.step before reply after
-          (inr (subst (λ (o : Option Permission). MatchOption o (FailsMend before reply after ⊎ SettlesAndDecides basis before command reply after) (λ n. Refuses before (F.NoPermission n) reply after)) (sym permitted)
-          (inr (record { log = log; settles = settles; decides = decided.decides is_told }))));
+          (allowed_step reply after permitted (inr (inr (record { log = log; settles = settles; decides = decided.decides is_told }))));
       survives = survives_both;
     }
 
@@ -226,7 +242,7 @@ module _ (basis : Basis) (command : Command) (writing : IsWriting basis command)
 module _ (basis : Basis) (log : List Change) (disk disk' : DiskTold) (command : Command) where
   -- an answer: nothing is written
   pub answered : (said : Reply) → Looks disk disk' → (IsTrue basis.is_told → (image : List ℕ) → disk.images image → Allowed (settled log) image) → IsReplyTo command said → IsSettledReply said
-      → (IsStoreFault said → DiskFailed disk disk') → Adds command said (events basis log) []
+      → (IsStoreFault said → DiskFailed disk disk') → Adds basis command said None (events basis log) []
       → (IsTrue basis.is_told → IsSomeAnd (decide basis log command) (λ decision. Decides basis log decision said (settled log)) ⊎ FailsRead basis log command said (settled log))
       → IsDecided basis log disk command said (settled log) disk'
   answered said looks allowed kind plain fault adds decides = record {
@@ -255,9 +271,9 @@ module _ (basis : Basis) (log : List Change) (disk disk' : DiskTold) (command : 
     pub full_kind : IsReplyTo command (R.Refused F.JournalFull)
     pub plain : IsSettledReply written
     pub no_fault : IsStoreFault written → ⊥
-    pub adds : Adds command written (events basis log) (event_of basis (keep change) ∷ [])
-    pub fault_adds : Adds command (R.Refused F.StoreFault) (events basis log) []
-    pub full_adds : Adds command (R.Refused F.JournalFull) (events basis log) []
+    pub adds : Adds basis command written None (events basis log) (event_of basis (keep change) ∷ [])
+    pub fault_adds : Adds basis command (R.Refused F.StoreFault) (Some (event_of basis (keep change))) (events basis log) []
+    pub full_adds : Adds basis command (R.Refused F.JournalFull) None (events basis log) []
 
   module _ (change told : Kept) (written : Reply) (may : MayAppend change written) (same : IsTrue basis.is_told → change ≡ told) (is : IsTrue basis.is_told → decide basis log command ≡ Some (appends told written)) where
     decides_to : (b : Bool) (reply : Reply) (after : State) → IsTrue basis.is_told → has_room basis log change ≡ b
@@ -275,7 +291,8 @@ module _ (basis : Basis) (log : List Change) (disk disk' : DiskTold) (command : 
       plain = subst IsSettledReply (sym said) may.plain;
       own = keep change ∷ [];
       behind = ap (λ (s : State). s.log) did.ends.0;
-      adds = subst (λ (r : Reply). Adds command r (events basis log) (event_of basis (keep change) ∷ [])) (sym said) may.adds;
+      adds = subst (λ (s : State). Adds basis command reply (doubted basis s) (events basis log) (event_of basis (keep change) ∷ [])) (sym did.ends.0)
+          (subst (λ (r : Reply). Adds basis command r None (events basis log) (event_of basis (keep change) ∷ [])) (sym said) may.adds);
       goes_on = did.goes_on;
       fault = λ fault. absurd (may.no_fault (subst IsStoreFault said fault));
       decides = λ is_told. decides_to true reply after is_told (did.ends.1 is_told) (inl (said, did.ends.0));
@@ -286,7 +303,8 @@ module _ (basis : Basis) (log : List Change) (disk disk' : DiskTold) (command : 
       plain = subst IsSettledReply (sym said) tt;
       own = [];
       behind = ap (λ (s : State). s.log) did.ends.0 ∙ sym (append-nil log);
-      adds = subst (λ (r : Reply). Adds command r (events basis log) []) (sym said) may.fault_adds;
+      adds = subst (λ (s : State). Adds basis command reply (doubted basis s) (events basis log) []) (sym did.ends.0)
+          (subst (λ (r : Reply). Adds basis command r (Some (event_of basis (keep change))) (events basis log) []) (sym said) may.fault_adds);
       goes_on = did.goes_on;
       fault = λ fault. did.ends.1;
       decides = λ is_told. decides_to true reply after is_told (did.ends.2 is_told) (inr (said, did.ends.0));
@@ -297,7 +315,8 @@ module _ (basis : Basis) (log : List Change) (disk disk' : DiskTold) (command : 
       plain = subst IsSettledReply (sym said) tt;
       own = [];
       behind = ap (λ (s : State). s.log) did.ends.0 ∙ sym (append-nil log);
-      adds = subst (λ (r : Reply). Adds command r (events basis log) []) (sym said) may.full_adds;
+      adds = subst (λ (s : State). Adds basis command reply (doubted basis s) (events basis log) []) (sym did.ends.0)
+          (subst (λ (r : Reply). Adds basis command r None (events basis log) []) (sym said) may.full_adds);
       goes_on = did.goes_on;
       fault = λ fault. absurd (subst IsStoreFault said fault);
       decides = λ is_told. decides_to false reply after is_told (did.ends.1 is_told) (said, did.ends.0);

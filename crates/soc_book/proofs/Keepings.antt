@@ -33,9 +33,10 @@ use Rattle.soc_desk.specs.declared.desk.Reply.{Reply}
 use Rattle.soc_desk.specs.declared.desk.Reply.TheVariants as R
 use Rattle.soc_desk.specs.Basis.{Basis, RowsTell}
 use Rattle.soc_desk.specs.Desk.{IfElse}
-use Rattle.soc_desk.specs.Keeps.{Counts, IsPartOf, KeepAllows, KeepGrows, KeepsEach, Reports, StandsBetween, ids_to_keep, is_passed_over, is_to_keep, kept_with_doubt, report_of, to_keep_of}
+use Rattle.soc_desk.specs.Grows.{BehindDoubt}
+use Rattle.soc_desk.specs.Keeps.{EndsReports, IsPartOf, KeepAllows, KeepGrows, KeepsEach, Reports, StandsBetween, ids_to_keep, is_passed_over, is_to_keep, kept_with_doubt, report_of, to_keep_of}
 use Rattle.soc_desk.specs.Log.{Accepted, Change, Kept, KeptReport, report, keep, accepted_of, event_of, events, is_own, raw_of, row_in, IsLegal}
-use Rattle.soc_desk.specs.State.{State, IsLegalState, Settles, settled, Survives, Allowed, StandsFor, body_of, entry_of, entries_of, has_room, kept_in, kept_of}
+use Rattle.soc_desk.specs.State.{State, doubted, IsLegalState, Settles, settled, Survives, Allowed, StandsFor, body_of, entry_of, entries_of, has_room, kept_in, kept_of}
 use Rattle.soc_desk.proofs.Logs.{accepted_apart, events-more}
 use Rattle.soc_book.specs.declared.book.Change.{Change as Pending}
 use Rattle.soc_book.specs.declared.book.Change.TheVariants as P
@@ -45,7 +46,7 @@ use Rattle.soc_book.specs.inner.Keepings.{EndsEntry, EndsOne, IsEntryOfRow, IsOw
 use Rattle.soc_book.specs.inner.Pieces.{Begins, EndsAs, IsAppended, product_at}
 use Rattle.soc_book.specs.inner.Stands.{IsFiled, IsPending, Stands}
 use Rattle.soc_book.proofs.Changes.{IsSoundCrash, kept-more, legal-next, sound_crashes}
-use Rattle.soc_book.proofs.Deciding.{failed_later}
+use Rattle.soc_book.proofs.Deciding.{failed_later, mapped_some, without_doubt}
 use Rattle.soc_book.proofs.Filing.{all_got, filed_at, found_at, got, id_of-got}
 use Rattle.soc_book.proofs.Kept.{held_id}
 use Rattle.soc_book.proofs.Pushing.{ids}
@@ -317,12 +318,12 @@ module _ (basis : Basis) (digest : List ℕ) (digest_is : basis.digest ≡ Some 
   all_ids : to_keep_of basis (events basis log) ≡ rest_ids (events basis log) 0
   all_ids = ap (λ (o : Option (List ℕ)). if is_some o then filter (is_to_keep (events basis log)) (held_ids (events basis log)) else []) digest_is ∙ sym (rest_all (events basis log))
 
-  reports_end : (reply : Reply) → Counts reply (length so.own) → Reports basis reply (events basis log) (events basis so.piece)
-  reports_end reply counts = record {
+  reports_end : (reply : Reply) (after : Option Event) → EndsReports basis reply (events basis log) so.own after → Reports basis reply after (events basis log) (events basis so.piece)
+  reports_end reply after ends = record {
     ids = so.own;
     among = subst (λ ids. IsPartOf so.own ids) (sym all_ids) (subst (λ own. IsPartOf own (rest_ids (events basis log) 0)) (append-nil so.own) (so.among [] tt));
     own_is = so.events_are;
-    count = counts;
+    ends = ends;
   }
 
   each_end : (reply : Reply) (after : State) → IsTrue basis.is_told → KeepsEach basis now (rest_ids (events basis now) number) count reply after → KeepsEach basis log (ids_to_keep basis log) 0 reply after
@@ -332,7 +333,7 @@ module _ (basis : Basis) (digest : List ℕ) (digest_is : basis.digest ≡ Some 
   all_kept all = record {
     piece = so.piece;
     behind = so.behind;
-    reports = reports_end (R.Kept count) so.count_is;
+    reports = reports_end (R.Kept count) None (so.count_is, refl);
     goes_on = so.goes_on;
     fault = λ none. absurd none;
     keeps = λ is_told. each_end (R.Kept count) (settled now) is_told (subst (λ ids. KeepsEach basis now ids count (R.Kept count) (settled now)) (sym (rest_none (events basis now) number all)) (refl, refl));
@@ -402,7 +403,7 @@ module _ (basis : Basis) (digest : List ℕ) (digest_is : basis.digest ≡ Some 
     memory_wanted disk' one = record {
       piece = so.piece;
       behind = so.behind;
-      reports = reports_end (R.Refused F.NoMemory) tt;
+      reports = reports_end (R.Refused F.NoMemory) None refl;
       goes_on = GoesOn-append first disk disk' so.goes_on one.goes_on;
       fault = λ none. absurd none;
       keeps = λ is_told. each_end (R.Refused F.NoMemory) (settled now) is_told
@@ -450,12 +451,20 @@ module _ (basis : Basis) (digest : List ℕ) (digest_is : basis.digest ≡ Some 
           LeavesOnly-append first disk disk' P so.goes_on goes_on (LeavesOnly-weaker first disk (StandsBetween (kept_of log) (kept_of now)) P wider (so.survives is_told))
           (LeavesOnly-weaker disk disk' (λ image. Allowed (settled now) image ⊎ Allowed after image) P at_each survives)
 
+      event_is : event_of basis (keep (report made)) ≡ E.Reported id true
+      event_is = ap (λ x. E.Reported x (is_own basis made.digest)) own_is.id_is ∙ ap (λ b. E.Reported id b) own_is.own
+
+      -- its report is the next one to be kept
+      one_among : IsPartOf (so.own ++ id ∷ []) (to_keep_of basis (events basis log))
+      one_among =
+          subst (λ ids. IsPartOf (so.own ++ id ∷ []) ids) (sym all_ids) (so.among (id ∷ []) (subst (λ ids. IsPartOf (id ∷ []) ids) (sym (rest_takes ev_now number id at wanted)) (inl (refl, tt))))
+
       pub write_failed : (disk' : DiskTold) → DiskFailed disk disk' → (IsTrue basis.is_told → is_passed_over basis now made ≡ false) → GoesOn disk disk' → (IsTrue basis.is_told → Survives disk disk' (settled now) doubtful)
           → KeepsAll basis log first (Err F.StoreFault) doubtful disk'
       write_failed disk' failed fits goes_on survives = record {
         piece = so.piece;
         behind = so.behind;
-        reports = reports_end (R.Refused F.StoreFault) tt;
+        reports = reports_end (R.Refused F.StoreFault) (doubted basis doubtful) (id, one_among, ap (λ (e : Event). Some e) event_is);
         goes_on = GoesOn-append first disk disk' so.goes_on goes_on;
         fault = λ is. failed_later first disk disk' so.goes_on failed;
         keeps = λ is_told. each_end (R.Refused F.StoreFault) doubtful is_told (appends_each (R.Refused F.StoreFault) doubtful is_told (fits is_told) (inl (refl, refl)));
@@ -463,9 +472,6 @@ module _ (basis : Basis) (digest : List ℕ) (digest_is : basis.digest ≡ Some 
       }
 
       module _ (distinct : AreDistinct (accepted_ids (events basis now))) where
-        event_is : event_of basis (keep (report made)) ≡ E.Reported id true
-        event_is = ap (λ x. E.Reported x (is_own basis made.digest)) own_is.id_is ∙ ap (λ b. E.Reported id b) own_is.own
-
         events_now : events basis now' ≡ ev_now ++ E.Reported id true ∷ []
         events_now = events-more basis now (keep (report made)) ∙ ap (λ (e : Event). ev_now ++ e ∷ []) event_is
 
@@ -542,9 +548,13 @@ module _ (basis : Basis) (limits : Limits) (ledger : LedgerState) (rows : List (
 
 -- ---- with a doubt before
 
-settled_piece : (before : List Change) (doubt : Option Kept) (log : List Change) → Settles before doubt log → (log ≡ before) ⊎ ((change : Kept) × (log ≡ before ++ keep change ∷ []))
+grows_settled : (basis : Basis) (reply : Reply) (log : List Event) (doubt : Option Event) (piece : List Event) (after : Option Event) → BehindDoubt log doubt piece (Reports basis reply after) → KeepGrows basis reply log doubt piece after
+grows_settled basis (R.Refused F.StoreFault) log doubt piece after behind = inr behind
+grows_settled basis _ log doubt piece after behind = behind
+
+settled_piece : (before : List Change) (doubt : Option Kept) (log : List Change) → Settles before doubt log → (log ≡ before) ⊎ ((change : Kept) × (log ≡ before ++ keep change ∷ []) × (doubt ≡ Some change))
 settled_piece before None log settles = inl settles
-settled_piece before (Some change) log (inl kept) = inr (change, kept)
+settled_piece before (Some change) log (inl kept) = inr (change, kept, refl)
 settled_piece before (Some change) log (inr dropped) = inl dropped
 
 module _ (basis : Basis) (state : State) (disk disk1 disk2 : DiskTold) (looks : Looks disk disk1) (allowed : IsTrue basis.is_told → (image : List ℕ) → disk.images image → Allowed state image) (log : List Change) (settles : Settles state.log state.doubt log)
@@ -555,7 +565,7 @@ module _ (basis : Basis) (state : State) (disk disk1 disk2 : DiskTold) (looks : 
       (LeavesOnly-weaker disk disk1 disk.images (KeepAllows state after) (λ image left. inl (allowed is_told image left)) looks.any_moment)
       (LeavesOnly-weaker disk1 disk2 (StandsBetween (kept_of log) (kept_with_doubt after)) (KeepAllows state after) (λ image left. inr (wider image left)) (k.survives is_told))
 
-  keeps_by : (piece : List Change) → after.log ≡ state.log ++ piece → KeepGrows basis (keep_reply answer) (events basis state.log) (events basis piece)
+  keeps_by : (piece : List Change) → after.log ≡ state.log ++ piece → KeepGrows basis (keep_reply answer) (events basis state.log) (doubted basis state) (events basis piece) (doubted basis after)
       → ((image : List ℕ) → StandsBetween (kept_of log) (kept_with_doubt after) image → StandsBetween (kept_of state.log) (kept_with_doubt after) image) → KeepsReports basis state disk (keep_reply answer) after disk2
   keeps_by piece behind grows wider = record {
     piece = piece;
@@ -569,18 +579,24 @@ module _ (basis : Basis) (state : State) (disk disk1 disk2 : DiskTold) (looks : 
     allowed = allowed_after;
   }
 
+  -- reports that stand behind the change in doubt, which was kept
+  behind_kept : (change : Kept) → Some change ≡ state.doubt → Reports basis (keep_reply answer) (doubted basis after) (events basis state.log ++ event_of basis (keep change) ∷ []) (events basis k.piece)
+      → BehindDoubt (events basis state.log) (doubted basis state) (events basis (keep change ∷ k.piece)) (Reports basis (keep_reply answer) (doubted basis after))
+  behind_kept change is reports =
+      let P : Option Kept → Type 0 = λ o. BehindDoubt (events basis state.log) (option_map (λ c. event_of basis (keep c)) o) (events basis (keep change ∷ k.piece)) (Reports basis (keep_reply answer) (doubted basis after)) in
+      subst P is (inr (events basis k.piece, refl, reports))
+
   pub keeps_settled : KeepsReports basis state disk (keep_reply answer) after disk2
   keeps_settled = elim (settled_piece state.log state.doubt log settles) [
     | inl same ↦ keeps_by k.piece (k.behind ∙ ap (λ (l : List Change). l ++ k.piece) same)
-        (inl (subst (λ (l : List Change). Reports basis (keep_reply answer) (events basis l) (events basis k.piece)) same k.reports))
+        (grows_settled basis (keep_reply answer) (events basis state.log) (doubted basis state) (events basis k.piece) (doubted basis after)
+        (without_doubt (events basis state.log) (doubted basis state) (events basis k.piece) (Reports basis (keep_reply answer) (doubted basis after))
+        (subst (λ (l : List Change). Reports basis (keep_reply answer) (doubted basis after) (events basis l) (events basis k.piece)) same k.reports)))
         (λ image between. subst (λ (l : List Change). StandsBetween (kept_of l) (kept_with_doubt after) image) same between)
     | inr kept ↦ keeps_by (keep kept.0 ∷ k.piece) (k.behind ∙ (ap (λ (l : List Change). l ++ k.piece) kept.1 ∙ append_assoc state.log (keep kept.0 ∷ []) k.piece))
-        (inr (
-          event_of basis (keep kept.0),
-          events basis k.piece,
-          refl,
-          subst (λ (es : List Event). Reports basis (keep_reply answer) es (events basis k.piece)) (ap (λ (l : List Change). events basis l) kept.1 ∙ events-more basis state.log (keep kept.0)) k.reports,
-        ))
+        (grows_settled basis (keep_reply answer) (events basis state.log) (doubted basis state) (events basis (keep kept.0 ∷ k.piece)) (doubted basis after)
+        (behind_kept kept.0 (sym kept.2)
+        (subst (λ (es : List Event). Reports basis (keep_reply answer) (doubted basis after) es (events basis k.piece)) (ap (λ (l : List Change). events basis l) kept.1 ∙ events-more basis state.log (keep kept.0)) k.reports)))
         (λ image between. between_behind (kept_of state.log) (kept.0 ∷ []) (kept_with_doubt after) image
         (subst (λ (ks : List Kept). StandsBetween ks (kept_with_doubt after) image) (ap kept_of kept.1 ∙ kept-more state.log kept.0) between))
   ]
@@ -590,7 +606,7 @@ pub nothing_kept : (basis : Basis) (log : List Change) (disk : DiskTold) → bas
 nothing_kept basis log disk none sound allowed = record {
   piece = [];
   behind = sym (append-nil log);
-  reports = record { ids = []; among = tt; own_is = refl; count = refl };
+  reports = record { ids = []; among = tt; own_is = refl; ends = (refl, refl) };
   goes_on = GoesOn-none disk sound;
   fault = λ is. absurd is;
   keeps = λ is_told.
@@ -608,7 +624,7 @@ pub mend_failed : (basis : Basis) (state : State) (disk disk' : DiskTold) → Lo
 mend_failed basis state disk disk' looks some failed legal allowed = record {
   piece = [];
   behind = sym (append-nil state.log);
-  grows = inl (record { ids = []; among = tt; own_is = refl; count = tt });
+  grows = inl (mapped_some (λ change. event_of basis (keep change)) state.doubt some, (refl, refl));
   legal = legal;
   goes_on = looks.goes_on;
   fault = λ is. failed;

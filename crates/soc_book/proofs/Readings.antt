@@ -1,5 +1,5 @@
 -- What the commands that read do.
-use Rattle.std.proofs.Common.{◌≡◌, ℕ, Bool, true, false, not, ◌&&◌, IsTrue, List, [], ◌∷◌, Option, Some, None, MatchOption, cond, sym, ap, subst, ◌∙◌, refl, inl, inr, append-nil}
+use Rattle.std.proofs.Common.{◌≡◌, ℕ, Bool, true, false, not, ◌&&◌, IsTrue, List, [], ◌∷◌, Option, Some, None, MatchOption, cond, sym, ap, subst, ◌∙◌, refl, inl, inr, ⊎_elim, append-nil}
 use Rattle.std.specs.Prelude.{is_some, filter, Result, Ok, Err, if◌then◌else◌}
 use Rattle.std.specs.List.{AllByRecursion}
 use Rattle.std.specs.Option.{option_map, option_map_or, option_and_then}
@@ -12,7 +12,7 @@ use Rattle.soc_schema.specs.declared.permission.Permission.{Permission}
 use Rattle.soc_schema.specs.declared.permission.Permission.TheVariants.{ViewRawdump}
 use Rattle.soc_schema.specs.declared.value.Cell.{Cell}
 use Rattle.soc_schema.specs.Fields.{permission_of_annotation}
-use Rattle.soc_schema.specs.Permits.{holds, is_granted, granted_annotations, granted_cells}
+use Rattle.soc_schema.specs.Permits.{holds, is_granted, granted_annotations, granted_cells, shows}
 use Rattle.soc_store.specs.Stored.{row_at}
 use Rattle.soc_edge.specs.Disk.{DiskTold, Looks, DiskFailed}
 use Rattle.soc_journal.specs.States.{JournalState}
@@ -30,16 +30,17 @@ use Rattle.soc_desk.specs.Asks.{IsStoreFault, IsAltered}
 use Rattle.soc_desk.specs.Basis.{Basis}
 use Rattle.soc_desk.specs.Decisions.{lacked, without}
 use Rattle.soc_desk.specs.Desk.{IfPermitted, Refuses, Step}
-use Rattle.soc_desk.specs.Grows.{Grows}
+use Rattle.soc_desk.specs.Grows.{Grows, IsGone}
 use Rattle.soc_desk.specs.Kinds.{IsReplyTo}
 use Rattle.soc_desk.specs.Log.{events, raw_of, row_in}
 use Rattle.soc_desk.specs.Reads.{raw_reply, processed_reply, dump_reply, no_crash}
-use Rattle.soc_desk.specs.State.{State}
+use Rattle.soc_desk.specs.State.{State, doubted}
 use Rattle.soc_desk.specs.View.{seen_of, view_of}
+use Rattle.soc_desk.proofs.Found.{shows_all}
 use Rattle.soc_desk.proofs.Views.{true_is_not_false}
 use Rattle.soc_book.specs.declared.book.Change.{Change as Pending}
 use Rattle.soc_book.specs.inner.Does.{Does}
-use Rattle.soc_book.specs.inner.Pieces.{IsHeldAs, IsRead, Sees}
+use Rattle.soc_book.specs.inner.Pieces.{IsHeldAs, IsRead, Sees, product_at}
 use Rattle.soc_book.specs.inner.Stands.{HasRow, Stands}
 use Rattle.soc_book.proofs.Lookups.{held_is, TellsOf, tells_of, shown_view, shown_in, unseen_view, survives_looking}
 
@@ -73,14 +74,27 @@ pub cells_granted : (caller : Caller) (row : List Cell) → AllByRecursion (λ c
 cells_granted caller row = all_passing (λ cell. is_granted caller cell.field) row
 
 -- what is shown is granted
-pub raw_kind : (caller : Caller) (shown pairs : List (List ℕ × List ℕ)) → shown ≡ granted_annotations caller pairs → AllByRecursion (λ pair. IsTrue (holds caller.permissions (permission_of_annotation pair.0))) shown
-raw_kind caller shown pairs is = subst (AllByRecursion (λ pair. IsTrue (holds caller.permissions (permission_of_annotation pair.0)))) (sym is) (annotations_granted caller pairs)
+pub raw_kind : (caller : Caller) (id : List ℕ) (shown pairs : List (List ℕ × List ℕ)) → shown ≡ granted_annotations caller pairs → IsReplyTo (C.Raw caller id) (R.Raw shown)
+raw_kind caller id shown pairs is = (refl, subst (AllByRecursion (λ pair. IsTrue (holds caller.permissions (permission_of_annotation pair.0)))) (sym is) (annotations_granted caller pairs))
 
-pub row_kind : (caller : Caller) (row : List Cell) (o : Option (ℕ × List Cell)) → Some row ≡ option_map (λ s. granted_cells caller s.1) o → AllByRecursion (λ cell. IsTrue (is_granted caller cell.field)) row
-row_kind caller row None is = cc
-row_kind caller row (Some s) is =
+granted_row : (caller : Caller) (row : List Cell) (o : Option (ℕ × List Cell)) → Some row ≡ option_map (λ s. granted_cells caller s.1) o → AllByRecursion (λ cell. IsTrue (is_granted caller cell.field)) row
+granted_row caller row None is = cc
+granted_row caller row (Some s) is =
     let same : row ≡ granted_cells caller s.1 = cc in
     subst (AllByRecursion (λ cell. IsTrue (is_granted caller cell.field))) (sym same) (cells_granted caller s.1)
+
+pub row_kind : (caller : Caller) (id : List ℕ) (row : List Cell) (o : Option (ℕ × List Cell)) → Some row ≡ option_map (λ s. granted_cells caller s.1) o → IsReplyTo (C.Processed caller id) (R.Row row)
+row_kind caller id row o is = (refl, granted_row caller row o is)
+
+-- ---- crashes that aren't found
+
+pub unseen_gone : (ledger : LedgerState) (caller : Caller) (id : List ℕ) → Sees ledger caller id (Err F.NoCrash) → IsGone caller id ledger.log
+unseen_gone ledger caller id sees = λ all.
+    ⊎_elim
+    (λ (gone : is_held ledger.log id ≡ false). ap not gone)
+    (λ (hidden : (number : ℕ) × IsHeldAs ledger id number × (shows caller.products (product_at ledger number) ≡ false)).
+    absurd (true_is_not_false (sym (shows_all caller.products (product_at ledger hidden.0) all) ∙ hidden.2)))
+    sees
 
 -- ---- commands that change nothing
 
@@ -90,7 +104,7 @@ NoFault reply = (IsStoreFault reply → ⊥) × (IsAltered reply → ⊥)
 
 module _ (basis : Basis) (limits : Limits) (ledger : LedgerState) (rows : List (ℕ × List Cell)) (pending : Option Pending) (journal : JournalState) (disk : DiskTold) (state : State)
     (stands : Stands basis limits ledger rows pending journal disk state) (disk' : DiskTold) (looks : Looks disk disk') where
-  pub stays : (command : Command) (reply : Reply) → IsReplyTo command reply → Grows (events basis state.log) command reply [] → (IsStoreFault reply → DiskFailed disk disk') → (IsAltered reply → basis.is_told ≡ false)
+  pub stays : (command : Command) (reply : Reply) → IsReplyTo command reply → Grows basis (events basis state.log) (doubted basis state) command reply [] (doubted basis state) → (IsStoreFault reply → DiskFailed disk disk') → (IsAltered reply → basis.is_told ≡ false)
       → (IsTrue basis.is_told → Step basis state command reply state) → Does basis state disk command reply state disk'
   stays command reply kind grows fault altered step = record {
     kind = kind;
@@ -109,6 +123,10 @@ module _ (basis : Basis) (limits : Limits) (ledger : LedgerState) (rows : List (
   module _ (caller : Caller) (id : List ℕ) where
     held : (number : ℕ) → IsHeldAs ledger id number → is_held (events basis state.log) id ≡ true
     held number known = held_is basis limits ledger rows pending journal disk state stands id true known.held
+
+    -- a crash that isn't found for a caller that sees every product isn't held
+    gone_for : Sees ledger caller id (Err F.NoCrash) → IsGone caller id (events basis state.log)
+    gone_for sees = subst (IsGone caller id) stands.holds.events_are (unseen_gone ledger caller id sees)
 
     -- what was read of a number was read of its id
     pub read_at : (number : ℕ) (result : Result RawCrash Refusal) → IsHeldAs ledger id number → IsRead basis state.log (id_of ledger number) result disk disk' → IsRead basis state.log id result disk disk'
@@ -135,7 +153,7 @@ module _ (basis : Basis) (limits : Limits) (ledger : LedgerState) (rows : List (
 
     pub raw_unseen : (refusal : Refusal) → Sees ledger caller id (Err refusal) → Does basis state disk (C.Raw caller id) (R.Refused refusal) state disk'
     raw_unseen F.NoCrash sees =
-        stays (C.Raw caller id) (R.Refused F.NoCrash) (refl, tt) (tt, refl) (λ never. absurd never) (λ never. absurd never) (λ is_told. inl (ap (λ o. Some (raw_reply o)) (none_of is_told sees), refl))
+        stays (C.Raw caller id) (R.Refused F.NoCrash) (refl, tt) (gone_for sees, (refl, refl)) (λ never. absurd never) (λ never. absurd never) (λ is_told. inl (ap (λ o. Some (raw_reply o)) (none_of is_told sees), refl))
     raw_unseen F.StoreFault sees = absurd sees
     raw_unseen F.JournalFull sees = absurd sees
     raw_unseen (F.OtherContent other) sees = absurd sees
@@ -148,13 +166,13 @@ module _ (basis : Basis) (limits : Limits) (ledger : LedgerState) (rows : List (
 
     pub raw_no_memory : (number : ℕ) → Sees ledger caller id (Ok number) → Does basis state disk (C.Raw caller id) (R.Refused F.NoMemory) state disk'
     raw_no_memory number sees =
-        stays (C.Raw caller id) (R.Refused F.NoMemory) (refl, tt) (held number sees.0, refl) (λ never. absurd never) (λ never. absurd never) (λ is_told. inr (in_view is_told number sees, inl (refl, refl)))
+        stays (C.Raw caller id) (R.Refused F.NoMemory) (refl, tt) (held number sees.0, (refl, refl)) (λ never. absurd never) (λ never. absurd never) (λ is_told. inr (in_view is_told number sees, inl (refl, refl)))
 
     raw_failed : (number : ℕ) (refusal : Refusal) → Sees ledger caller id (Ok number) → IsRead basis state.log id (Err refusal) disk disk' → Does basis state disk (C.Raw caller id) (R.Refused refusal) state disk'
     raw_failed number F.StoreFault sees failed =
-        stays (C.Raw caller id) (R.Refused F.StoreFault) (refl, tt) (held number sees.0, refl) (λ _. failed) (λ never. absurd never) (λ is_told. inr (in_view is_told number sees, inr (refl, (refl, refl))))
+        stays (C.Raw caller id) (R.Refused F.StoreFault) (refl, tt) (held number sees.0, (refl, refl)) (λ _. failed) (λ never. absurd never) (λ is_told. inr (in_view is_told number sees, inr (refl, (refl, refl))))
     raw_failed number (F.Altered other) sees altered =
-        stays (C.Raw caller id) (R.Refused (F.Altered other)) (refl, altered.0) (held number sees.0, refl) (λ never. absurd never) (λ _. altered.1) (λ is_told. untold altered.1 is_told)
+        stays (C.Raw caller id) (R.Refused (F.Altered other)) (refl, altered.0) (held number sees.0, (refl, refl)) (λ never. absurd never) (λ _. altered.1) (λ is_told. untold altered.1 is_told)
     raw_failed number F.NoMemory sees wanted = raw_no_memory number sees
     raw_failed number F.JournalFull sees never = absurd never
     raw_failed number (F.OtherContent other) sees never = absurd never
@@ -171,15 +189,15 @@ module _ (basis : Basis) (limits : Limits) (ledger : LedgerState) (rows : List (
         → Does basis state disk (C.Raw caller id) (R.Raw pairs) state disk'
     raw_shown number raw pairs sees read is =
         stays (C.Raw caller id) (R.Raw pairs)
-        (subst (AllByRecursion (λ pair. IsTrue (holds caller.permissions (permission_of_annotation pair.0)))) (sym is) (annotations_granted caller raw.annotations))
-        (held number sees.0, refl) (λ never. absurd never) (λ never. absurd never)
+        (refl, subst (AllByRecursion (λ pair. IsTrue (holds caller.permissions (permission_of_annotation pair.0)))) (sym is) (annotations_granted caller raw.annotations))
+        (held number sees.0, (refl, refl)) (λ never. absurd never) (λ never. absurd never)
         (λ is_told. inl (ap (λ o. Some (raw_reply o)) (has_read number raw sees ((read_at number (Ok raw) sees.0 read).1 is_told) is_told) ∙ ap (λ l. Some (R.Raw l)) (sym is), refl))
 
     -- ---- reports
 
     pub processed_unseen : (refusal : Refusal) → Sees ledger caller id (Err refusal) → Does basis state disk (C.Processed caller id) (R.Refused refusal) state disk'
     processed_unseen F.NoCrash sees =
-        stays (C.Processed caller id) (R.Refused F.NoCrash) (refl, tt) (tt, refl) (λ never. absurd never) (λ never. absurd never) (λ is_told. inl (ap (λ o. Some (processed_reply o)) (none_of is_told sees), refl))
+        stays (C.Processed caller id) (R.Refused F.NoCrash) (refl, tt) (gone_for sees, (refl, refl)) (λ never. absurd never) (λ never. absurd never) (λ is_told. inl (ap (λ o. Some (processed_reply o)) (none_of is_told sees), refl))
     processed_unseen F.StoreFault sees = absurd sees
     processed_unseen F.JournalFull sees = absurd sees
     processed_unseen (F.OtherContent other) sees = absurd sees
@@ -192,7 +210,7 @@ module _ (basis : Basis) (limits : Limits) (ledger : LedgerState) (rows : List (
 
     pub processed_no_memory : (number : ℕ) → Sees ledger caller id (Ok number) → Does basis state disk (C.Processed caller id) (R.Refused F.NoMemory) state disk'
     processed_no_memory number sees =
-        stays (C.Processed caller id) (R.Refused F.NoMemory) (refl, tt) (held number sees.0, refl) (λ never. absurd never) (λ never. absurd never) (λ is_told. inr (in_view is_told number sees, inl (refl, refl)))
+        stays (C.Processed caller id) (R.Refused F.NoMemory) (refl, tt) (held number sees.0, (refl, refl)) (λ never. absurd never) (λ never. absurd never) (λ is_told. inr (in_view is_told number sees, inl (refl, refl)))
 
     -- the row that the store has at a crash's number
     module _ (number : ℕ) (sees : Sees ledger caller id (Ok number)) where
@@ -223,7 +241,7 @@ module _ (basis : Basis) (limits : Limits) (ledger : LedgerState) (rows : List (
       not_processed is =
           let none : option_map (λ s. s.1) (row_at number rows) ≡ None = no_report (row_at number rows) is in
           stays (C.Processed caller id) (R.Refused F.NotProcessed) (refl, tt)
-          (unreported (is_held (events basis state.log) id) (has_report (events basis state.log) id) (held number sees.0) (ap is_some (sym none) ∙ has_it.has), refl) (λ never. absurd never) (λ never. absurd never)
+          (unreported (is_held (events basis state.log) id) (has_report (events basis state.log) id) (held number sees.0) (ap is_some (sym none) ∙ has_it.has), (refl, refl)) (λ never. absurd never) (λ never. absurd never)
           (λ is_told. inl (ap Some (seen_row is_told ∙ ap (λ o. option_map_or R.Row (option_map (granted_cells caller) o) (R.Refused F.NotProcessed)) none), refl))
 
       a_report : (row : List Cell) (o : Option (ℕ × List Cell)) → Some row ≡ option_map (λ s. granted_cells caller s.1) o → (own : List Cell) × (option_map (λ s. s.1) o ≡ Some own) × (row ≡ granted_cells caller own)
@@ -236,8 +254,8 @@ module _ (basis : Basis) (limits : Limits) (ledger : LedgerState) (rows : List (
       row_shown row is =
           let own = a_report row (row_at number rows) is in
           stays (C.Processed caller id) (R.Row row)
-          (subst (AllByRecursion (λ cell. IsTrue (is_granted caller cell.field))) (sym own.2) (cells_granted caller own.0))
-          (sym has_it.has ∙ ap is_some own.1, refl) (λ never. absurd never) (λ never. absurd never)
+          (refl, subst (AllByRecursion (λ cell. IsTrue (is_granted caller cell.field))) (sym own.2) (cells_granted caller own.0))
+          (sym has_it.has ∙ ap is_some own.1, (refl, refl)) (λ never. absurd never) (λ never. absurd never)
           (λ is_told. inl (ap Some (seen_row is_told ∙ ap (λ o. option_map_or R.Row (option_map (granted_cells caller) o) (R.Refused F.NotProcessed)) own.1) ∙ ap (λ r. Some (R.Row r)) (sym own.2), refl))
 
     -- ---- dumps
@@ -245,13 +263,13 @@ module _ (basis : Basis) (limits : Limits) (ledger : LedgerState) (rows : List (
     module _ (name : List ℕ) where
       pub dump_forbidden : without caller ViewRawdump ≡ Some ViewRawdump → Does basis state disk (C.Dump caller id name) (R.Refused (F.NoPermission ViewRawdump)) state disk'
       dump_forbidden lacks =
-          stays (C.Dump caller id name) (R.Refused (F.NoPermission ViewRawdump)) lacks (tt, refl) (λ never. absurd never) (λ never. absurd never)
+          stays (C.Dump caller id name) (R.Refused (F.NoPermission ViewRawdump)) lacks (tt, (refl, refl)) (λ never. absurd never) (λ never. absurd never)
           (λ is_told. forbidden state (C.Dump caller id name) ViewRawdump state _ lacks refl)
 
       module _ (may : without caller ViewRawdump ≡ None) where
         pub dump_unseen : (refusal : Refusal) → Sees ledger caller id (Err refusal) → Does basis state disk (C.Dump caller id name) (R.Refused refusal) state disk'
         dump_unseen F.NoCrash sees =
-            stays (C.Dump caller id name) (R.Refused F.NoCrash) (may, tt) (tt, refl) (λ never. absurd never) (λ never. absurd never)
+            stays (C.Dump caller id name) (R.Refused F.NoCrash) (may, tt) (tt, (refl, refl)) (λ never. absurd never) (λ never. absurd never)
             (λ is_told. permitted state (C.Dump caller id name) (R.Refused F.NoCrash) state _ may (inl (ap (λ o. Some (dump_reply name o)) (none_of is_told sees), refl)))
         dump_unseen F.StoreFault sees = absurd sees
         dump_unseen F.JournalFull sees = absurd sees
@@ -265,15 +283,15 @@ module _ (basis : Basis) (limits : Limits) (ledger : LedgerState) (rows : List (
 
         pub dump_no_memory : (number : ℕ) → Sees ledger caller id (Ok number) → Does basis state disk (C.Dump caller id name) (R.Refused F.NoMemory) state disk'
         dump_no_memory number sees =
-            stays (C.Dump caller id name) (R.Refused F.NoMemory) (may, tt) (held number sees.0, refl) (λ never. absurd never) (λ never. absurd never)
+            stays (C.Dump caller id name) (R.Refused F.NoMemory) (may, tt) (held number sees.0, (refl, refl)) (λ never. absurd never) (λ never. absurd never)
             (λ is_told. permitted state (C.Dump caller id name) (R.Refused F.NoMemory) state _ may (inr (in_view is_told number sees, inl (refl, refl))))
 
         dump_failed : (number : ℕ) (refusal : Refusal) → Sees ledger caller id (Ok number) → IsRead basis state.log id (Err refusal) disk disk' → Does basis state disk (C.Dump caller id name) (R.Refused refusal) state disk'
         dump_failed number F.StoreFault sees failed =
-            stays (C.Dump caller id name) (R.Refused F.StoreFault) (may, tt) (held number sees.0, refl) (λ _. failed) (λ never. absurd never)
+            stays (C.Dump caller id name) (R.Refused F.StoreFault) (may, tt) (held number sees.0, (refl, refl)) (λ _. failed) (λ never. absurd never)
             (λ is_told. permitted state (C.Dump caller id name) (R.Refused F.StoreFault) state _ may (inr (in_view is_told number sees, inr (refl, (refl, refl)))))
         dump_failed number (F.Altered other) sees altered =
-            stays (C.Dump caller id name) (R.Refused (F.Altered other)) (may, altered.0) (held number sees.0, refl) (λ never. absurd never) (λ _. altered.1) (λ is_told. untold altered.1 is_told)
+            stays (C.Dump caller id name) (R.Refused (F.Altered other)) (may, altered.0) (held number sees.0, (refl, refl)) (λ never. absurd never) (λ _. altered.1) (λ is_told. untold altered.1 is_told)
         dump_failed number F.NoMemory sees wanted = dump_no_memory number sees
         dump_failed number F.JournalFull sees never = absurd never
         dump_failed number (F.OtherContent other) sees never = absurd never
@@ -296,13 +314,13 @@ module _ (basis : Basis) (limits : Limits) (ledger : LedgerState) (rows : List (
         pub dump_absent : (number : ℕ) (raw : RawCrash) → Sees ledger caller id (Ok number) → IsRead basis state.log (id_of ledger number) (Ok raw) disk disk' → value_of raw.dumps name ≡ None
             → Does basis state disk (C.Dump caller id name) (R.Refused F.NoCrash) state disk'
         dump_absent number raw sees read none =
-            stays (C.Dump caller id name) (R.Refused F.NoCrash) (may, tt) (tt, refl) (λ never. absurd never) (λ never. absurd never)
+            stays (C.Dump caller id name) (R.Refused F.NoCrash) (may, tt) (tt, (refl, refl)) (λ never. absurd never) (λ never. absurd never)
             (λ is_told. permitted state (C.Dump caller id name) (R.Refused F.NoCrash) state _ may
             (inl (ap Some (dump_is number raw sees ((read_at number (Ok raw) sees.0 read).1 is_told) is_told ∙ ap (λ o. option_map_or R.Dump o no_crash) none), refl)))
 
         pub dump_shown : (number : ℕ) (raw : RawCrash) (bytes : List ℕ) → Sees ledger caller id (Ok number) → IsRead basis state.log (id_of ledger number) (Ok raw) disk disk' → value_of raw.dumps name ≡ Some bytes
             → Does basis state disk (C.Dump caller id name) (R.Dump bytes) state disk'
         dump_shown number raw bytes sees read some =
-            stays (C.Dump caller id name) (R.Dump bytes) tt (held number sees.0, refl) (λ never. absurd never) (λ never. absurd never)
+            stays (C.Dump caller id name) (R.Dump bytes) (may, tt) (held number sees.0, (refl, refl)) (λ never. absurd never) (λ never. absurd never)
             (λ is_told. permitted state (C.Dump caller id name) (R.Dump bytes) state _ may
             (inl (ap Some (dump_is number raw sees ((read_at number (Ok raw) sees.0 read).1 is_told) is_told ∙ ap (λ o. option_map_or R.Dump o no_crash) some), refl)))

@@ -26,6 +26,7 @@ use Rattle.soc_desk.specs.declared.desk.Limits.{Limits}
 use Rattle.soc_desk.specs.declared.desk.Refusal.TheVariants as F
 use Rattle.soc_desk.specs.declared.desk.Reply.TheVariants as R
 use Rattle.soc_desk.specs.Basis.{Basis, RowsTell}
+use Rattle.soc_desk.specs.Kinds.{IsReplyTo}
 use Rattle.soc_desk.specs.Log.{accepted_of}
 use Rattle.soc_desk.specs.State.{State, entries_of, kept_of}
 use Rattle.soc_desk.specs.View.{view_of, rows_in}
@@ -76,8 +77,8 @@ answer_kind q rows granted = (
   all_mapped (λ hit. AllByRecursion (λ cell. IsTrue (is_granted q.caller cell.field)) hit) (columns_of q.columns) _ (λ row. columns_granted q.caller q.columns row granted.2),
 )
 
-pub search_kind : (q : Asked) (answer : Answer) (rows : List (ℕ × List Cell)) → AreGranted q → answer ≡ answer_of q rows → IsAnswer q answer
-search_kind q answer rows granted is = subst (IsAnswer q) (sym is) (answer_kind q rows granted)
+pub search_kind : (q : Asked) (answer : Answer) (rows : List (ℕ × List Cell)) → AreGranted q → answer ≡ answer_of q rows → IsReplyTo (C.Search q) (R.Found answer)
+search_kind q answer rows granted is = (refl, subst (IsAnswer q) (sym is) (answer_kind q rows granted))
 
 module _ (basis : Basis) (limits : Limits) (ledger : LedgerState) (rows : List (ℕ × List Cell)) (pending : Option Pending) (journal : JournalState) (disk : DiskTold) (state : State)
     (stands : Stands basis limits ledger rows pending journal disk state) (disk' : DiskTold) (looks : Looks disk disk') where
@@ -97,14 +98,14 @@ module _ (basis : Basis) (limits : Limits) (ledger : LedgerState) (rows : List (
 
   pub search_no_memory : (q : Asked) → Does basis state disk (C.Search q) (R.Refused F.NoMemory) state disk'
   search_no_memory q =
-      stays basis limits ledger rows pending journal disk state stands disk' looks (C.Search q) (R.Refused F.NoMemory) (refl, tt) refl (λ never. absurd never) (λ never. absurd never) (λ is_told. inr (refl, refl))
+      stays basis limits ledger rows pending journal disk state stands disk' looks (C.Search q) (R.Refused F.NoMemory) (refl, tt) (refl, refl) (λ never. absurd never) (λ never. absurd never) (λ is_told. inr (refl, refl))
 
   pub found : (q : Asked) (answer : Answer) → RowsTell basis → AreGranted q
       → ((some : List (ℕ × List Cell)) → answer_of q (seen_rows q.caller some) ≡ answer_of q some)
       → ((some others : List (ℕ × List Cell)) → HaveOwnIds some → HaveOwnIds others → ListTheSame some others → answer_of q some ≡ answer_of q others)
       → answer ≡ answer_of q rows → Does basis state disk (C.Search q) (R.Found answer) state disk'
   found q answer tells granted by_seen in_any_order is =
-      stays basis limits ledger rows pending journal disk state stands disk' looks (C.Search q) (R.Found answer) (subst (IsAnswer q) (sym is) (answer_kind q rows granted)) refl (λ never. absurd never) (λ never. absurd never)
+      stays basis limits ledger rows pending journal disk state stands disk' looks (C.Search q) (R.Found answer) (search_kind q answer rows granted is) (refl, refl) (λ never. absurd never) (λ never. absurd never)
       (λ is_told.
       let same : AreSame (seen_rows q.caller rows) (rows_in (view_of basis state.log q.caller)) = rows_same tells q.caller is_told in
       let viewed : answer_of q (rows_in (view_of basis state.log q.caller)) ≡ answer =
@@ -115,14 +116,14 @@ module _ (basis : Basis) (limits : Limits) (ledger : LedgerState) (rows : List (
 
   pub tops_no_memory : (q : TopsQuery) → Does basis state disk (C.Tops q) (R.Refused F.NoMemory) state disk'
   tops_no_memory q =
-      stays basis limits ledger rows pending journal disk state stands disk' looks (C.Tops q) (R.Refused F.NoMemory) (refl, tt) refl (λ never. absurd never) (λ never. absurd never) (λ is_told. inr (refl, refl))
+      stays basis limits ledger rows pending journal disk state stands disk' looks (C.Tops q) (R.Refused F.NoMemory) (refl, tt) (refl, refl) (λ never. absurd never) (λ never. absurd never) (λ is_told. inr (refl, refl))
 
   pub tops_found : (q : TopsQuery) (tops : Tops) → RowsTell basis
       → ((some : List (ℕ × List Cell)) → tops_of q (tops_seen_rows q.caller some) ≡ tops_of q some)
       → ((some others : List (ℕ × List Cell)) → TopsHaveOwnIds some → TopsHaveOwnIds others → TopsListTheSame some others → tops_of q some ≡ tops_of q others)
       → tops ≡ tops_of q rows → Does basis state disk (C.Tops q) (R.Tops tops) state disk'
   tops_found q tops tells by_seen in_any_order is =
-      stays basis limits ledger rows pending journal disk state stands disk' looks (C.Tops q) (R.Tops tops) tt refl (λ never. absurd never) (λ never. absurd never)
+      stays basis limits ledger rows pending journal disk state stands disk' looks (C.Tops q) (R.Tops tops) (refl, tt) (refl, refl) (λ never. absurd never) (λ never. absurd never)
       (λ is_told.
       let same : AreSame (seen_rows q.caller rows) (rows_in (view_of basis state.log q.caller)) = rows_same tells q.caller is_told in
       let viewed : tops_of q (rows_in (view_of basis state.log q.caller)) ≡ tops =

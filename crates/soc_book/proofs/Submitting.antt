@@ -121,7 +121,7 @@ module _ (basis : Basis) (limits : Limits) (ledger : LedgerState) (rows : List (
           settled log,
           stands,
           answered basis log disk disk (C.Submit raw) (R.Refused F.TooManyCrashes) (Looks-none disk sound) (allowed basis limits ledger rows pending journal disk log stands)
-              (refl, tt) tt (λ never. absurd never) (is_new_now, refl)
+              (refl, tt) tt (λ never. absurd never) ((is_new_now, le-leb basis.crashes (length (accepted_ids now)) most, refl), refl)
               (λ is_told. decided_as basis log disk disk (C.Submit raw) (answers (R.Refused F.TooManyCrashes)) (R.Refused F.TooManyCrashes) (settled log)
               (ap (λ (d : Decision). Some d) (decides_by true (le-leb basis.crashes (length (accepted_ids now)) most))) (refl, refl)),
         )
@@ -161,14 +161,14 @@ module _ (basis : Basis) (limits : Limits) (ledger : LedgerState) (rows : List (
         let said : R.Stored new.id due ≡ R.Stored raw.id (is_due_at_once raw.id) = ap (λ x. R.Stored x due) tells.id ∙ ap (λ b. R.Stored raw.id b) at_once in
         let not_full : nat_le basis.crashes (length (accepted_ids now)) ≡ false = few_left in
         written_decides basis log disk disk' (C.Submit raw) (accept new_crash) (accepting crash) (R.Stored raw.id (is_due_at_once raw.id)) (record {
-          kind = (refl, refl);
+          kind = (refl, (refl, refl));
           fault_kind = (refl, tt);
           full_kind = (refl, tt);
           plain = tt;
           no_fault = λ fault. fault;
-          adds = (is_new_now, refl);
-          fault_adds = (tt, refl);
-          full_adds = (is_new_now, refl);
+          adds = (is_new_now, ap not not_full, refl, refl);
+          fault_adds = (inl (is_new_now, ap not not_full, refl), refl);
+          full_adds = ((is_new_now, ap not not_full, refl), refl);
         }) (λ is_told. ap (λ (o : Option Crash). accept record { id = raw.id; raw = o }) (new_told is_told))
         (λ is_told. ap (λ (d : Decision). Some d) (decides_by false not_full))
         reply after (subst (λ (r : Reply). IsWritten basis log disk (accept new_crash) r reply after disk') said wrote) where
@@ -204,7 +204,7 @@ module _ (basis : Basis) (limits : Limits) (ledger : LedgerState) (rows : List (
           stands,
           subst (λ x. IsDecided basis log disk (C.Submit raw) (R.Refused (F.Withdrawn x)) (settled log) disk) (sym tells.id)
               (answered basis log disk disk (C.Submit raw) (R.Refused (F.Withdrawn raw.id)) (Looks-none disk sound) (allowed basis limits ledger rows pending journal disk log stands)
-              (refl, refl) tt (λ never. absurd never) (was_gone, refl)
+              (refl, refl) tt (λ never. absurd never) ((was_gone, refl), refl)
               (λ is_told. decided_as basis log disk disk (C.Submit raw) (answers (R.Refused (F.Withdrawn raw.id))) (R.Refused (F.Withdrawn raw.id)) (settled log)
               (ap (λ (d : Decision). Some d) (ap (λ b. if b then answers (R.Refused (F.Withdrawn raw.id)) else option_map_or (decide_repeated crash) (raw_of log raw.id) (decide_new basis log crash)) was_gone)) (refl, refl))),
         )
@@ -237,7 +237,7 @@ module _ (basis : Basis) (limits : Limits) (ledger : LedgerState) (rows : List (
       other : (disk' : DiskTold) → Looks disk disk' → ((is_told : IsTrue basis.is_told) → content_text (known_now is_told).raw ≡ content_text crash → ⊥)
           → IsDecided basis log disk (C.Submit raw) (R.Refused (F.OtherContent raw.id)) (settled log) disk'
       other disk' looks apart = answered basis log disk disk' (C.Submit raw) (R.Refused (F.OtherContent raw.id)) looks (allowed basis limits ledger rows pending journal disk log stands)
-          (refl, refl) tt (λ never. absurd never) (held_now, refl)
+          (refl, refl) tt (λ never. absurd never) ((held_now, refl), refl)
           (λ is_told. decided_as basis log disk disk' (C.Submit raw) (answers (R.Refused (F.OtherContent raw.id))) (R.Refused (F.OtherContent raw.id)) (settled log)
           (ap (λ (d : Decision). Some d) (decides_held is_told false (differs _ _ (apart is_told)))) (refl, refl))
 
@@ -263,7 +263,7 @@ module _ (basis : Basis) (limits : Limits) (ledger : LedgerState) (rows : List (
           settled log,
           moved,
           answered basis log disk disk' (C.Submit raw) (R.Refused F.StoreFault) looks (allowed basis limits ledger rows pending journal disk log stands)
-              (refl, tt) tt (λ fault. failed) (tt, refl)
+              (refl, tt) tt (λ fault. failed) (inr (held_now, refl), refl)
               (λ is_told.
               let k = known_now is_told in
               let P : Option Crash → Type 0 = λ o. IsSomeAnd o (λ h. sha256 (content_text h) ≡ sha256 (content_text crash)) in
@@ -291,7 +291,7 @@ module _ (basis : Basis) (limits : Limits) (ledger : LedgerState) (rows : List (
             moved,
             subst (λ x. IsDecided basis log disk (C.Submit raw) (R.Repeated x) (settled log) disk') (sym tells.id)
                 (answered basis log disk disk' (C.Submit raw) (R.Repeated raw.id) looks (allowed basis limits ledger rows pending journal disk log stands)
-                refl tt (λ never. absurd never) (held_now, refl)
+                (refl, refl) tt (λ never. absurd never) (held_now, refl, refl)
                 (λ is_told.
                 let k = known_now is_told in
                 let told = tells_content is_told in

@@ -40,7 +40,7 @@ use Rattle.soc_desk.specs.Desk.{IfElse, IsOfLog, Step, TurnsFirst, with_done}
 use Rattle.soc_desk.specs.Grows.{Grows, IsDueAt}
 use Rattle.soc_desk.specs.Kinds.{IsReplyTo}
 use Rattle.soc_desk.specs.Log.{Accepted, done, stop, accepted_of, events, raw_of}
-use Rattle.soc_desk.specs.State.{State, entries_of, kept_of}
+use Rattle.soc_desk.specs.State.{State, doubted, entries_of, kept_of}
 use Rattle.soc_desk.proofs.Dues.{due_by_history}
 use Rattle.soc_desk.proofs.Logs.{IsApart, accepted_apart, events-more}
 use Rattle.soc_desk.proofs.Views.{true_is_not_false, all_weaker}
@@ -361,11 +361,16 @@ module _ (basis : Basis) (limits : Limits) (ledger : LedgerState) (rows : List (
     turn_reply (Err refusal) = R.Refused refusal
 
     -- a command that processed these crashes
-    processes : (command : Command) (reply : Reply) (ids : List (List ℕ)) (after : State) → after ≡ with_done state ids → IsReplyTo command reply → Grows (events basis state.log) command reply (map E.Done ids)
+    processes : (command : Command) (reply : Reply) (ids : List (List ℕ)) (after : State) → after ≡ with_done state ids → IsReplyTo command reply → Grows basis (events basis state.log) (doubted basis state) command reply (map E.Done ids) (doubted basis state)
         → (IsStoreFault reply → DiskFailed disk disk') → (IsAltered reply → basis.is_told ≡ false) → (IsTrue basis.is_told → Step basis state command reply after) → Does basis state disk command reply after disk'
     processes command reply ids after is kind grows fault altered step = record {
       kind = kind;
-      gains = record { piece = map done ids; behind = ap (λ s. s.log) is; grows = subst (Grows (events basis state.log) command reply) (sym (events_done basis ids)) grows };
+      gains = record {
+        piece = map done ids;
+        behind = ap (λ s. s.log) is;
+        grows = subst (λ (s : State). Grows basis (events basis state.log) (doubted basis state) command reply (events basis (map done ids)) (doubted basis s)) (sym is)
+            (subst (λ (p : List Event). Grows basis (events basis state.log) (doubted basis state) command reply p (doubted basis state)) (sym (events_done basis ids)) grows);
+      };
       goes_on = looks.goes_on;
       fault = fault;
       altered = altered;
@@ -385,22 +390,22 @@ module _ (basis : Basis) (limits : Limits) (ledger : LedgerState) (rows : List (
 
       pub turn_does : (result : Result (Option (List ℕ)) Refusal) (after : State) → TurnsTo basis state result after disk disk' → Does basis state disk (C.Turn caller) (turn_reply result) after disk'
       turn_does (Ok None) after turns =
-          processes (C.Turn caller) (R.Turned None) [] after (turns.1 ∙ with_none) tt (turns.0, refl) (λ never. absurd never) (λ never. absurd never)
+          processes (C.Turn caller) (R.Turned None) [] after (turns.1 ∙ with_none) (may, tt) ((turns.0, refl), refl) (λ never. absurd never) (λ never. absurd never)
           (λ is_told. permitted state (C.Turn caller) (R.Turned None) after _ may (subst (λ d. TurnsFirst state d (R.Turned None) after) (sym turns.0) (refl, turns.1)))
       turn_does (Ok (Some id)) after turns =
           let whole : (later : List (List ℕ)) × (due_of basis state ≡ id ∷ later) = first_of (due_of basis state) id turns.0 in
-          processes (C.Turn caller) (R.Turned (Some id)) (id ∷ []) after turns.1 tt (turns.0, refl) (λ never. absurd never) (λ never. absurd never)
+          processes (C.Turn caller) (R.Turned (Some id)) (id ∷ []) after turns.1 (may, tt) ((turns.0, refl), refl) (λ never. absurd never) (λ never. absurd never)
           (λ is_told. first_turn (R.Turned (Some id)) after id whole.0 whole.1 (inl (refl, turns.1)))
       turn_does (Err F.StoreFault) after turns =
           let whole : (id : List ℕ) × (later : List (List ℕ)) × (due_of basis state ≡ id ∷ later) = some_first (due_of basis state) turns.0 in
-          processes (C.Turn caller) (R.Refused F.StoreFault) [] after (turns.2 ∙ with_none) (may, tt) (turns.0, refl) (λ _. turns.1) (λ never. absurd never)
+          processes (C.Turn caller) (R.Refused F.StoreFault) [] after (turns.2 ∙ with_none) (may, tt) ((turns.0, refl), refl) (λ _. turns.1) (λ never. absurd never)
           (λ is_told. first_turn (R.Refused F.StoreFault) after whole.0 whole.1 whole.2 (inr (inr (refl, (refl, turns.2)))))
       turn_does (Err (F.Altered id)) after turns =
-          processes (C.Turn caller) (R.Refused (F.Altered id)) [] after (turns.2 ∙ with_none) (may, tt) (turns.0, refl) (λ never. absurd never) (λ _. turns.1)
+          processes (C.Turn caller) (R.Refused (F.Altered id)) [] after (turns.2 ∙ with_none) (may, tt) ((turns.0, refl), refl) (λ never. absurd never) (λ _. turns.1)
           (λ is_told. absurd (true_is_not_false (sym is_told ∙ turns.1)))
       turn_does (Err F.NoMemory) after turns =
           let whole : (id : List ℕ) × (later : List (List ℕ)) × (due_of basis state ≡ id ∷ later) = some_first (due_of basis state) turns.0 in
-          processes (C.Turn caller) (R.Refused F.NoMemory) [] after (turns.1 ∙ with_none) (may, tt) (turns.0, refl) (λ never. absurd never) (λ never. absurd never)
+          processes (C.Turn caller) (R.Refused F.NoMemory) [] after (turns.1 ∙ with_none) (may, tt) ((turns.0, refl), refl) (λ never. absurd never) (λ never. absurd never)
           (λ is_told. first_turn (R.Refused F.NoMemory) after whole.0 whole.1 whole.2 (inr (inl (refl, turns.1))))
       turn_does (Err F.JournalFull) after turns = absurd turns
       turn_does (Err (F.OtherContent other)) after turns = absurd turns
@@ -418,7 +423,7 @@ module _ (basis : Basis) (limits : Limits) (ledger : LedgerState) (rows : List (
           let turned : IsTurned basis state count after = subst (λ n. IsTurned basis state n after) same made in
           let whole : take count (due_of basis state) ≡ due_of basis state = ap (λ n. take n (due_of basis state)) all ∙ take_whole (due_of basis state) in
           let is : after ≡ with_done state (due_of basis state) = turned.after_is ∙ ap (with_done state) whole in
-          processes (C.Drain caller) (R.Drained count) (due_of basis state) after is tt (all, refl) (λ never. absurd never) (λ never. absurd never)
+          processes (C.Drain caller) (R.Drained count) (due_of basis state) after is (may, tt) ((all, refl), refl) (λ never. absurd never) (λ never. absurd never)
           (λ is_told. permitted state (C.Drain caller) (R.Drained count) after _ may (all, is))
 
       module _ (turns : ℕ) (between after : State) (turned : IsTurned basis state turns between) where
@@ -434,15 +439,15 @@ module _ (basis : Basis) (limits : Limits) (ledger : LedgerState) (rows : List (
 
         pub drain_stopped : (refusal : Refusal) (middle : DiskTold) → GoesOn disk middle → TurnsTo basis between (Err refusal) after middle disk' → Does basis state disk (C.Drain caller) (R.Refused refusal) after disk'
         drain_stopped F.StoreFault middle goes_on stopped =
-            processes (C.Drain caller) (R.Refused F.StoreFault) (take turns (due_of basis state)) after (after_some stopped.2) (may, tt) (turns, some_left stopped.0, refl)
+            processes (C.Drain caller) (R.Refused F.StoreFault) (take turns (due_of basis state)) after (after_some stopped.2) (may, tt) ((turns, some_left stopped.0, refl), refl)
             (λ _. rose_later disk middle disk' goes_on stopped.1) (λ never. absurd never)
             (λ is_told. permitted state (C.Drain caller) (R.Refused F.StoreFault) after _ may (turns, some_left stopped.0, after_some stopped.2))
         drain_stopped (F.Altered id) middle goes_on stopped =
             processes (C.Drain caller) (R.Refused (F.Altered id)) (take turns (due_of basis state)) after (after_some stopped.2) (may, tt)
-            (turns, sym (drop_front turns (due_of basis state)) ∙ (ap (λ l. slice_get l 0) (sym turned.left) ∙ stopped.0), refl) (λ never. absurd never) (λ _. stopped.1)
+            ((turns, sym (drop_front turns (due_of basis state)) ∙ (ap (λ l. slice_get l 0) (sym turned.left) ∙ stopped.0), refl), refl) (λ never. absurd never) (λ _. stopped.1)
             (λ is_told. absurd (true_is_not_false (sym is_told ∙ stopped.1)))
         drain_stopped F.NoMemory middle goes_on stopped =
-            processes (C.Drain caller) (R.Refused F.NoMemory) (take turns (due_of basis state)) after (after_some stopped.1) (may, tt) (turns, some_left stopped.0, refl) (λ never. absurd never) (λ never. absurd never)
+            processes (C.Drain caller) (R.Refused F.NoMemory) (take turns (due_of basis state)) after (after_some stopped.1) (may, tt) ((turns, some_left stopped.0, refl), refl) (λ never. absurd never) (λ never. absurd never)
             (λ is_told. permitted state (C.Drain caller) (R.Refused F.NoMemory) after _ may (turns, some_left stopped.0, after_some stopped.1))
         drain_stopped F.JournalFull middle goes_on stopped = absurd stopped
         drain_stopped (F.OtherContent other) middle goes_on stopped = absurd stopped
@@ -456,17 +461,17 @@ module _ (basis : Basis) (limits : Limits) (ledger : LedgerState) (rows : List (
 
     pub turn_forbidden : (caller : Caller) → without caller Operate ≡ Some Operate → Does basis state disk (C.Turn caller) (R.Refused (F.NoPermission Operate)) state disk'
     turn_forbidden caller lacks =
-        stays basis limits ledger rows pending journal disk state stands disk' looks (C.Turn caller) (R.Refused (F.NoPermission Operate)) lacks (tt, refl) (λ never. absurd never) (λ never. absurd never)
+        stays basis limits ledger rows pending journal disk state stands disk' looks (C.Turn caller) (R.Refused (F.NoPermission Operate)) lacks ((tt, refl), refl) (λ never. absurd never) (λ never. absurd never)
         (λ is_told. forbidden state (C.Turn caller) Operate state _ lacks refl)
 
     pub drain_forbidden : (caller : Caller) → without caller Operate ≡ Some Operate → Does basis state disk (C.Drain caller) (R.Refused (F.NoPermission Operate)) state disk'
     drain_forbidden caller lacks =
-        stays basis limits ledger rows pending journal disk state stands disk' looks (C.Drain caller) (R.Refused (F.NoPermission Operate)) lacks refl (λ never. absurd never) (λ never. absurd never)
+        stays basis limits ledger rows pending journal disk state stands disk' looks (C.Drain caller) (R.Refused (F.NoPermission Operate)) lacks (refl, refl) (λ never. absurd never) (λ never. absurd never)
         (λ is_told. forbidden state (C.Drain caller) Operate state _ lacks refl)
 
     pub stop_forbidden : (caller : Caller) → without caller Operate ≡ Some Operate → Does basis state disk (C.Stop caller) (R.Refused (F.NoPermission Operate)) state disk'
     stop_forbidden caller lacks =
-        stays basis limits ledger rows pending journal disk state stands disk' looks (C.Stop caller) (R.Refused (F.NoPermission Operate)) lacks refl (λ never. absurd never) (λ never. absurd never)
+        stays basis limits ledger rows pending journal disk state stands disk' looks (C.Stop caller) (R.Refused (F.NoPermission Operate)) lacks (refl, refl) (λ never. absurd never) (λ never. absurd never)
         (λ is_told. forbidden state (C.Stop caller) Operate state _ lacks refl)
 
     -- ---- the stop
@@ -474,21 +479,21 @@ module _ (basis : Basis) (limits : Limits) (ledger : LedgerState) (rows : List (
     module _ (caller : Caller) (may : without caller Operate ≡ None) where
       pub stop_no_memory : Does basis state disk (C.Stop caller) (R.Refused F.NoMemory) state disk'
       stop_no_memory =
-          stays basis limits ledger rows pending journal disk state stands disk' looks (C.Stop caller) (R.Refused F.NoMemory) (may, tt) refl (λ never. absurd never) (λ never. absurd never)
+          stays basis limits ledger rows pending journal disk state stands disk' looks (C.Stop caller) (R.Refused F.NoMemory) (may, tt) (refl, refl) (λ never. absurd never) (λ never. absurd never)
           (λ is_told. permitted state (C.Stop caller) (R.Refused F.NoMemory) state _ may (inl (refl, refl)))
 
       pub stopped_before : has_stop ledger.log ≡ true → Does basis state disk (C.Stop caller) R.Stopping state disk'
       stopped_before is =
           let before : has_stop (events basis state.log) ≡ true = ap has_stop (sym stands.holds.events_are) ∙ is in
-          stays basis limits ledger rows pending journal disk state stands disk' looks (C.Stop caller) R.Stopping tt (inl (before, refl)) (λ never. absurd never) (λ never. absurd never)
+          stays basis limits ledger rows pending journal disk state stands disk' looks (C.Stop caller) R.Stopping (may, tt) (inl (before, refl), refl) (λ never. absurd never) (λ never. absurd never)
           (λ is_told. permitted state (C.Stop caller) R.Stopping state _ may (inr (refl, ap (λ b. if b then state else record state { log = state.log ++ stop ∷ [] }) (sym before))))
 
       pub stopped_now : has_stop ledger.log ≡ false → Does basis state disk (C.Stop caller) R.Stopping (record state { log = state.log ++ stop ∷ [] }) disk'
       stopped_now is =
           let before : has_stop (events basis state.log) ≡ false = ap has_stop (sym stands.holds.events_are) ∙ is in
           record {
-            kind = tt;
-            gains = record { piece = stop ∷ []; behind = refl; grows = inr (before, refl) };
+            kind = (may, tt);
+            gains = record { piece = stop ∷ []; behind = refl; grows = (inr (before, refl), refl) };
             goes_on = looks.goes_on;
             fault = λ never. absurd never;
             altered = λ never. absurd never;
@@ -508,14 +513,14 @@ module _ (basis : Basis) (limits : Limits) (ledger : LedgerState) (rows : List (
       pub fetch_absent : is_held ledger.log id ≡ false → Does basis state disk (C.Fetch id) (R.Refused F.NoCrash) state disk'
       fetch_absent gone =
           let unheld : is_held (events basis state.log) id ≡ false = held_is basis limits ledger rows pending journal disk state stands id false gone in
-          stays basis limits ledger rows pending journal disk state stands disk' looks (C.Fetch id) (R.Refused F.NoCrash) (refl, tt) (ap not unheld, refl) (λ never. absurd never) (λ never. absurd never)
+          stays basis limits ledger rows pending journal disk state stands disk' looks (C.Fetch id) (R.Refused F.NoCrash) (refl, tt) (ap not unheld, (refl, refl)) (λ never. absurd never) (λ never. absurd never)
           (λ is_told. if_idle _ _ (unheld_idle (events basis state.log) id stands.legal.log.events_legal unheld) (ap (λ b. if b then R.Fetched None else R.Refused F.NoCrash) (sym unheld), refl))
 
       pub fetch_idle : is_held ledger.log id ≡ true → is_due ledger.log id ≡ false → Does basis state disk (C.Fetch id) (R.Fetched None) state disk'
       fetch_idle there none =
           let held : is_held (events basis state.log) id ≡ true = held_is basis limits ledger rows pending journal disk state stands id true there in
           let idle : is_due (events basis state.log) id ≡ false = idle_is id false none in
-          stays basis limits ledger rows pending journal disk state stands disk' looks (C.Fetch id) (R.Fetched None) tt (ap (λ b. b && not (is_due (events basis state.log) id)) held ∙ ap not idle, refl) (λ never. absurd never) (λ never. absurd never)
+          stays basis limits ledger rows pending journal disk state stands disk' looks (C.Fetch id) (R.Fetched None) (refl, tt) (ap (λ b. b && not (is_due (events basis state.log) id)) held ∙ ap not idle, (refl, refl)) (λ never. absurd never) (λ never. absurd never)
           (λ is_told. if_idle _ _ idle (ap (λ b. if b then R.Fetched None else R.Refused F.NoCrash) (sym held), refl))
 
       module _ (waits : is_due ledger.log id ≡ true) where
@@ -524,13 +529,13 @@ module _ (basis : Basis) (limits : Limits) (ledger : LedgerState) (rows : List (
 
         fetch_failed : (refusal : Refusal) → IsRead basis state.log id (Err refusal) disk disk' → Does basis state disk (C.Fetch id) (R.Refused refusal) state disk'
         fetch_failed F.StoreFault failed =
-            stays basis limits ledger rows pending journal disk state stands disk' looks (C.Fetch id) (R.Refused F.StoreFault) (refl, tt) (due, refl) (λ _. failed) (λ never. absurd never)
+            stays basis limits ledger rows pending journal disk state stands disk' looks (C.Fetch id) (R.Refused F.StoreFault) (refl, tt) (due, (refl, refl)) (λ _. failed) (λ never. absurd never)
             (λ is_told. if_due _ _ due (inr (inr (refl, (refl, refl)))))
         fetch_failed (F.Altered other) altered =
-            stays basis limits ledger rows pending journal disk state stands disk' looks (C.Fetch id) (R.Refused (F.Altered other)) (refl, altered.0) (due, refl) (λ never. absurd never) (λ _. altered.1)
+            stays basis limits ledger rows pending journal disk state stands disk' looks (C.Fetch id) (R.Refused (F.Altered other)) (refl, altered.0) (due, (refl, refl)) (λ never. absurd never) (λ _. altered.1)
             (λ is_told. absurd (true_is_not_false (sym is_told ∙ altered.1)))
         fetch_failed F.NoMemory wanted =
-            stays basis limits ledger rows pending journal disk state stands disk' looks (C.Fetch id) (R.Refused F.NoMemory) (refl, tt) (due, refl) (λ never. absurd never) (λ never. absurd never)
+            stays basis limits ledger rows pending journal disk state stands disk' looks (C.Fetch id) (R.Refused F.NoMemory) (refl, tt) (due, (refl, refl)) (λ never. absurd never) (λ never. absurd never)
             (λ is_told. if_due _ _ due (inr (inl (refl, refl))))
         fetch_failed F.JournalFull never = absurd never
         fetch_failed (F.OtherContent other) never = absurd never
@@ -546,7 +551,7 @@ module _ (basis : Basis) (limits : Limits) (ledger : LedgerState) (rows : List (
         pub fetched : (number : ℕ) (raw : RawCrash) → IsHeldAs ledger id number → IsRead basis state.log (id_of ledger number) (Ok raw) disk disk' → Does basis state disk (C.Fetch id) (R.Fetched (Some raw)) state disk'
         fetched number raw known read =
             let is : IsRead basis state.log id (Ok raw) disk disk' = subst (λ x. IsRead basis state.log x (Ok raw) disk disk') known.id_is read in
-            stays basis limits ledger rows pending journal disk state stands disk' looks (C.Fetch id) (R.Fetched (Some raw)) is.0 (due, refl) (λ never. absurd never) (λ never. absurd never)
+            stays basis limits ledger rows pending journal disk state stands disk' looks (C.Fetch id) (R.Fetched (Some raw)) (refl, is.0) (due, (refl, refl)) (λ never. absurd never) (λ never. absurd never)
             (λ is_told. if_due _ _ due (inl (is.1 is_told, refl)))
 
     -- ---- a finish
@@ -555,7 +560,7 @@ module _ (basis : Basis) (limits : Limits) (ledger : LedgerState) (rows : List (
       pub finish_idle : (id : List ℕ) → id ≡ report.crash.id → is_due ledger.log id ≡ false → Does basis state disk (C.Finish report) (R.Finished false) state disk'
       finish_idle id same none =
           let idle : is_due (events basis state.log) report.crash.id ≡ false = idle_is report.crash.id false (ap (is_due ledger.log) (sym same) ∙ none) in
-          stays basis limits ledger rows pending journal disk state stands disk' looks (C.Finish report) (R.Finished false) tt (ap not idle, refl) (λ never. absurd never) (λ never. absurd never)
+          stays basis limits ledger rows pending journal disk state stands disk' looks (C.Finish report) (R.Finished false) (refl, tt) ((ap not idle, refl), refl) (λ never. absurd never) (λ never. absurd never)
           (λ is_told. inr (if_idle report.crash.id _ _ idle (refl, refl)))
 
       pub finish_absent : (id : List ℕ) → id ≡ report.crash.id → is_held ledger.log id ≡ false → Does basis state disk (C.Finish report) (R.Finished false) state disk'
@@ -565,13 +570,13 @@ module _ (basis : Basis) (limits : Limits) (ledger : LedgerState) (rows : List (
 
       pub finish_no_memory : Does basis state disk (C.Finish report) (R.Refused F.NoMemory) state disk'
       finish_no_memory =
-          stays basis limits ledger rows pending journal disk state stands disk' looks (C.Finish report) (R.Refused F.NoMemory) (refl, tt) refl (λ never. absurd never) (λ never. absurd never) (λ is_told. inl (refl, refl))
+          stays basis limits ledger rows pending journal disk state stands disk' looks (C.Finish report) (R.Refused F.NoMemory) (refl, tt) (refl, refl) (λ never. absurd never) (λ never. absurd never) (λ is_told. inl (refl, refl))
 
       pub finished : (number : ℕ) → id_of ledger number ≡ report.crash.id → is_due ledger.log (id_of ledger number) ≡ true → Does basis state disk (C.Finish report) (R.Finished true) (with_done state (id_of ledger number ∷ [])) disk'
       finished number same waits =
           let due : is_due (events basis state.log) report.crash.id ≡ true = idle_is report.crash.id true (ap (is_due ledger.log) (sym same) ∙ waits) in
           let is : with_done state (id_of ledger number ∷ []) ≡ with_done state (report.crash.id ∷ []) = ap (λ x. with_done state (x ∷ [])) same in
-          processes (C.Finish report) (R.Finished true) (report.crash.id ∷ []) (with_done state (id_of ledger number ∷ [])) is tt (due, refl) (λ never. absurd never) (λ never. absurd never)
+          processes (C.Finish report) (R.Finished true) (report.crash.id ∷ []) (with_done state (id_of ledger number ∷ [])) is (refl, tt) ((due, refl), refl) (λ never. absurd never) (λ never. absurd never)
           (λ is_told. inr (if_due report.crash.id _ _ due (refl, is)))
 
       -- the row that a finish puts is that of the log's raw crash

@@ -7,13 +7,13 @@ use Rattle.soc_desk.specs.Asks.{IsStoreFault}
 use Rattle.soc_desk.specs.Basis.{Basis}
 use Rattle.soc_desk.specs.Keeps.{KeepAllows, KeepGrows, StepKeep}
 use Rattle.soc_desk.specs.Log.{Change, events}
-use Rattle.soc_desk.specs.State.{State, IsLegalState, Allowed}
+use Rattle.soc_desk.specs.State.{State, doubted, IsLegalState, Allowed}
 
 pub record KeepsReports (basis : Basis) (before : State) (disk : DiskTold) (reply : Reply) (after : State) (disk' : DiskTold) : Type 0 where
   -- whatever the disk tells
   pub piece : List Change
   pub behind : after.log ≡ before.log ++ piece
-  pub grows : KeepGrows basis reply (events basis before.log) (events basis piece)
+  pub grows : KeepGrows basis reply (events basis before.log) (doubted basis before) (events basis piece) (doubted basis after)
   pub legal : IsLegalState basis after
   pub goes_on : GoesOn disk disk'
   pub fault : IsStoreFault reply → DiskFailed disk disk'

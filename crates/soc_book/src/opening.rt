@@ -138,6 +138,15 @@ impl<'a, D: Disk, R: Reporter> Book<'a, D, R> {
             doubt: None,
         }
     }
+
+    /// Gives the disk back.
+    pub fn into_disk(self) -> &'a mut D
+        ensures same_disk { result.ghost_name ≡ self.entry.vault.disk.ghost_name }
+        ensures disk { result.now ≡ self.entry.vault.disk.now }
+    {
+        let Book { vault, .. } = self;
+        vault.into_disk()
+    }
 }
 
 /// The most bytes that a journal may have.

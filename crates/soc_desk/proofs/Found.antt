@@ -9,19 +9,23 @@ use Rattle.soc_raw.specs.Names.{value_of}
 use Rattle.soc_raw.specs.Record.{Crash}
 use Rattle.soc_schema.specs.declared.caller.Caller.{Caller}
 use Rattle.soc_schema.specs.declared.value.Cell.{Cell}
-use Rattle.soc_schema.specs.Permits.{granted_cells}
+use Rattle.soc_schema.specs.declared.caller.Products.{Products}
+use Rattle.soc_schema.specs.declared.caller.Products.TheVariants.{All, Some as Only}
+use Rattle.soc_schema.specs.Permits.{granted_cells, shows}
+use Rattle.soc_schema.specs.Reports.{product_of}
 use Rattle.soc_ledger.specs.declared.event.Event.{Event}
 use Rattle.soc_ledger.specs.Due.{due_since_back, is_due, is_due_at_once}
 use Rattle.soc_ledger.specs.Events.{is_held, was_accepted, was_withdrawn}
 use Rattle.soc_ledger.specs.Legal.{IsLegalBack, IsLegal as AreLegal}
 use Rattle.soc_ledger.specs.Reported.{has_report, reported_back}
 use Rattle.soc_desk.specs.Basis.{Basis}
+use Rattle.soc_desk.specs.Grows.{IsGone, sees_all}
 use Rattle.soc_desk.specs.Laws.{was_asked, processed_since}
 use Rattle.soc_desk.specs.Log.{Change, Accepted, accept, ask, withdraw, report, keep, done, stop, accepted_in, accepted_of, event_of, events, is_own, raw_of, row_back, row_in}
 use Rattle.soc_desk.specs.View.{Seen, view_of, is_in}
 use Rattle.soc_desk.proofs.Dues.{due_by_history}
 use Rattle.soc_desk.proofs.Logs.{has_id, was_accepted-is, events_back, reverse-cons, reverse-map, reverse-twice}
-use Rattle.soc_desk.proofs.Unseen.{every, hides_unheld}
+use Rattle.soc_desk.proofs.Unseen.{every, hides_unheld, is_lacking}
 use Rattle.soc_desk.proofs.Views.{true_is_not_false, all-filter_map, item, item_of, items_of, seen_under, shown, value_of-with_value, view_items, view_of_items}
 
 -- ---- the raw crash of an id
@@ -72,6 +76,49 @@ module _ (basis : Basis) (log : List Change) (id : List ℕ) where
         | true ↦ λ is. refl
         | false ↦ λ is. absurd (true_is_not_false (sym seen ∙ ap is_some (hides_unheld basis log caller id is)))
       ] refl
+
+-- ---- callers that see every product
+
+pub shows_all : (products : Products) (product : Option (List ℕ)) → sees_all products ≡ true → shows products product ≡ true
+shows_all All product all = refl
+shows_all (Only names) product all = absurd (true_is_not_false (sym all))
+
+module _ (basis : Basis) (log : List Change) (caller : Caller) (id : List ℕ) (all : sees_all caller.products ≡ true) (held : is_held (events basis log) id ≡ true) where
+  -- what such a caller sees of a held crash
+  item_there : (own : List ℕ) (raw : Option Crash) (row : Option (List Cell)) (b : Bool) → b ≡ true → bytes_eq own id ≡ true → IsSome raw → IfSome (item caller b own raw row) (λ p. bytes_eq p.0 id ≡ false) → ⊥
+  item_there own None row b is same some lacks = true_is_not_false (sym some)
+  item_there own (Some raw) row false is same some lacks = true_is_not_false (sym is)
+  item_there own (Some raw) row true is same some lacks =
+      let P : Bool → Type 0 = λ s. IfSome (option_map (seen_under caller own row) (if s then Some raw else None)) (λ p. bytes_eq p.0 id ≡ false) in
+      true_is_not_false (sym same ∙ subst P (shows_all caller.products (product_of raw) all) lacks)
+
+  lacked_by_all : (crashes : List Accepted) → AreTold crashes → AllByRecursion (λ crash. IfSome (item_of basis log caller crash) (λ p. bytes_eq p.0 id ≡ false)) crashes
+      → list_any (has_id id) crashes ≡ false
+  lacked_by_all [] told lacks = refl
+  lacked_by_all (crash ∷ crashes) told lacks =
+      elim (bytes_eq crash.id id) as (λ b. bytes_eq crash.id id ≡ b → (b || list_any (has_id id) crashes) ≡ false) [
+        | true ↦ λ same.
+            let here : is_held (events basis log) crash.id ≡ true = ap (λ x. is_held (events basis log) x) ((bytes_eq-Decides crash.id id).0 same) ∙ held in
+            absurd (item_there crash.id crash.raw (row_in basis log crash.id) (is_held (events basis log) crash.id) here same told.0 lacks.0)
+        | false ↦ λ other. lacked_by_all crashes told.1 lacks.1
+      ] refl
+
+-- what isn't in the view of such a caller isn't held
+pub absent_gone : (basis : Basis) (log : List Change) (caller : Caller) (id : List ℕ) → AreTold (accepted_of log) → value_of (view_of basis log caller) id ≡ None → IsGone caller id (events basis log)
+absent_gone basis log caller id told none = λ all.
+    elim (is_held (events basis log) id) as (λ b. is_held (events basis log) id ≡ b → not b ≡ true) [
+      | false ↦ λ gone. refl
+      | true ↦ λ held.
+          let new : was_accepted (events basis log) id ≡ false =
+          was_accepted-is basis log id ∙ lacked_by_all basis log caller id all held (accepted_of log) told (is_lacking basis log caller id none) in
+          absurd (true_is_not_false (sym held ∙ ap (λ a. a && not (was_withdrawn (events basis log) id)) new))
+    ] refl
+
+pub unseen_gone : (basis : Basis) (log : List Change) (caller : Caller) (id : List ℕ) → AreTold (accepted_of log) → is_in (view_of basis log caller) id ≡ false → IsGone caller id (events basis log)
+unseen_gone basis log caller id told unseen = absent_gone basis log caller id told (none_in (value_of (view_of basis log caller) id) unseen) where
+  none_in : (o : Option Seen) → is_some o ≡ false → o ≡ None
+  none_in None is = refl
+  none_in (Some seen) is = absurd (true_is_not_false is)
 
 -- ---- the row of a report
 

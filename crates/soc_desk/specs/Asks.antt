@@ -13,13 +13,13 @@ use Rattle.soc_desk.specs.Desk.{Step}
 use Rattle.soc_desk.specs.Grows.{Grows}
 use Rattle.soc_desk.specs.Kinds.{IsReplyTo}
 use Rattle.soc_desk.specs.Log.{Change, events}
-use Rattle.soc_desk.specs.State.{State, IsLegalState, Allowed, Survives}
+use Rattle.soc_desk.specs.State.{State, doubted, IsLegalState, Allowed, Survives}
 
--- the old log is a front of the new one, and what is behind it is what the command adds under its reply
-pub record Gains (basis : Basis) (before : List Change) (command : Command) (reply : Reply) (after : List Change) : Type 0 where
+-- the old log is a front of the new one, what is behind it is what the command adds under its reply, and so is what is in doubt
+pub record Gains (basis : Basis) (before : State) (command : Command) (reply : Reply) (after : State) : Type 0 where
   pub piece : List Change
-  pub behind : after ≡ before ++ piece
-  pub grows : Grows (events basis before) command reply (events basis piece)
+  pub behind : after.log ≡ before.log ++ piece
+  pub grows : Grows basis (events basis before.log) (doubted basis before) command reply (events basis piece) (doubted basis after)
 
 abbrev pub IsStoreFault : Reply → Type 0
 IsStoreFault (R.Refused F.StoreFault) = ⊤
@@ -32,7 +32,7 @@ IsAltered _ = ⊥
 pub record Asks (basis : Basis) (before : State) (disk : DiskTold) (command : Command) (receipt : Receipt) (after : State) (disk' : DiskTold) : Type 0 where
   -- whatever the disk tells
   pub kind : IsReplyTo command receipt.reply
-  pub gains : Gains basis before.log command receipt.reply after.log
+  pub gains : Gains basis before command receipt.reply after
   pub legal : IsLegalState basis after
   pub front : receipt.front ≡ length after.log
   pub short : length after.log < 2 ^ 60

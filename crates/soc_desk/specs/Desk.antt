@@ -74,8 +74,8 @@ FailsMend before reply after = IsSome before.doubt × Refuses before F.StoreFaul
 
 abbrev pub StepWriting : Basis → State → Command → Reply → State → Type 0
 StepWriting basis before command reply after =
-    Refuses before F.NoMemory reply after
-    ⊎ IfPermitted before command reply after (FailsMend before reply after ⊎ SettlesAndDecides basis before command reply after)
+    IfPermitted before command reply after
+    (Refuses before F.NoMemory reply after ⊎ (FailsMend before reply after ⊎ SettlesAndDecides basis before command reply after))
 
 -- ---- reads
 

@@ -1,5 +1,6 @@
 -- Worked logs: what is held, due and reported, who sees what, and what is decided.
-use Rattle.std.specs.Prelude.{◌≡◌, ℕ, List, [], ◌∷◌, ◌++◌, Some, None, true, false, codes, map, replicate, refl}
+use Rattle.std.specs.Prelude.{◌≡◌, ℕ, Bool, List, [], ◌∷◌, ◌++◌, Some, None, true, false, IsTrue, codes, map, replicate, refl}
+use Rattle.soc_raw.specs.declared.raw_crash.RawCrash.{RawCrash}
 use Rattle.soc_raw.specs.Record.{Crash, content_text, head_text, record_of}
 use Rattle.soc_journal.specs.Entries.{entry_text}
 use Rattle.soc_query.specs.Queries.{Asked}
@@ -19,14 +20,16 @@ use Rattle.soc_ledger.specs.Legal.{IsLegal as AreLegal}
 use Rattle.soc_desk.specs.Basis.{Basis}
 use Rattle.soc_desk.specs.Decisions.{answers, appends, decide, decide_submission, accepting}
 use Rattle.soc_desk.specs.Desk.{Step, with_done}
-use Rattle.soc_desk.specs.Grows.{Grows}
+use Rattle.soc_desk.specs.Grows.{Grows, is_new}
+use Rattle.soc_desk.specs.Kinds.{IsReplyTo}
 use Rattle.soc_desk.specs.Keeps.{StepKeep, ids_to_keep}
 use Rattle.soc_desk.specs.Opens.{as_told, log_of}
 use Rattle.soc_desk.specs.Log.{Kept, accept, ask, withdraw, report, Change, keep, done, stop, Accepted, KeptReport, crashes_of, row_in, events}
 use Rattle.soc_desk.specs.Reads.{read_reply}
-use Rattle.soc_desk.specs.State.{State, settled, kept_of}
+use Rattle.soc_desk.specs.State.{State, settled, doubted, kept_of}
 use Rattle.soc_desk.specs.View.{view_of}
 use Rattle.soc_desk.specs.declared.desk.Command.TheVariants as C
+use Rattle.soc_desk.specs.declared.desk.Reply.{Reply}
 use Rattle.soc_desk.specs.declared.desk.Reply.TheVariants as R
 use Rattle.soc_desk.specs.declared.desk.Refusal.TheVariants as F
 
@@ -227,6 +230,9 @@ row_at_last = refl
 stopped : has_stop (events basis every_kind) ≡ true
 stopped = refl
 
+never : false ≡ true → ⊥
+never is = cc
+
 -- ---- steps, and what each appends
 
 abbrev operator : Caller
@@ -235,8 +241,8 @@ operator = record { permissions = record { protected_data = true; view_rawdump =
 turned : Step basis (settled log) (C.Turn operator) (R.Turned (Some first)) (settled (log ++ done first ∷ []))
 turned = inl (refl, refl)
 
-grown_by_a_turn : Grows (events basis log) (C.Turn operator) (R.Turned (Some first)) (E.Done first ∷ [])
-grown_by_a_turn = (refl, refl)
+grown_by_a_turn : Grows basis (events basis log) None (C.Turn operator) (R.Turned (Some first)) (E.Done first ∷ []) None
+grown_by_a_turn = ((refl, refl), refl)
 
 turn_without_a_permission : Step basis (settled log) (C.Turn caller) (R.Refused (F.NoPermission Operate)) (settled log)
 turn_without_a_permission = (refl, refl)
@@ -248,8 +254,8 @@ drained = (refl, refl)
 drained_once : Step basis (settled asked) (C.Drain operator) (R.Refused F.StoreFault) (settled (asked ++ done second ∷ []))
 drained_once = (1, lit< tt, refl)
 
-grown_by_a_failed_drain : Grows (events basis asked) (C.Drain operator) (R.Refused F.StoreFault) (E.Done second ∷ [])
-grown_by_a_failed_drain = (1, lit< tt, refl)
+grown_by_a_failed_drain : Grows basis (events basis asked) None (C.Drain operator) (R.Refused F.StoreFault) (E.Done second ∷ []) None
+grown_by_a_failed_drain = ((1, lit< tt, refl), refl)
 
 stops_once : Step basis (settled log) (C.Stop operator) R.Stopping (settled (log ++ stop ∷ []))
 stops_once = inr (refl, refl)
@@ -282,8 +288,23 @@ was_not_there : Step basis in_doubt (C.Priority caller second) (R.Asked true tru
 unfolding entry_text record_of head_text content_text
 was_not_there = inr (inr (record { log = log; settles = inr refl; decides = inl (inl (refl, refl)) }))
 
-grown_behind_a_doubt : Grows (events basis log) (C.Priority caller second) (R.Asked false false) (E.Asked second ∷ [])
-grown_behind_a_doubt = inr (E.Asked second, [], refl, (refl, refl, refl))
+grown_behind_a_doubt : Grows basis (events basis log) (doubted basis in_doubt) (C.Priority caller second) (R.Asked false false) (E.Asked second ∷ []) None
+grown_behind_a_doubt = inr ([], refl, (refl, refl, refl, refl))
+
+grown_into_a_doubt : Grows basis (events basis log) None (C.Priority caller second) (R.Refused F.StoreFault) [] (Some (E.Asked second))
+grown_into_a_doubt = inr ((refl, refl, refl), refl)
+
+-- nothing else is in doubt afterwards, and a read leaves no doubt
+another_doubt : Grows basis (events basis log) None (C.Priority caller second) (R.Refused F.StoreFault) [] (Some (E.Withdrawn first)) → ⊥
+another_doubt (inl (some, stays)) = never some
+another_doubt (inr ((held, idle, doubt), same)) = cc
+
+doubt_by_a_read : (reply : Reply) → Grows basis (events basis log) None (C.Raw caller second) reply [] (Some (E.Withdrawn first)) → ⊥
+doubt_by_a_read reply (reads, (same, doubt)) = cc
+
+-- nothing but the change in doubt stands before a command's own
+grown_without_a_doubt : Grows basis (events basis log) None (C.Priority caller second) (R.Asked true true) (E.Done first ∷ E.Asked second ∷ []) None → ⊥
+grown_without_a_doubt (held, idle, same, clear) = cc
 
 no_mend : Step basis in_doubt (C.Withdraw operator first) (R.Refused F.StoreFault) in_doubt
 no_mend = inr (inl (refl, (refl, refl)))
@@ -292,10 +313,52 @@ withdraws_it : Step basis (settled log) (C.Withdraw operator first) R.Withdrawn 
 unfolding entry_text record_of head_text content_text
 withdraws_it = inr (inr (record { log = log; settles = refl; decides = inl (inl (refl, refl)) }))
 
+-- there are too many crashes at the limit, and not before
+too_many_at_the_limit : (raw : RawCrash) → IsTrue (is_new (events basis log) raw.id) → Grows basis (events basis log) None (C.Submit raw) (R.Refused F.TooManyCrashes) [] None
+too_many_at_the_limit raw new = ((new, refl, refl), refl)
+
+too_many_before_it : (raw : RawCrash) → Grows basis (events basis (accepted firefox ∷ [])) None (C.Submit raw) (R.Refused F.TooManyCrashes) [] None → ⊥
+too_many_before_it raw ((new, full, clear), same) = never full
+
+stored_at_the_limit : (raw : RawCrash) (due : Bool) → Grows basis (events basis log) None (C.Submit raw) (R.Stored raw.id due) (E.Accepted raw.id ∷ []) None → ⊥
+stored_at_the_limit raw due (new, few, same, clear) = never few
+
+-- a full journal shows only where the ask would have been written
+full_for_a_due_crash : Grows basis (events basis log) None (C.Priority caller first) (R.Refused F.JournalFull) [] None → ⊥
+full_for_a_due_crash ((held, idle, clear), same) = never idle
+
 -- a journal without room
 no_room : Step (record basis { journal_bytes = 64 }) (settled log) (C.Withdraw operator first) (R.Refused F.JournalFull) (settled log)
 unfolding entry_text record_of head_text content_text
 no_room = inr (inr (record { log = log; settles = refl; decides = inl (refl, refl) }))
+
+-- a caller that sees every product finds each held crash
+not_found_though_held : Grows basis (events basis log) None (C.Raw caller second) (R.Refused F.NoCrash) [] None → ⊥
+not_found_though_held (gone, stays) = never (gone refl)
+
+not_found_by_another : Grows basis (events basis log) None (C.Raw limited first) (R.Refused F.NoCrash) [] None
+not_found_by_another = (λ all. absurd (never all), (refl, refl))
+
+-- a lacked permission is said before memory is wanted
+wants_memory_without_it : Step basis (settled log) (C.Withdraw caller first) (R.Refused F.NoMemory) (settled log) → ⊥
+wants_memory_without_it (said, same) = cc
+
+-- ---- replies, and the permission of their caller
+
+dump_without_it : (bytes : List ℕ) → IsReplyTo (C.Dump caller first (codes "upload_file_minidump")) (R.Dump bytes) → ⊥
+dump_without_it bytes (lacks, own) = cc
+
+stop_without_it : IsReplyTo (C.Stop caller) R.Stopping → ⊥
+stop_without_it (lacks, own) = cc
+
+drain_without_it : (count : ℕ) → IsReplyTo (C.Drain caller) (R.Drained count) → ⊥
+drain_without_it count (lacks, own) = cc
+
+refused_with_it : IsReplyTo (C.Stop operator) (R.Refused (F.NoPermission Operate)) → ⊥
+refused_with_it lacks = cc
+
+stop_with_it : IsReplyTo (C.Stop operator) R.Stopping
+stop_with_it = (refl, tt)
 
 -- ---- reports kept for later runs
 

@@ -1,10 +1,13 @@
 -- What a command's reply says of the log, and what the command adds to it, without contents. It holds whatever the disk
 -- tells.
-use Rattle.std.specs.Prelude.{◌≡◌, ◌⊎◌, ℕ, ◌<◌, Bool, true, false, not, ◌||◌, ◌&&◌, IsTrue, List, [], ◌∷◌, ◌++◌, length, map, take, None, Some, slice_get, ⊤}
+use Rattle.std.specs.Prelude.{◌≡◌, ◌⊎◌, ℕ, ◌<◌, nat_le, Bool, true, false, not, ◌||◌, ◌&&◌, IsTrue, List, [], ◌∷◌, ◌++◌, length, map, take, Option, None, Some, IsSome, slice_get, ⊤}
+use Rattle.soc_schema.specs.declared.caller.Caller.{Caller}
+use Rattle.soc_schema.specs.declared.caller.Products.{Products}
+use Rattle.soc_schema.specs.declared.caller.Products.TheVariants.{All, Some as Only}
 use Rattle.soc_ledger.specs.declared.event.Event.{Event}
 use Rattle.soc_ledger.specs.declared.event.Event.TheVariants as E
 use Rattle.soc_ledger.specs.Due.{due_ids, is_due}
-use Rattle.soc_ledger.specs.Events.{is_held, was_accepted, was_withdrawn, has_stop}
+use Rattle.soc_ledger.specs.Events.{is_held, was_accepted, was_withdrawn, has_stop, accepted_ids}
 use Rattle.soc_ledger.specs.Reported.{has_report}
 use Rattle.soc_desk.specs.declared.desk.Command.{Command}
 use Rattle.soc_desk.specs.declared.desk.Command.TheVariants as C
@@ -12,56 +15,103 @@ use Rattle.soc_desk.specs.declared.desk.Reply.{Reply}
 use Rattle.soc_desk.specs.declared.desk.Reply.TheVariants as R
 use Rattle.soc_desk.specs.declared.desk.Refusal.{Refusal}
 use Rattle.soc_desk.specs.declared.desk.Refusal.TheVariants as F
+use Rattle.soc_desk.specs.Basis.{Basis}
+
+-- ---- crashes that aren't found
+
+abbrev pub sees_all : Products → Bool
+sees_all All = true
+sees_all (Only names) = false
+
+-- Of a caller that sees every product: the crash isn't held. The log has no products, so of others nothing is said here.
+abbrev pub IsGone : Caller → List ℕ → List Event → Type 0
+IsGone caller id log = IsTrue (sees_all caller.products) → IsTrue (not (is_held log id))
 
 -- ---- commands that write, of a settled log
 
 abbrev pub is_new : List Event → List ℕ → Bool
 is_new log id = not (was_accepted log id)
 
+-- as many crashes were accepted as may be
+abbrev pub is_full : Basis → List Event → Bool
+is_full basis log = nat_le basis.crashes (length (accepted_ids log))
+
 abbrev pub is_due_or_reported : List Event → List ℕ → Bool
 is_due_or_reported log id = is_due log id || has_report log id
 
--- a submission of an id, refused: nothing is added
-abbrev pub SubmitRefused : List Event → List ℕ → Refusal → Type 0
-SubmitRefused log id (F.OtherContent other) = IsTrue (is_held log id)
-SubmitRefused log id (F.Withdrawn other) = IsTrue (was_withdrawn log id)
-SubmitRefused log id F.TooManyCrashes = IsTrue (is_new log id)
-SubmitRefused log id F.JournalFull = IsTrue (is_new log id)
-SubmitRefused log id _ = ⊤
+-- the write of this event failed, so that it is in doubt afterwards
+abbrev pub InDoubt : Event → Option Event → Type 0
+InDoubt event after = after ≡ Some event
+
+-- A submission of an id is refused: what the log says then, and what is in doubt afterwards. Its write failed, or the disk
+-- did where the content was to be compared.
+abbrev pub SubmitRefused : Basis → List ℕ → Refusal → Option Event → List Event → Type 0
+SubmitRefused basis id (F.OtherContent other) after log = IsTrue (is_held log id) × (after ≡ None)
+SubmitRefused basis id (F.Withdrawn other) after log = IsTrue (was_withdrawn log id) × (after ≡ None)
+SubmitRefused basis id F.TooManyCrashes after log = IsTrue (is_new log id) × IsTrue (is_full basis log) × (after ≡ None)
+SubmitRefused basis id F.JournalFull after log = IsTrue (is_new log id) × IsTrue (not (is_full basis log)) × (after ≡ None)
+SubmitRefused basis id F.StoreFault after log =
+    (IsTrue (is_new log id) × IsTrue (not (is_full basis log)) × InDoubt (E.Accepted id) after) ⊎ (IsTrue (is_held log id) × (after ≡ None))
+SubmitRefused basis id _ after log = ⊥
 
 -- what a submission of an id adds
-abbrev pub Submits : List ℕ → Reply → List Event → List Event → Type 0
-Submits id (R.Stored other due) log own = IsTrue (is_new log id) × (own ≡ E.Accepted id ∷ [])
-Submits id (R.Repeated other) log own = IsTrue (is_held log id) × (own ≡ [])
-Submits id (R.Refused refusal) log own = SubmitRefused log id refusal × (own ≡ [])
-Submits id _ log own = ⊥
+abbrev pub Submits : Basis → List ℕ → Reply → Option Event → List Event → List Event → Type 0
+Submits basis id (R.Stored other due) after log own = IsTrue (is_new log id) × IsTrue (not (is_full basis log)) × (own ≡ E.Accepted id ∷ []) × (after ≡ None)
+Submits basis id (R.Repeated other) after log own = IsTrue (is_held log id) × (own ≡ []) × (after ≡ None)
+Submits basis id (R.Refused refusal) after log own = SubmitRefused basis id refusal after log × (own ≡ [])
+Submits basis id _ after log own = ⊥
 
--- what an ask adds that is passed over where the crash is due or has a report
-abbrev pub Prioritises : List ℕ → Reply → List Event → List Event → Type 0
-Prioritises id (R.Asked true due) log own = IsTrue (is_held log id) × IsTrue (not (is_due_or_reported log id)) × (own ≡ E.Asked id ∷ [])
-Prioritises id (R.Asked false due) log own = IsTrue (is_held log id) × IsTrue (is_due_or_reported log id) × (own ≡ [])
-Prioritises id (R.Refused refusal) log own = own ≡ []
-Prioritises id _ log own = ⊥
+-- an ask that is passed over where the crash is due or has a report, refused: a full journal or a failed write shows only
+-- where it isn't
+abbrev pub PriorityRefused : Caller → List ℕ → Refusal → Option Event → List Event → Type 0
+PriorityRefused caller id F.NoCrash after log = IsGone caller id log × (after ≡ None)
+PriorityRefused caller id F.JournalFull after log = IsTrue (is_held log id) × IsTrue (not (is_due_or_reported log id)) × (after ≡ None)
+PriorityRefused caller id F.StoreFault after log = IsTrue (is_held log id) × IsTrue (not (is_due_or_reported log id)) × InDoubt (E.Asked id) after
+PriorityRefused caller id _ after log = ⊥
 
-abbrev pub Reprocesses : List ℕ → Reply → List Event → List Event → Type 0
-Reprocesses id (R.Asked asked due) log own = IsTrue (is_held log id) × (own ≡ E.Asked id ∷ [])
-Reprocesses id (R.Refused refusal) log own = own ≡ []
-Reprocesses id _ log own = ⊥
+-- what such an ask adds
+abbrev pub Prioritises : Caller → List ℕ → Reply → Option Event → List Event → List Event → Type 0
+Prioritises caller id (R.Asked true due) after log own =
+    IsTrue (is_held log id) × IsTrue (not (is_due_or_reported log id)) × (own ≡ E.Asked id ∷ []) × (after ≡ None)
+Prioritises caller id (R.Asked false due) after log own = IsTrue (is_held log id) × IsTrue (is_due_or_reported log id) × (own ≡ []) × (after ≡ None)
+Prioritises caller id (R.Refused refusal) after log own = PriorityRefused caller id refusal after log × (own ≡ [])
+Prioritises caller id _ after log own = ⊥
 
-abbrev pub Withdraws : List ℕ → Reply → List Event → List Event → Type 0
-Withdraws id R.Withdrawn log own = IsTrue (is_held log id) × (own ≡ E.Withdrawn id ∷ [])
-Withdraws id (R.Refused refusal) log own = own ≡ []
-Withdraws id _ log own = ⊥
+-- this change of a held crash, refused: a full journal or a failed write shows only where the crash is held
+abbrev pub ChangeRefused : Event → Caller → List ℕ → Refusal → Option Event → List Event → Type 0
+ChangeRefused event caller id F.NoCrash after log = IsGone caller id log × (after ≡ None)
+ChangeRefused event caller id F.JournalFull after log = IsTrue (is_held log id) × (after ≡ None)
+ChangeRefused event caller id F.StoreFault after log = IsTrue (is_held log id) × InDoubt event after
+ChangeRefused event caller id _ after log = ⊥
 
--- behind a doubt that was kept, or without one
-abbrev pub BehindDoubt : List Event → List Event → (List Event → List Event → Type 0) → Type 0
-BehindDoubt log piece Adds = Adds log piece ⊎ ((doubt : Event) × (own : List Event) × (piece ≡ doubt ∷ own) × Adds (log ++ doubt ∷ []) own)
+abbrev pub Reprocesses : Caller → List ℕ → Reply → Option Event → List Event → List Event → Type 0
+Reprocesses caller id (R.Asked asked due) after log own = IsTrue (is_held log id) × (own ≡ E.Asked id ∷ []) × (after ≡ None)
+Reprocesses caller id (R.Refused refusal) after log own = ChangeRefused (E.Asked id) caller id refusal after log × (own ≡ [])
+Reprocesses caller id _ after log own = ⊥
 
--- where an allocation failed, nothing was settled either
-abbrev pub Writes : List Event → List Event → Reply → (List Event → List Event → Type 0) → Type 0
-Writes log piece (R.Refused F.NoMemory) Adds = piece ≡ []
-Writes log piece (R.Refused (F.NoPermission name)) Adds = piece ≡ []
-Writes log piece reply Adds = BehindDoubt log piece Adds
+abbrev pub Withdraws : Caller → List ℕ → Reply → Option Event → List Event → List Event → Type 0
+Withdraws caller id R.Withdrawn after log own = IsTrue (is_held log id) × (own ≡ E.Withdrawn id ∷ []) × (after ≡ None)
+Withdraws caller id (R.Refused refusal) after log own = ChangeRefused (E.Withdrawn id) caller id refusal after log × (own ≡ [])
+Withdraws caller id _ after log own = ⊥
+
+-- ---- with the doubt
+
+-- behind the change in doubt, where it was kept, or without it
+abbrev pub BehindDoubt : List Event → Option Event → List Event → (List Event → List Event → Type 0) → Type 0
+BehindDoubt log None piece Adds = Adds log piece
+BehindDoubt log (Some doubt) piece Adds = Adds log piece ⊎ ((own : List Event) × (piece ≡ doubt ∷ own) × Adds (log ++ doubt ∷ []) own)
+
+-- the doubt wasn't settled, and stays
+abbrev pub StaysInDoubt : Option Event → List Event → Option Event → Type 0
+StaysInDoubt doubt piece after = (piece ≡ []) × (after ≡ doubt)
+
+-- Where an allocation failed, nothing was settled either. Where the disk failed, there may have been a doubt that it failed to
+-- settle.
+abbrev pub Writes : List Event → Option Event → List Event → Reply → Option Event → (List Event → List Event → Type 0) → Type 0
+Writes log doubt piece (R.Refused F.NoMemory) after Adds = StaysInDoubt doubt piece after
+Writes log doubt piece (R.Refused (F.NoPermission name)) after Adds = StaysInDoubt doubt piece after
+Writes log doubt piece (R.Refused F.StoreFault) after Adds = (IsSome doubt × StaysInDoubt doubt piece after) ⊎ BehindDoubt log doubt piece Adds
+Writes log doubt piece reply after Adds = BehindDoubt log doubt piece Adds
 
 -- ---- commands that process
 
@@ -117,10 +167,16 @@ FailsOnHeld log id F.NoMemory = IsTrue (is_held log id)
 FailsOnHeld log id F.NotProcessed = IsTrue (is_held log id && not (has_report log id))
 FailsOnHeld log id _ = ⊤
 
-abbrev pub ReadsHeld : List Event → List ℕ → Reply → Type 0
-ReadsHeld log id (R.Refused refusal) = FailsOnHeld log id refusal
-ReadsHeld log id (R.Row row) = IsTrue (is_held log id && has_report log id)
-ReadsHeld log id _ = IsTrue (is_held log id)
+-- a dump isn't found either where the crash has none of its name
+abbrev pub ReadsDump : List Event → List ℕ → Reply → Type 0
+ReadsDump log id (R.Refused refusal) = FailsOnHeld log id refusal
+ReadsDump log id _ = IsTrue (is_held log id)
+
+abbrev pub ReadsHeld : Caller → List Event → List ℕ → Reply → Type 0
+ReadsHeld caller log id (R.Refused F.NoCrash) = IsGone caller id log
+ReadsHeld caller log id (R.Refused refusal) = FailsOnHeld log id refusal
+ReadsHeld caller log id (R.Row row) = IsTrue (is_held log id && has_report log id)
+ReadsHeld caller log id _ = IsTrue (is_held log id)
 
 abbrev pub FetchFails : List Event → List ℕ → Refusal → Type 0
 FetchFails log id F.NoCrash = IsTrue (not (is_held log id))
@@ -134,19 +190,20 @@ Fetches log id _ = ⊥
 
 -- ---- every command
 
--- the events that a command adds under its reply to a log, and what the reply says of the log
-abbrev pub Grows : List Event → Command → Reply → List Event → Type 0
-Grows log (C.Submit raw) reply piece = Writes log piece reply (Submits raw.id reply)
-Grows log (C.Priority caller id) reply piece = Writes log piece reply (Prioritises id reply)
-Grows log (C.Reprocess caller id) reply piece = Writes log piece reply (Reprocesses id reply)
-Grows log (C.Withdraw caller id) reply piece = Writes log piece reply (Withdraws id reply)
-Grows log (C.Turn caller) reply piece = Turns log reply piece
-Grows log (C.Drain caller) reply piece = Drains log reply piece
-Grows log (C.Stop caller) reply piece = Stops log reply piece
-Grows log (C.Finish processed) reply piece = Finishes log processed.crash.id reply piece
-Grows log (C.Raw caller id) reply piece = ReadsHeld log id reply × (piece ≡ [])
-Grows log (C.Processed caller id) reply piece = ReadsHeld log id reply × (piece ≡ [])
-Grows log (C.Dump caller id name) reply piece = ReadsHeld log id reply × (piece ≡ [])
-Grows log (C.Fetch id) reply piece = Fetches log id reply × (piece ≡ [])
-Grows log (C.Search query) reply piece = piece ≡ []
-Grows log (C.Tops query) reply piece = piece ≡ []
+-- The events that a command adds under its reply to a log with an event in doubt, what is in doubt afterwards, and what the
+-- reply says of the log.
+abbrev pub Grows : Basis → List Event → Option Event → Command → Reply → List Event → Option Event → Type 0
+Grows basis log doubt (C.Submit raw) reply piece after = Writes log doubt piece reply after (Submits basis raw.id reply after)
+Grows basis log doubt (C.Priority caller id) reply piece after = Writes log doubt piece reply after (Prioritises caller id reply after)
+Grows basis log doubt (C.Reprocess caller id) reply piece after = Writes log doubt piece reply after (Reprocesses caller id reply after)
+Grows basis log doubt (C.Withdraw caller id) reply piece after = Writes log doubt piece reply after (Withdraws caller id reply after)
+Grows basis log doubt (C.Turn caller) reply piece after = Turns log reply piece × (after ≡ doubt)
+Grows basis log doubt (C.Drain caller) reply piece after = Drains log reply piece × (after ≡ doubt)
+Grows basis log doubt (C.Stop caller) reply piece after = Stops log reply piece × (after ≡ doubt)
+Grows basis log doubt (C.Finish processed) reply piece after = Finishes log processed.crash.id reply piece × (after ≡ doubt)
+Grows basis log doubt (C.Raw caller id) reply piece after = ReadsHeld caller log id reply × StaysInDoubt doubt piece after
+Grows basis log doubt (C.Processed caller id) reply piece after = ReadsHeld caller log id reply × StaysInDoubt doubt piece after
+Grows basis log doubt (C.Dump caller id name) reply piece after = ReadsDump log id reply × StaysInDoubt doubt piece after
+Grows basis log doubt (C.Fetch id) reply piece after = Fetches log id reply × StaysInDoubt doubt piece after
+Grows basis log doubt (C.Search query) reply piece after = StaysInDoubt doubt piece after
+Grows basis log doubt (C.Tops query) reply piece after = StaysInDoubt doubt piece after

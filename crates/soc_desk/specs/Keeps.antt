@@ -1,6 +1,6 @@
 -- How the reports of a run are kept for later runs: the doubt is settled, and then each crash that has a report, isn't due
 -- and has no report of the run's digest behind its last acceptance or asking gets one appended. This project's profile.
-use Rattle.std.specs.Prelude.{◌≡◌, ◌⊎◌, ℕ, ◌+◌, Bool, not, nat_lt, ◌&&◌, ◌||◌, if◌then◌else◌, List, [], ◌∷◌, ◌++◌, length, filter, Option, Some, is_some, MatchOption, map, true, ⊤}
+use Rattle.std.specs.Prelude.{◌≡◌, ◌⊎◌, ℕ, ◌+◌, Bool, not, nat_lt, ◌&&◌, ◌||◌, if◌then◌else◌, List, [], ◌∷◌, ◌++◌, length, filter, Option, None, Some, IsSome, is_some, MatchOption, map, true, ⊤}
 use Rattle.std.specs.Option.{option_map, option_map_or, option_and_then}
 use Rattle.soc_journal.specs.Entries.{max_body}
 use Rattle.soc_ledger.specs.declared.event.Event.{Event}
@@ -13,7 +13,7 @@ use Rattle.soc_desk.specs.declared.desk.Reply.TheVariants as R
 use Rattle.soc_desk.specs.declared.desk.Refusal.TheVariants as F
 use Rattle.soc_desk.specs.Basis.{Basis}
 use Rattle.soc_desk.specs.Desk.{IfElse, FailsMend}
-use Rattle.soc_desk.specs.Grows.{BehindDoubt}
+use Rattle.soc_desk.specs.Grows.{BehindDoubt, StaysInDoubt}
 use Rattle.soc_desk.specs.Log.{Kept, KeptReport, report, Change, keep, events, row_in}
 use Rattle.soc_desk.specs.State.{State, settled, Settles, body_of, has_room, kept_of, StandsFor, Allowed}
 
@@ -80,20 +80,24 @@ IsPartOf [] ids = ⊤
 IsPartOf (own ∷ owns) [] = ⊥
 IsPartOf (own ∷ owns) (id ∷ ids) = ((own ≡ id) × IsPartOf owns ids) ⊎ IsPartOf (own ∷ owns) ids
 
--- the answer has the number of reports that were appended, or a fault or want of memory stands behind some
-abbrev pub Counts : Reply → ℕ → Type 0
-Counts (R.Kept count) made = count ≡ made
-Counts (R.Refused F.StoreFault) made = ⊤
-Counts (R.Refused F.NoMemory) made = ⊤
-Counts _ made = ⊥
+-- The answer has the number of these reports that were appended, and then nothing is in doubt; or memory was wanted; or the
+-- write of one more failed, which is in doubt.
+abbrev pub EndsReports : Basis → Reply → List Event → List (List ℕ) → Option Event → Type 0
+EndsReports basis (R.Kept count) log ids after = (count ≡ length ids) × (after ≡ None)
+EndsReports basis (R.Refused F.NoMemory) log ids after = after ≡ None
+EndsReports basis (R.Refused F.StoreFault) log ids after =
+    (id : List ℕ) × IsPartOf (ids ++ id ∷ []) (to_keep_of basis log) × (after ≡ Some (E.Reported id true))
+EndsReports basis _ log ids after = ⊥
 
 -- of crashes whose reports are to be kept, some in their order are reported by the run's own lists and symbols
-pub record Reports (basis : Basis) (reply : Reply) (log own : List Event) : Type 0 where
+pub record Reports (basis : Basis) (reply : Reply) (after : Option Event) (log own : List Event) : Type 0 where
   pub ids : List (List ℕ)
   pub among : IsPartOf ids (to_keep_of basis log)
   pub own_is : own ≡ map (λ id. E.Reported id true) ids
-  pub count : Counts reply (length ids)
+  pub ends : EndsReports basis reply log ids after
 
--- what keeping reports adds, behind a doubt that was kept or without one
-abbrev pub KeepGrows : Basis → Reply → List Event → List Event → Type 0
-KeepGrows basis reply log piece = BehindDoubt log piece (Reports basis reply)
+-- what keeping reports adds, behind the change in doubt, where it was kept, or without it; or the doubt couldn't be settled
+abbrev pub KeepGrows : Basis → Reply → List Event → Option Event → List Event → Option Event → Type 0
+KeepGrows basis (R.Refused F.StoreFault) log doubt piece after =
+    (IsSome doubt × StaysInDoubt doubt piece after) ⊎ BehindDoubt log doubt piece (Reports basis (R.Refused F.StoreFault) after)
+KeepGrows basis reply log doubt piece after = BehindDoubt log doubt piece (Reports basis reply after)

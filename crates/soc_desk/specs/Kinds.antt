@@ -1,5 +1,5 @@
--- Which replies a command may get, whatever the disk tells: of the command's own kind, with its own id, and with granted
--- fields and annotations alone. That a command's own reply comes only where its caller has the permission stands in `Step`.
+-- Which replies a command may get, whatever the disk tells: that its caller lacks the permission, exactly where that is so;
+-- else one of the command's own kind, with its own id, and with granted fields and annotations alone.
 use Rattle.std.specs.Prelude.{◌≡◌, ℕ, IsTrue, List, map, None, Some, ⊤}
 use Rattle.std.specs.List.{AllByRecursion}
 use Rattle.soc_schema.specs.Fields.{permission_of_annotation}
@@ -96,13 +96,13 @@ IsOwnReply (C.Stop caller) R.Stopping = ⊤
 IsOwnReply (C.Fetch id) (R.Fetched None) = ⊤
 IsOwnReply (C.Fetch id) (R.Fetched (Some raw)) = raw.id ≡ id
 IsOwnReply (C.Finish processed) (R.Finished changed) = ⊤
-IsOwnReply command (R.Refused refusal) = (lacked command ≡ None) × MayRefuse command refusal
+IsOwnReply command (R.Refused refusal) = MayRefuse command refusal
 IsOwnReply _ _ = ⊥
 
--- a reply that the desk's tables have for the command: its own, or that its caller lacks a permission
+-- a reply that the desk's tables have for the command: that its caller lacks a permission, or, where none is lacked, its own
 abbrev pub IsReplyTo : Command → Reply → Type 0
 IsReplyTo command (R.Refused (F.NoPermission name)) = lacked command ≡ Some name
-IsReplyTo command reply = IsOwnReply command reply
+IsReplyTo command reply = (lacked command ≡ None) × IsOwnReply command reply
 
 -- the command may be asked at any time
 abbrev pub NeedsNothing : Command → Type 0

@@ -129,4 +129,4 @@ DigestsDecide = (basis : Basis) (log : List Change) (raw : RawCrash) (held : Cra
 -- the log before a step is a front of the one after it, and what is behind it is what the command adds
 abbrev pub StepsGrow : Type 0
 StepsGrow = (basis : Basis) (before : State) (command : Command) (reply : Reply) (after : State) → IsTrue basis.is_told
-    → IsLegalState basis before → Step basis before command reply after → Gains basis before.log command reply after.log
+    → IsLegalState basis before → Step basis before command reply after → Gains basis before command reply after

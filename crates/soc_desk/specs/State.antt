@@ -1,13 +1,14 @@
 -- The state of a desk: a log, and a doubt.
 use Rattle.std.specs.Prelude.{◌≡◌, ◌⊎◌, ℕ, ◌+◌, Bool, nat_le, List, [], ◌∷◌, ◌++◌, length, map, filter_map, Option, None, Some, IfSome, IsSomeAnd}
-use Rattle.std.specs.Option.{option_map_or}
+use Rattle.std.specs.Option.{option_map, option_map_or}
 use Rattle.soc_raw.specs.Record.{record_of}
 use Rattle.soc_schema.specs.RowText.{row_text}
 use Rattle.soc_edge.specs.Disk.{DiskTold, LeavesOnly}
 use Rattle.soc_journal.specs.Entries.{Entry, accept_kind, ask_kind, withdraw_kind, report_kind, beside_body, place_behind}
 use Rattle.soc_journal.specs.Text.{JournalText}
+use Rattle.soc_ledger.specs.declared.event.Event.{Event}
 use Rattle.soc_desk.specs.Basis.{Basis}
-use Rattle.soc_desk.specs.Log.{Kept, accept, ask, withdraw, report, Change, keep, done, stop, IsLegal}
+use Rattle.soc_desk.specs.Log.{Kept, accept, ask, withdraw, report, Change, keep, done, stop, event_of, IsLegal}
 
 -- a log, and the kept change whose write failed and which may stand in the journal or not
 pub record State : Type 0 where
@@ -16,6 +17,10 @@ pub record State : Type 0 where
 
 abbrev pub settled : List Change → State
 settled log = record { log = log; doubt = None }
+
+-- the change in doubt without its content
+abbrev pub doubted : Basis → State → Option Event
+doubted basis state = option_map (λ change. event_of basis (keep change)) state.doubt
 
 -- the log is legal, and so it is with the doubt
 pub record IsLegalState (basis : Basis) (state : State) : Type 0 where

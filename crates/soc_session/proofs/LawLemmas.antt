@@ -9,7 +9,7 @@ use Rattle.soc_http.specs.declared.route.RouteError.TheVariants.{NoRoute, WrongV
 use Rattle.soc_http.specs.declared.verb.Verb.{Verb}
 use Rattle.soc_http.specs.Message.{Message}
 use Rattle.soc_http.specs.Route.{Target, is_verb, route_of, taken_with, target_of}
-use Rattle.soc_multipart.proofs.LawLemmas.{one_submission}
+use Rattle.soc_forms.proofs.LawLemmas.{one_submission}
 use Rattle.soc_session.specs.declared.rules.Rules.{Rules}
 use Rattle.soc_session.specs.Laws.{IsOnePlan}
 use Rattle.soc_session.specs.Plan.{Drawn, Plan, says, PlansAt, PlansFor, PlansRoute, PlansSubmission, Undrawn, asker_of, plan_of}

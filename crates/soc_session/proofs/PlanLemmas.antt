@@ -4,8 +4,8 @@ use Rattle.std.specs.Prelude.{IfOk}
 use Rattle.soc_raw.specs.declared.no_memory.NoMemory.{NoMemory}
 use Rattle.soc_edge.specs.Ahead.{Outlook}
 use Rattle.soc_edge.proofs.Ahead.{Hands-none}
-use Rattle.soc_multipart.specs.Submissions.{SubmissionText}
-use Rattle.soc_multipart.specs.declared.reasons.Reason.{Reason}
+use Rattle.soc_forms.specs.Submissions.{SubmissionText}
+use Rattle.soc_forms.specs.declared.reasons.Reason.{Reason}
 use Rattle.soc_schema.specs.declared.caller.Caller.{Caller}
 use Rattle.soc_query.specs.declared.error.QueryError.{QueryError}
 use Rattle.soc_query.specs.declared.error.QueryError.TheVariants as Q

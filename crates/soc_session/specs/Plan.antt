@@ -10,8 +10,8 @@ use Rattle.soc_throttle.specs.declared.rule.Outcome.TheVariants.{Accept, Defer, 
 use Rattle.soc_throttle.specs.declared.rule.Rule.{Rule}
 use Rattle.soc_throttle.specs.Verdicts.{verdict_of}
 use Rattle.soc_schema.specs.declared.caller.Caller.{Caller}
-use Rattle.soc_multipart.specs.declared.reasons.Reason.{Reason}
-use Rattle.soc_multipart.specs.Submissions.{SubmissionText, SubmissionOf, SubmissionFault}
+use Rattle.soc_forms.specs.declared.reasons.Reason.{Reason}
+use Rattle.soc_forms.specs.Submissions.{SubmissionText, SubmissionOf, SubmissionFault}
 use Rattle.soc_query.specs.declared.error.QueryError.{QueryError}
 use Rattle.soc_query.specs.Queries.{Asked, query_of}
 use Rattle.soc_tops.specs.declared.error.TopsError.{TopsError}

@@ -4,8 +4,8 @@ use Rattle.std.specs.Prelude.{ℕ, Bool, false, List, ◌++◌, codes, None, Som
 use Rattle.soc_schema.specs.declared.value.Cell.{Cell}
 use Rattle.soc_schema.specs.Permits.{permission_name}
 use Rattle.soc_schema.specs.RowJson.{row_json}
-use Rattle.soc_multipart.specs.declared.reasons.Reason.{Reason}
-use Rattle.soc_multipart.specs.Reasons.{reason_text}
+use Rattle.soc_forms.specs.declared.reasons.Reason.{Reason}
+use Rattle.soc_forms.specs.Reasons.{reason_text}
 use Rattle.soc_query.specs.declared.answer.Answer.{Answer}
 use Rattle.soc_query.specs.declared.error.QueryError.{QueryError}
 use Rattle.soc_query.specs.declared.error.QueryError.TheVariants as Q

@@ -6,8 +6,8 @@ ghost use Rattle.soc_session.specs.Replies.{BuildsText, desk_refusal, desk_reply
 use crate::forms::Form;
 use crate::json::annotations_json;
 use soc_desk::{Refusal, Reply};
+use soc_forms::Reason;
 use soc_http::{Answered, HeadError, Kind, Verb};
-use soc_multipart::Reason;
 use soc_pages::{report_page, search_page, tops_page};
 use soc_query::{Answer, QueryError};
 use soc_raw::{Bytes, CrashId, NoMemory};

@@ -1,6 +1,6 @@
 -- What a command over a book does, whatever the disk tells and where it tells its content; a receipt and the log's length
 -- are not spoken of.
-use Rattle.std.specs.Prelude.{◌≡◌, ◌⊎◌, false, IsTrue, List, ◌++◌, IsSomeAnd, ⊤}
+use Rattle.std.specs.Prelude.{◌≡◌, ◌⊎◌, false, IsTrue, List, ◌++◌, Option, IsSomeAnd, ⊤}
 use Rattle.soc_edge.specs.Disk.{DiskTold, GoesOn, DiskFailed}
 use Rattle.soc_ledger.specs.declared.event.Event.{Event}
 use Rattle.soc_desk.specs.declared.desk.Command.{Command}
@@ -15,12 +15,12 @@ use Rattle.soc_desk.specs.Desk.{Decides, FailsRead, Step}
 use Rattle.soc_desk.specs.Grows.{Submits, Prioritises, Reprocesses, Withdraws}
 use Rattle.soc_desk.specs.Kinds.{IsReplyTo}
 use Rattle.soc_desk.specs.Log.{Change, events}
-use Rattle.soc_desk.specs.State.{State, settled, Survives}
+use Rattle.soc_desk.specs.State.{State, settled, doubted, Survives}
 
 -- what a command does to the state and the disk
 pub record Does (basis : Basis) (before : State) (disk : DiskTold) (command : Command) (reply : Reply) (after : State) (disk' : DiskTold) : Type 0 where
   pub kind : IsReplyTo command reply
-  pub gains : Gains basis before.log command reply after.log
+  pub gains : Gains basis before command reply after
   pub goes_on : GoesOn disk disk'
   pub fault : IsStoreFault reply → DiskFailed disk disk'
   pub altered : IsAltered reply → basis.is_told ≡ false
@@ -29,13 +29,13 @@ pub record Does (basis : Basis) (before : State) (disk : DiskTold) (command : Co
 
 -- ---- commands that write, once the doubt is settled
 
--- what a command that writes adds to a settled log under its reply
-abbrev pub Adds : Command → Reply → List Event → List Event → Type 0
-Adds (C.Submit raw) = Submits raw.id
-Adds (C.Priority caller id) = Prioritises id
-Adds (C.Reprocess caller id) = Reprocesses id
-Adds (C.Withdraw caller id) = Withdraws id
-Adds _ = λ reply log own. ⊥
+-- what a command that writes adds to a settled log under its reply, and what is in doubt afterwards
+abbrev pub Adds : Basis → Command → Reply → Option Event → List Event → List Event → Type 0
+Adds basis (C.Submit raw) = Submits basis raw.id
+Adds basis (C.Priority caller id) = Prioritises caller id
+Adds basis (C.Reprocess caller id) = Reprocesses caller id
+Adds basis (C.Withdraw caller id) = Withdraws caller id
+Adds basis _ = λ reply after log own. ⊥
 
 -- not one of the refusals that come before the doubt is settled
 abbrev pub IsSettledReply : Reply → Type 0
@@ -49,7 +49,7 @@ pub record IsDecided (basis : Basis) (log : List Change) (disk : DiskTold) (comm
   pub plain : IsSettledReply reply
   pub own : List Change
   pub behind : after.log ≡ log ++ own
-  pub adds : Adds command reply (events basis log) (events basis own)
+  pub adds : Adds basis command reply (doubted basis after) (events basis log) (events basis own)
   pub goes_on : GoesOn disk disk'
   pub fault : IsStoreFault reply → DiskFailed disk disk'
   pub decides : IsTrue basis.is_told → IsSomeAnd (decide basis log command) (λ decision. Decides basis log decision reply after) ⊎ FailsRead basis log command reply after

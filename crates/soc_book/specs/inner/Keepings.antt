@@ -15,7 +15,7 @@ use Rattle.soc_desk.specs.Asks.{IsStoreFault}
 use Rattle.soc_desk.specs.Basis.{Basis}
 use Rattle.soc_desk.specs.Keeps.{IsPartOf, KeepsEach, Reports, StandsBetween, ids_to_keep, is_passed_over, is_to_keep, kept_with_doubt, report_of}
 use Rattle.soc_desk.specs.Log.{Change, KeptReport, report, keep, events, is_own}
-use Rattle.soc_desk.specs.State.{State, settled, Survives, entry_of, has_room, kept_of}
+use Rattle.soc_desk.specs.State.{State, settled, doubted, Survives, entry_of, has_room, kept_of}
 use Rattle.soc_book.specs.inner.Books.{IsRowFor}
 
 -- ---- the entry of a report
@@ -115,7 +115,7 @@ keep_reply (Err refusal) = R.Refused refusal
 pub record KeepsAll (basis : Basis) (log : List Change) (disk : DiskTold) (answer : Result ℕ Refusal) (after : State) (disk' : DiskTold) : Type 0 where
   pub piece : List Change
   pub behind : after.log ≡ log ++ piece
-  pub reports : Reports basis (keep_reply answer) (events basis log) (events basis piece)
+  pub reports : Reports basis (keep_reply answer) (doubted basis after) (events basis log) (events basis piece)
   pub goes_on : GoesOn disk disk'
   pub fault : IsStoreFault (keep_reply answer) → DiskFailed disk disk'
   pub keeps : IsTrue basis.is_told → KeepsEach basis log (ids_to_keep basis log) 0 (keep_reply answer) after

@@ -23,4 +23,4 @@ returns-clause-does g c = λ basis state stands.
     raw_shown _ _ _ _ _ _ _ _ stands _ c.in_ok-raw.ensures.looks c.args.caller.now c.args.id c.in_ok-number.number c.in_ok-raw.raw c.in_ok-shown.shown c.in_ok-number.ensures (c.in_ok-raw.ensures.read basis state stands) c.in_ok-shown.ensures
 
 pub returns-clause-kind : goal.returns-clause-kind
-returns-clause-kind g c = raw_kind c.args.caller.now c.in_ok-shown.shown c.in_ok-raw.raw.annotations c.in_ok-shown.ensures
+returns-clause-kind g c = raw_kind c.args.caller.now c.args.id c.in_ok-shown.shown c.in_ok-raw.raw.annotations c.in_ok-shown.ensures

@@ -23,4 +23,4 @@ returns-in-None-clause-does g c = λ basis state stands.
     not_processed _ _ _ _ _ _ _ _ stands _ (Looks-none _ (g.met.D.Disk.sound c.args.self.now.vault.disk.now)) c.args.caller.now c.args.id c.in_ok-number.number c.in_ok-number.ensures (sym c.in-None.is ∙ c.in_ok-row.ensures)
 
 pub returns-in-Some-clause-kind : goal.returns-in-Some-clause-kind
-returns-in-Some-clause-kind g c = row_kind c.args.caller.now c.in-Some.row _ (sym c.in-Some.is ∙ c.in_ok-row.ensures)
+returns-in-Some-clause-kind g c = row_kind c.args.caller.now c.args.id c.in-Some.row _ (sym c.in-Some.is ∙ c.in_ok-row.ensures)

@@ -1,4 +1,4 @@
-use Rattle.soc_multipart.specs.SubmissionViews.{submission_text}
+use Rattle.soc_forms.specs.SubmissionViews.{submission_text}
 use Rattle.soc_session.specs.inner.Plans.{drawn_of, message_of}
 use Rattle.soc_session.proofs.PlanLemmas.{Draws-malformed, Draws-one}
 use Rattle.soc_session.proofs.routes.submit.submission.Goals as goal
