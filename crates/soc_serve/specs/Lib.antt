@@ -1,9 +1,16 @@
+pub mod Check
 pub mod Documents
+pub mod Ends
+pub mod Files
+pub mod Opening
+pub mod Outside
+pub mod Refusals
 pub mod Replay
+pub mod Runs
+pub mod Serving
 pub mod Settings
 pub mod Setup
-pub mod Texts
+pub mod Tasks
 pub mod TokenText
-pub mod Words
 mod SettingExamples
 pub mod inner

@@ -1,85 +1,58 @@
--- `replay`: one session over input and output, by the files of the tree, over a desk that keeps its log in memory.
-use Rattle.std.specs.Prelude.{◌≡◌, ℕ, List, [], Option, None, IfSome, Ok, Err, Result, codes}
-use Rattle.soc_edge.specs.Ahead.{ClockTold, DrawsTold, Outlook, outlook, Hands}
-use Rattle.soc_edge.specs.Told.{Told, NeverFall, HasCause, Writes, WritesFront}
-use Rattle.soc_edge.specs.Tree.{TreeTold, OnlyLooks, TreeFailed}
-use Rattle.soc_interim_desk.specs.declared.small.Small.{Small}
-use Rattle.soc_interim_desk.specs.Memory.{AnswersInMemory, MemoryDesk}
-use Rattle.soc_interim_desk.specs.Small.{small_row}
-use Rattle.soc_interim_session.specs.declared.ending.SessionEnd.{SessionEnd}
-use Rattle.soc_interim_session.specs.declared.ending.SessionEnd.TheVariants.{Ended, Closed, Stopped, Refused, ReadFault, WriteFault, TooLong, NoMemory}
-use Rattle.soc_interim_session.specs.Session.{Serves, around}
-use Rattle.soc_serve.specs.declared.replay.RunEnd.{RunEnd}
-use Rattle.soc_serve.specs.declared.replay.RunEnd.TheVariants as R
-use Rattle.soc_serve.specs.declared.setup.FileRefusal.{FileRefusal}
+-- `replay`: one session over input and output, by the files of the tree, over a desk whose log a journal keeps. This
+-- project's profile.
+use Rattle.std.specs.Prelude.{◌≡◌, ◌⊎◌, ℕ, List, Option, Some, Ok, Err}
+use Rattle.sha2.specs.Sha256.{sha256}
+use Rattle.soc_raw.specs.Record.{Crash}
+use Rattle.soc_schema.specs.declared.value.Cell.{Cell}
+use Rattle.soc_edge.specs.Told.{Writes, WritesFront}
+use Rattle.soc_report.specs.Digests.{digested}
+use Rattle.soc_report.specs.Kits.{kit_of}
+use Rattle.soc_report.specs.Report.{report_of}
+use Rattle.soc_report.specs.Texts.{KitTexts}
+use Rattle.soc_serve.specs.declared.ending.RunEnd.{RunEnd}
+use Rattle.soc_serve.specs.declared.ending.RunEnd.TheVariants as R
+use Rattle.soc_serve.specs.declared.refusal.FileRefusal.{FileRefusal}
+use Rattle.soc_serve.specs.declared.refusal.FilesFault.TheVariants.{Refused}
 use Rattle.soc_serve.specs.declared.setup.Setup.{Setup}
-use Rattle.soc_serve.specs.Setup.{refusal_line, setup_of}
-use Rattle.soc_serve.specs.Texts.{text_of}
+use Rattle.soc_serve.specs.Files.{Said, Says}
+use Rattle.soc_serve.specs.Opening.{OpensNot, StaysSilent}
+use Rattle.soc_serve.specs.Outside.{Outside, StaysQuiet, StaysStill, Surroundings}
+use Rattle.soc_serve.specs.Refusals.{refusal_line}
+use Rattle.soc_serve.specs.Serving.{ServesJournal}
 
--- what the objects outside tell: the tree, the streams, and clock and draws
-pub record Outside : Type 0 where
-  pub tree : TreeTold
-  pub streams : Told
-  pub outlook : Outlook
+-- what a run does over a disk, with a reporter and a setup, by its end
+abbrev pub RunsDesk : (Crash → List Cell) → Option (List ℕ) → Setup → Surroundings → Surroundings → RunEnd → Type 0
+RunsDesk row_of digest setup before after (R.Served end keeping) = ServesJournal row_of digest setup before after end keeping
+RunsDesk row_of digest setup before after end = OpensNot before after end
 
-abbrev pub outside : TreeTold → Told → ClockTold → DrawsTold → Outside
-outside tree streams clock draws = record { tree = tree; streams = streams; outlook = outlook clock draws }
+-- the reports of these texts
+abbrev pub rows_of : KitTexts → Crash → List Cell
+rows_of texts crash = report_of crash (kit_of texts)
 
--- The session's turns answer the input's messages by the setup and by one run of the desk, whose log begins empty, whose
--- rows are the small reporter's, and which keeps no more than the setup's limits allow.
-pub record ServesBook (setup : Setup) (before after : Told) (ahead behind : Outlook) (end : SessionEnd) : Type 0 where
-  pub first : MemoryDesk Small
-  pub last : MemoryDesk Small
-  pub empty : first.log ≡ []
-  pub limits : first.limits ≡ setup.limits
-  pub serves : Serves (AnswersInMemory (λ _ crash. small_row crash) (λ _. None)) setup.rules (around before first ahead) (around after last behind) end
+abbrev pub digest_of : KitTexts → Option (List ℕ)
+digest_of texts = Some (sha256 (digested texts))
 
--- nothing was drawn
-abbrev pub DrawsNothing : Outside → Outside → Type 0
-DrawsNothing before after = Hands before.outlook after.outlook [] [] []
+-- no file is refused, and the desk is run by what they say
+pub record RunsBy (before after : Outside) (end : RunEnd) : Type 0 where
+  pub said : Said
+  pub says : Says before.tree.files (Ok said)
+  pub runs : RunsDesk (rows_of said.texts) (digest_of said.texts) said.setup before.around after.around end
 
--- what the files of a tree say, where the tree tells them
-abbrev pub Says : Option (List ℕ → Option (List ℕ)) → Result Setup FileRefusal → Type 0
-Says files said = IfSome files (λ told. setup_of (text_of told (codes "settings.toml")) (text_of told (codes "tokens.toml")) ≡ said)
+-- the first file that is refused is told, in a line that was written whole or cut short, and nothing else was done
+pub record TextRefused (before after : Outside) (Tells : List ℕ → Type 0) : Type 0 where
+  pub refusal : FileRefusal
+  pub says : Says before.tree.files (Err (Refused refusal))
+  pub quiet : StaysQuiet before.around after.around
+  pub line : Tells (refusal_line refusal)
 
--- a run, by its end: the files are looked at before the input
 abbrev pub Replays : Outside → Outside → RunEnd → Type 0
-Replays before after (R.Served end) =
-    (setup : Setup) × Says before.tree.files (Ok setup) × ServesBook setup before.streams after.streams before.outlook after.outlook end
-Replays before after R.TextRefused =
-    (refusal : FileRefusal) × Says before.tree.files (Err refusal) × DrawsNothing before after
-    × Writes before.streams after.streams (refusal_line refusal)
-Replays before after R.LineFault =
-    (refusal : FileRefusal) × Says before.tree.files (Err refusal) × DrawsNothing before after
-    × WritesFront before.streams after.streams (refusal_line refusal)
-Replays before after R.TreeFault = DrawsNothing before after × (after.streams ≡ before.streams)
-Replays before after R.NoMemory = DrawsNothing before after × (after.streams ≡ before.streams)
-
--- whatever a run did, the files are as they were, and no fault is forgotten
-pub record RunsOn (before after : Outside) : Type 0 where
-  pub tree : OnlyLooks before.tree after.tree
-  pub streams : NeverFall before.streams after.streams
-
--- each of these faults is answered only where its object failed
-pub record RunHasCause (before after : Outside) (read_fault write_fault tree_fault : Type 0) : Type 0 where
-  pub streams : HasCause read_fault write_fault before.streams after.streams
-  pub tree : tree_fault → TreeFailed before.tree after.tree
-
--- the status that a session's end gives
-abbrev pub session_status : SessionEnd → ℕ
-session_status Ended = 0
-session_status Closed = 0
-session_status Stopped = 0
-session_status Refused = 1
-session_status ReadFault = 6
-session_status WriteFault = 7
-session_status TooLong = 9
-session_status NoMemory = 10
-
--- the status that a run's end gives
-abbrev pub status_of : RunEnd → ℕ
-status_of (R.Served end) = session_status end
-status_of R.TextRefused = 3
-status_of R.LineFault = 7
-status_of R.TreeFault = 8
-status_of R.NoMemory = 10
+Replays before after (R.Served end keeping) = RunsBy before after (R.Served end keeping)
+Replays before after R.JournalRefused = RunsBy before after R.JournalRefused
+Replays before after R.OpenFault = RunsBy before after R.OpenFault
+Replays before after R.TextRefused = TextRefused before after (Writes before.around.streams after.around.streams)
+Replays before after R.LineFault = TextRefused before after (WritesFront before.around.streams after.around.streams) ⊎ RunsBy before after R.LineFault
+Replays before after R.TreeFault = StaysStill before.around after.around
+Replays before after R.MakerFault = StaysStill before.around after.around
+Replays before after R.NoMemory = StaysSilent before.around after.around
+Replays before after R.Written = ⊥
+Replays before after R.Usage = ⊥

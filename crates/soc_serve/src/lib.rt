@@ -1,8 +1,13 @@
-//! The top call: what the program does with its words, its files, its input and its output.
+//! The top call: what the program does with its words, its files, its journal, its input and its output.
 #![tactic(auto)]
 
+mod check;
 mod documents;
+mod ending;
+mod opening;
+mod refusal;
 mod replay;
+mod serving;
 mod settings;
 mod setup;
 mod texts;

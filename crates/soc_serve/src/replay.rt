@@ -1,139 +1,98 @@
-//! `replay`: one session over input and output.
-ghost use Rattle.std.specs.Prelude.{◌≡◌, ◌⊎◌};
+//! `replay`: one session over input and output, over a desk whose log a journal keeps.
+ghost use Rattle.std.specs.Prelude.{◌≡◌, ◌≤◌, IfErr, IfOk, IfSome, IsErrOf, OnErr};
 ghost use Rattle.soc_edge.specs.Ahead.{outlook};
-ghost use Rattle.soc_edge.specs.Told.{NeverFall, HasCause, WriteFailed};
-ghost use Rattle.soc_serve.specs.Replay.{Replays, RunHasCause, RunsOn, ServesBook, session_status, status_of, outside};
-ghost use Rattle.soc_serve.specs.inner.Refusals.{Refuses};
+ghost use Rattle.soc_edge.specs.Disk.{DiskFailed, GoesOn};
+ghost use Rattle.soc_edge.specs.Faults.{Rose};
+ghost use Rattle.soc_edge.specs.Told.{HasCause, NeverFall, OnlyWrites, WriteFailed};
+ghost use Rattle.soc_edge.specs.Tree.{OnlyLooks, TreeFailed};
+ghost use Rattle.soc_serve.specs.Ends.{status_of};
+ghost use Rattle.soc_serve.specs.Files.{files_say};
+ghost use Rattle.soc_serve.specs.Outside.{RunHasCause, RunsOn, outside};
+ghost use Rattle.soc_serve.specs.Replay.{Replays, RunsBy};
+ghost use Rattle.soc_serve.specs.inner.Replay.{EndsBefore, IsFilesFault};
+ghost use Rattle.soc_serve.specs.inner.Refusals.{RefusesText};
 
-use crate::setup::{FileRefusal, Setup, SetupError, refusal_line, set_up};
+use crate::ending::RunEnd;
+use crate::refusal::{FileRefusal, FilesFault, Line, refuse};
+use crate::serving::serve;
+use crate::setup::set_up;
 use crate::texts::read_texts;
-use soc_edge::{Clock, Draws, Failed, Sink, Source, Tree, TreeError, write_all};
-use soc_http::{Buffer, Routes};
-use soc_interim_desk::{Book, Small};
-use soc_interim_session::{SessionEnd, session};
+use soc_edge::{Clock, Disk, Draws, Sink, Source, Tree};
+use soc_report::Kit;
+use soc_siglists::Maker;
 use std::alloc::Global;
 
-/// How a run ends.
-#[derive(Clone, Copy)]
-pub(crate) enum RunEnd {
-    /// With the session.
-    Served(SessionEnd),
-    /// A file was refused, and the line that tells it was written.
-    TextRefused,
-    /// A file was refused, and the output failed in the line that tells it.
-    LineFault,
-    /// The tree failed.
-    TreeFault,
-    /// An allocation was refused.
-    NoMemory,
-}
-
-impl RunEnd {
-    /// The status that the process ends with.
-    pub(crate) fn status(self) -> u8
-        ensures { result ≡ status_of self }
-    {
-        match self {
-            RunEnd::Served(end) => session_status(end),
-            RunEnd::TextRefused => 3,
-            RunEnd::LineFault => 7,
-            RunEnd::TreeFault => 8,
-            RunEnd::NoMemory => 10,
-        }
-    }
-}
-
-fn session_status(end: SessionEnd) -> u8
-    ensures { result ≡ session_status end }
-{
-    match end {
-        SessionEnd::Ended | SessionEnd::Closed | SessionEnd::Stopped => 0,
-        SessionEnd::Refused => 1,
-        SessionEnd::ReadFault => 6,
-        SessionEnd::WriteFault => 7,
-        SessionEnd::TooLong => 9,
-        SessionEnd::NoMemory => 10,
-    }
-}
-
-/// Answers the messages of the input on the output, by the files of the tree.
-pub(crate) fn replay<T: Tree, X: Source + Sink, C: Clock, W: Draws>(
+/// Answers the messages of the input on the output, by the files of the tree, over the disk's journal.
+pub(crate) fn replay<T: Tree, X: Source + Sink, D: Disk, C: Clock, W: Draws, P: Maker>(
     alloc: Global,
     tree: &mut T,
     streams: &mut X,
+    disk: &mut D,
     clock: &mut C,
     draws: &mut W,
+    maker: &mut P,
 ) -> RunEnd
     ensures replays { Replays
-        (outside (T.told tree.old) (X.told streams.old) (C.told clock.old) (W.told draws.old))
-        (outside (T.told tree.new) (X.told streams.new) (C.told clock.new) (W.told draws.new))
+        (outside (T.told tree.old) (P.faults maker.old) (X.told streams.old) (D.state disk.old) (C.told clock.old) (W.told draws.old))
+        (outside (T.told tree.new) (P.faults maker.new) (X.told streams.new) (D.state disk.new) (C.told clock.new) (W.told draws.new))
         result }
     ensures runs_on { RunsOn
-        (outside (T.told tree.old) (X.told streams.old) (C.told clock.old) (W.told draws.old))
-        (outside (T.told tree.new) (X.told streams.new) (C.told clock.new) (W.told draws.new)) }
+        (outside (T.told tree.old) (P.faults maker.old) (X.told streams.old) (D.state disk.old) (C.told clock.old) (W.told draws.old))
+        (outside (T.told tree.new) (P.faults maker.new) (X.told streams.new) (D.state disk.new) (C.told clock.new) (W.told draws.new)) }
     ensures cause { RunHasCause
-        (outside (T.told tree.old) (X.told streams.old) (C.told clock.old) (W.told draws.old))
-        (outside (T.told tree.new) (X.told streams.new) (C.told clock.new) (W.told draws.new))
-        (result ≡ RunEnd.Served SessionEnd.ReadFault)
-        ((result ≡ RunEnd.Served SessionEnd.WriteFault) ⊎ (result ≡ RunEnd.LineFault))
-        (result ≡ RunEnd.TreeFault) }
+        (outside (T.told tree.old) (P.faults maker.old) (X.told streams.old) (D.state disk.old) (C.told clock.old) (W.told draws.old))
+        (outside (T.told tree.new) (P.faults maker.new) (X.told streams.new) (D.state disk.new) (C.told clock.new) (W.told draws.new))
+        (status_of result) }
 {
-    let texts = match read_texts(alloc, tree) {
-        Ok(texts) => texts,
-        Err(TreeError::Failed) => return RunEnd::TreeFault,
-        Err(TreeError::NoMemory) => return RunEnd::NoMemory,
-    };
-    match set_up(alloc, &texts) {
-        Ok(setup) => RunEnd::Served(serve(alloc, &setup, streams, clock, draws)),
-        Err(SetupError::Refused(refusal)) => refuse(alloc, streams, &refusal),
-        Err(SetupError::NoMemory) => RunEnd::NoMemory,
+    match run(alloc, tree, streams, disk, clock, draws, maker) {
+        Ok(end) => end,
+        Err(FilesFault::Refused(refusal)) => refuse_text(alloc, streams, &refusal),
+        Err(FilesFault::Tree) => RunEnd::TreeFault,
+        Err(FilesFault::Maker) => RunEnd::MakerFault,
+        Err(FilesFault::NoMemory) => RunEnd::NoMemory,
     }
+}
+
+/// Reads all files, looks at them in their order, and then serves. Where the files give nothing to go by, nothing else is
+/// touched.
+fn run<T: Tree, X: Source + Sink, D: Disk, C: Clock, W: Draws, P: Maker>(
+    alloc: Global,
+    tree: &mut T,
+    streams: &mut X,
+    disk: &mut D,
+    clock: &mut C,
+    draws: &mut W,
+    maker: &mut P,
+) -> Result<RunEnd, FilesFault>
+    ensures runs { IfOk result (RunsBy
+        (outside (T.told tree.old) (P.faults maker.old) (X.told streams.old) (D.state disk.old) (C.told clock.old) (W.told draws.old))
+        (outside (T.told tree.new) (P.faults maker.new) (X.told streams.new) (D.state disk.new) (C.told clock.new) (W.told draws.new))) }
+    ensures fault { IfErr result (λ fault. IfSome (T.told tree.old).files (λ files. IsFilesFault (files_say files) fault)) }
+    ensures before { OnErr result (EndsBefore streams.old disk.old clock.old draws.old streams.new disk.new clock.new draws.new) }
+    ensures looks { OnlyLooks (T.told tree.old) (T.told tree.new) }
+    ensures tree_cause { IsErrOf result FilesFault.Tree → TreeFailed (T.told tree.old) (T.told tree.new) }
+    ensures makes_on { P.faults maker.old ≤ P.faults maker.new }
+    ensures maker_cause { IsErrOf result FilesFault.Maker → Rose (P.faults maker.old) (P.faults maker.new) }
+    ensures goes_on { GoesOn (D.state disk.old) (D.state disk.new) }
+    ensures never_fall { NeverFall (X.told streams.old) (X.told streams.new) }
+    ensures cause { IfOk result (λ end. HasCause (status_of end ≡ 6) (status_of end ≡ 7) (X.told streams.old) (X.told streams.new)) }
+    ensures disk_cause { IfOk result (λ end. status_of end ≡ 4 → DiskFailed (D.state disk.old) (D.state disk.new)) }
+{
+    let texts = read_texts(alloc, tree)?;
+    let setup = set_up(alloc, texts.settings.as_slice(), texts.tokens.as_slice())?;
+    let kit = Kit::read(alloc, &texts.kit, maker)?;
+    Ok(serve(alloc, &setup, &kit, streams, disk, clock, draws))
 }
 
 /// Writes the line that tells which file is refused.
-fn refuse<K: Sink>(alloc: Global, output: &mut K, refusal: &FileRefusal) -> RunEnd
-    ensures refuses { Refuses (K.told output.old) (K.told output.new) refusal.now result }
+fn refuse_text<K: Sink>(alloc: Global, output: &mut K, refusal: &FileRefusal) -> RunEnd
+    ensures refuses { RefusesText (K.told output.old) (K.told output.new) refusal.now result }
     ensures cause { result ≡ RunEnd.LineFault → WriteFailed (K.told output.old) (K.told output.new) }
+    ensures only { OnlyWrites (K.told output.old) (K.told output.new) }
 {
-    let Ok(line) = refusal_line(alloc, refusal) else {
-        return RunEnd::NoMemory;
-    };
-    match write_all(output, line.as_slice()) {
-        Ok(()) => RunEnd::TextRefused,
-        Err(Failed) => RunEnd::LineFault,
+    match refuse(alloc, output, refusal) {
+        Line::Written => RunEnd::TextRefused,
+        Line::Cut => RunEnd::LineFault,
+        Line::NoMemory => RunEnd::NoMemory,
     }
-}
-
-/// One session over a desk in memory whose log begins empty.
-fn serve<X: Source + Sink, C: Clock, W: Draws>(
-    alloc: Global,
-    setup: &Setup,
-    streams: &mut X,
-    clock: &mut C,
-    draws: &mut W,
-) -> SessionEnd
-    ensures serves { ServesBook setup.now (X.told streams.old) (X.told streams.new)
-        (outlook (C.told clock.old) (W.told draws.old)) (outlook (C.told clock.new) (W.told draws.new)) result }
-    ensures never_fall { NeverFall (X.told streams.old) (X.told streams.new) }
-    ensures cause { HasCause (result ≡ SessionEnd.ReadFault) (result ≡ SessionEnd.WriteFault) (X.told streams.old) (X.told streams.new) }
-{
-    let reporter = Small;
-    let mut book = Book::new(alloc, &reporter, setup.limits);
-    let Ok(routes) = Routes::new(alloc) else {
-        return SessionEnd::NoMemory;
-    };
-    let Ok(mut buffer) = Buffer::new(alloc) else {
-        return SessionEnd::NoMemory;
-    };
-    let rules = &setup.rules;
-    session(
-        alloc,
-        &mut book,
-        streams,
-        rules,
-        &routes,
-        &mut buffer,
-        clock,
-        draws,
-    )
 }

@@ -1,32 +1,57 @@
 //! What an operator sets: throttle rules, public products and limits.
-ghost use Rattle.std.specs.Prelude.{◌≡◌, ◌≤◌, IfOk, IfErr, Ok, None, codes, option_copied, is_some};
+ghost use Rattle.std.specs.Prelude.{◌≡◌, IfOk, IfErr, OnOk, Ok, None, codes, is_some, true, unwrap_or};
 ghost use Rattle.toml.specs.Data.{get_member};
-ghost use Rattle.toml.specs.View.{view, table_view, array_view};
-ghost use Rattle.soc_toml.specs.Lists.{texts_among, texts_within};
+ghost use Rattle.toml.specs.View.{view, table_view};
+ghost use Rattle.soc_toml.specs.Keys.{number_of};
 ghost use Rattle.soc_schema.specs.TokenFile.{products_of};
-ghost use Rattle.soc_schema.specs.declared.caller.Products.TheVariants.{All as AllProducts};
 ghost use Rattle.soc_serve.specs.Settings as spec;
+ghost use Rattle.soc_serve.specs.inner.Drafts as drafts;
 
 use crate::documents::document;
-use soc_interim_desk::Limits;
+use soc_desk::Limits;
 use soc_raw::{NoMemory, Text};
 use soc_schema::Products;
 use soc_throttle::{RuleError, RuleSet};
 use std::alloc::Global;
 use thiserror::Error;
-use toml::value::Array;
 use toml::{Table, Value};
 
 /// The most crashes that may be accepted, and how many it is where the key is absent.
-const MOST_CRASHES: u64 = 65_536;
+pub(crate) const MOST_CRASHES: u64 = 65_536;
 
 /// The most bytes that a journal may have, and how many it is where the key is absent.
-const MOST_JOURNAL_BYTES: u64 = 68_719_476_736;
+pub(crate) const MOST_JOURNAL_BYTES: u64 = 68_719_476_736;
 
 /// The most bytes that a session may take, and how many it is where the key is absent.
 const MOST_SESSION_BYTES: u64 = 4_294_967_296;
 
-/// The most rules, and the most products that may be named.
+/// A setting that is a number from `low` to `high`, and `high` where its key is absent.
+#[derive(Clone, Copy)]
+struct NumberSetting {
+    key: &'static str,
+    low: u64,
+    high: u64,
+}
+
+const CRASHES: NumberSetting = NumberSetting {
+    key: "crashes",
+    low: 1,
+    high: MOST_CRASHES,
+};
+
+const JOURNAL_BYTES: NumberSetting = NumberSetting {
+    key: "journal_bytes",
+    low: 64,
+    high: MOST_JOURNAL_BYTES,
+};
+
+const SESSION_BYTES: NumberSetting = NumberSetting {
+    key: "session_bytes",
+    low: 1,
+    high: MOST_SESSION_BYTES,
+};
+
+/// The most rules.
 const MOST_ENTRIES: usize = 256;
 
 /// What an operator sets.
@@ -105,29 +130,9 @@ fn read_table(alloc: Global, table: &Table) -> Result<Settings, SettingsError>
     ensures ranges { IfOk result spec.LieInRanges }
     ensures refused { IfErr result (spec.IsRefusal (spec.settings_in (table_view table.now))) }
 {
-    if let Some(key) = first_bad_key(table) {
-        return Err(SettingsError::BadSetting {
-            key: Text::of(alloc, key)?,
-        });
-    }
+    let draft = Draft::read(alloc, table)?;
     let rules = rules_of(alloc, table)?;
-    Ok(settings_with(alloc, rules, table)?)
-}
-
-/// The settings of a table whose keys are good.
-fn settings_with(alloc: Global, rules: RuleSet, table: &Table) -> Result<Settings, NoMemory>
-    ensures ok { IfOk result (λ settings. settings ≡ spec.settings_with rules (table_view table.now)) }
-    ensures ranges { IfOk result spec.LieInRanges }
-{
-    Ok(Settings {
-        rules,
-        public: public_of(alloc, table)?,
-        session_bytes: session_bytes_of(table),
-        limits: Limits {
-            journal_bytes: journal_bytes_of(table),
-            crashes: crashes_of(table),
-        },
-    })
+    Ok(draft.with_rules(rules))
 }
 
 /// The rules at the key, or those that keep each crash.
@@ -141,119 +146,114 @@ fn rules_of(alloc: Global, table: &Table) -> Result<RuleSet, RuleError>
     }
 }
 
-/// The products at the key, or all.
-fn public_of(alloc: Global, table: &Table) -> Result<Products, NoMemory>
-    ensures { IfOk result (λ products. products ≡ spec.at_or (codes "public_products") products_of AllProducts (table_view table.now)) }
-{
-    let Some(value) = soc_toml::value_at(table, "public_products") else {
-        return Ok(Products::All);
-    };
-    match Products::read(alloc, value)? {
-        Some(products) => Ok(products),
-        None => Ok(Products::All),
-    }
-}
-
-fn session_bytes_of(table: &Table) -> u64
-    ensures value { result ≡ spec.at_or (codes "session_bytes") spec.session_bytes_of spec.most_session_bytes (table_view table.now) }
-    ensures range { spec.IsWithin 1 spec.most_session_bytes result }
-{
-    match soc_toml::value_at(table, "session_bytes") {
-        Some(value) => session_bytes_in(value).unwrap_or(MOST_SESSION_BYTES),
-        None => MOST_SESSION_BYTES,
-    }
-}
-
-fn journal_bytes_of(table: &Table) -> u64
-    ensures value { result ≡ spec.at_or (codes "journal_bytes") spec.journal_bytes_of spec.most_journal_bytes (table_view table.now) }
-    ensures range { spec.IsWithin spec.least_journal_bytes spec.most_journal_bytes result }
-{
-    match soc_toml::value_at(table, "journal_bytes") {
-        Some(value) => journal_bytes_in(value).unwrap_or(MOST_JOURNAL_BYTES),
-        None => MOST_JOURNAL_BYTES,
-    }
-}
-
-fn crashes_of(table: &Table) -> u32
-    ensures value { result ≡ spec.at_or (codes "crashes") spec.crashes_of spec.most_crashes (table_view table.now) }
-    ensures range { spec.IsWithin 1 spec.most_crashes result }
-{
-    match soc_toml::value_at(table, "crashes") {
-        Some(value) => crashes_in(value).unwrap_or(MOST_CRASHES as u32),
-        None => MOST_CRASHES as u32,
-    }
-}
-
-fn session_bytes_in(value: &Value) -> Option<u64>
-    ensures { result ≡ spec.session_bytes_of (view value.now) }
-{
-    soc_toml::number_of(value, 1, MOST_SESSION_BYTES)
-}
-
-fn journal_bytes_in(value: &Value) -> Option<u64>
-    ensures { result ≡ spec.journal_bytes_of (view value.now) }
-{
-    soc_toml::number_of(value, 64, MOST_JOURNAL_BYTES)
-}
-
-fn crashes_in(value: &Value) -> Option<u32>
-    ensures { result ≡ spec.crashes_of (view value.now) }
-{
-    let number = soc_toml::number_of(value, 1, MOST_CRASHES)?;
-    Some(number as u32)
-}
-
-/// The first key in byte order that is unknown or has a bad value. A table holds its keys in that order.
-fn first_bad_key(table: &Table) -> Option<&str>
-    ensures { option_copied result ≡ spec.first_bad (table_view table.now) }
-{
-    for (key, value) in table.iter() {
-        if !is_good(key.as_str(), value) {
-            return Some(key.as_str());
+impl NumberSetting {
+    /// Takes the number of a value, and says whether it is one in the range.
+    fn take(&self, value: &Value, place: &mut u64) -> bool
+        ensures good { result ≡ is_some (number_of self.now.low self.now.high (view value.now)) }
+        ensures taken { place.new ≡ unwrap_or (number_of self.now.low self.now.high (view value.now)) place.old }
+        ensures range { spec.IsWithin self.now.low self.now.high place.old → spec.IsWithin self.now.low self.now.high place.new }
+    {
+        match soc_toml::number_of(value, self.low, self.high) {
+            Some(number) => {
+                *place = number;
+                true
+            }
+            None => false,
         }
     }
-    None
 }
 
-/// Whether the key is known and the value has its form.
-fn is_good(key: &str, value: &Value) -> bool
-    ensures { result ≡ spec.is_good key.now (view value.now) }
-{
-    match key {
-        "crashes" => crashes_in(value).is_some(),
-        "journal_bytes" => journal_bytes_in(value).is_some(),
-        "public_products" => are_products(value),
-        "rule" => soc_toml::is_table_array(value, MOST_ENTRIES),
-        "session_bytes" => session_bytes_in(value).is_some(),
-        _ => false,
-    }
+/// What the keys say that were read so far, but for the rules, and the defaults of the others.
+#[derive(Drop)]
+struct Draft {
+    public: Products,
+    session_bytes: u64,
+    journal_bytes: u64,
+    crashes: u64,
 }
 
-/// Whether the value names products: the text `all`, or an array of texts.
-fn are_products(value: &Value) -> bool
-    ensures { result ≡ is_some (products_of (view value.now)) }
-{
-    soc_toml::is_text(value, "all") || is_text_array(value)
-}
-
-fn is_text_array(value: &Value) -> bool
-    ensures { result ≡ is_some (texts_within spec.most_entries (view value.now)) }
-{
-    match value.as_array() {
-        Some(array) => array.len() <= MOST_ENTRIES && are_texts(array),
-        None => false,
-    }
-}
-
-fn are_texts(array: &Array) -> bool
-    ensures { result ≡ is_some (texts_among (array_view array.now)) }
-{
-    for value in array {
-        if !value.is_str() {
-            return false;
+impl Draft {
+    fn new() -> Draft
+        ensures { result ≡ drafts.defaults }
+    {
+        Draft {
+            public: Products::All,
+            session_bytes: SESSION_BYTES.high,
+            journal_bytes: JOURNAL_BYTES.high,
+            crashes: CRASHES.high,
         }
     }
-    true
+
+    /// What a table says, or its first key in byte order that is unknown or has a bad value. A table holds its keys in
+    /// that order.
+    fn read(alloc: Global, table: &Table) -> Result<Draft, SettingsError>
+        ensures good { IfOk result (λ draft. spec.first_bad (table_view table.now) ≡ None) }
+        ensures ok { IfOk result (λ draft. draft ≡ drafts.filled drafts.defaults (table_view table.now)) }
+        ensures ranges { IfOk result drafts.IsInRanges }
+        ensures refused { IfErr result (spec.IsRefusal (spec.settings_in (table_view table.now))) }
+    {
+        let mut draft = Draft::new();
+        for (key, value) in table.iter() {
+            if !draft.take(alloc, key.as_str(), value)? {
+                return Err(SettingsError::BadSetting {
+                    key: Text::of(alloc, key.as_str())?,
+                });
+            }
+        }
+        Ok(draft)
+    }
+
+    /// Takes what a key holds, and says whether the key is known and the value has its form.
+    fn take(&mut self, alloc: Global, key: &str, value: &Value) -> Result<bool, NoMemory>
+        ensures good { IfOk result (λ good. good ≡ spec.is_good key.now (view value.now)) }
+        ensures taken { IfOk result (λ good. good ≡ true → drafts.Takes self.old self.new key.now (view value.now)) }
+        ensures ranges { OnOk result (drafts.IsInRanges self.old → drafts.IsInRanges self.new) }
+    {
+        if key == CRASHES.key {
+            Ok(CRASHES.take(value, &mut self.crashes))
+        } else if key == JOURNAL_BYTES.key {
+            Ok(JOURNAL_BYTES.take(value, &mut self.journal_bytes))
+        } else if key == "public_products" {
+            self.take_products(alloc, value)
+        } else if key == "rule" {
+            Ok(soc_toml::is_table_array(value, MOST_ENTRIES))
+        } else if key == SESSION_BYTES.key {
+            Ok(SESSION_BYTES.take(value, &mut self.session_bytes))
+        } else {
+            Ok(false)
+        }
+    }
+
+    /// Takes the products that a value names: the text `all`, or an array of texts.
+    fn take_products(&mut self, alloc: Global, value: &Value) -> Result<bool, NoMemory>
+        ensures good { IfOk result (λ good. good ≡ is_some (products_of (view value.now))) }
+        ensures taken { IfOk result (λ _. self.new ≡ record self.old { public = unwrap_or (products_of (view value.now)) self.old.public }) }
+    {
+        match Products::read(alloc, value)? {
+            Some(products) => {
+                self.public = products;
+                Ok(true)
+            }
+            None => Ok(false),
+        }
+    }
+
+    /// The settings with these rules.
+    fn with_rules(self, rules: RuleSet) -> Settings
+        requires { drafts.IsInRanges self }
+        ensures ok { result ≡ drafts.settings_by self rules }
+        ensures ranges { spec.LieInRanges result }
+    {
+        Settings {
+            rules,
+            public: self.public,
+            session_bytes: self.session_bytes,
+            limits: Limits {
+                journal_bytes: self.journal_bytes,
+                crashes: self.crashes as u32,
+            },
+        }
+    }
 }
 
 #[cfg(test)]

@@ -1,12 +1,16 @@
 //! Runs of the program over objects in memory.
 ghost use Rattle.std.specs.Prelude.{◌≡◌, map, string_bytes};
 ghost use Rattle.soc_edge.specs.Memory.{clock_told, draws_told, sink_told, source_told, tree_told};
+ghost use Rattle.soc_edge.specs.DiskLog.{disk_told};
 ghost use Rattle.soc_edge.specs.Told.{joined};
-ghost use Rattle.soc_serve.specs.Replay.{Replays, RunHasCause, RunsOn, outside, status_of};
-ghost use Rattle.soc_serve.specs.Words.{AreReplay, RefusesWords};
+ghost use Rattle.soc_serve.specs.Ends.{status_of};
+ghost use Rattle.soc_serve.specs.Outside.{RunHasCause, RunsOn, outside};
+ghost use Rattle.soc_serve.specs.Tasks.{RunsWords};
+ghost use Rattle.soc_words.specs.Words.{words_of};
 
-use soc_edge::{Both, MemClock, MemDraws, MemSink, MemSource, MemTree};
+use soc_edge::{Both, MemClock, MemDisk, MemDraws, MemSink, MemSource, MemTree};
 use soc_serve::run_words;
+use soc_siglists::RegexMaker;
 use std::alloc::Global;
 
 /// Runs the program over objects in memory, and answers the status that it ends with. They tell all that they hold, so
@@ -16,24 +20,22 @@ pub fn run_in_memory(
     words: &[String],
     tree: &mut MemTree,
     streams: &mut Both<MemSource, MemSink>,
+    disk: &mut MemDisk,
     clock: &mut MemClock,
     draws: &mut MemDraws,
+    maker: &mut RegexMaker,
 ) -> u8
-    ensures replays { AreReplay (map string_bytes words.now) → (end : _) × (result ≡ status_of end) × Replays
-        (outside (tree_told tree.old) (joined (source_told streams.old.source) (sink_told streams.old.sink)) (clock_told clock.old) (draws_told draws.old))
-        (outside (tree_told tree.new) (joined (source_told streams.new.source) (sink_told streams.new.sink)) (clock_told clock.new) (draws_told draws.new))
+    ensures runs { (end : _) × (result ≡ status_of end) × RunsWords (words_of (map string_bytes words.now))
+        (outside (tree_told tree.old) maker.old (joined (source_told streams.old.source) (sink_told streams.old.sink)) (disk_told disk.old) (clock_told clock.old) (draws_told draws.old))
+        (outside (tree_told tree.new) maker.new (joined (source_told streams.new.source) (sink_told streams.new.sink)) (disk_told disk.new) (clock_told clock.new) (draws_told draws.new))
         end }
-    ensures other_words { ¬ (AreReplay (map string_bytes words.now)) → RefusesWords result
-        (outside (tree_told tree.old) (joined (source_told streams.old.source) (sink_told streams.old.sink)) (clock_told clock.old) (draws_told draws.old))
-        (outside (tree_told tree.new) (joined (source_told streams.new.source) (sink_told streams.new.sink)) (clock_told clock.new) (draws_told draws.new)) }
-    ensures words_cause { result ≡ 2 → ¬ (AreReplay (map string_bytes words.now)) }
     ensures runs_on { RunsOn
-        (outside (tree_told tree.old) (joined (source_told streams.old.source) (sink_told streams.old.sink)) (clock_told clock.old) (draws_told draws.old))
-        (outside (tree_told tree.new) (joined (source_told streams.new.source) (sink_told streams.new.sink)) (clock_told clock.new) (draws_told draws.new)) }
+        (outside (tree_told tree.old) maker.old (joined (source_told streams.old.source) (sink_told streams.old.sink)) (disk_told disk.old) (clock_told clock.old) (draws_told draws.old))
+        (outside (tree_told tree.new) maker.new (joined (source_told streams.new.source) (sink_told streams.new.sink)) (disk_told disk.new) (clock_told clock.new) (draws_told draws.new)) }
     ensures cause { RunHasCause
-        (outside (tree_told tree.old) (joined (source_told streams.old.source) (sink_told streams.old.sink)) (clock_told clock.old) (draws_told draws.old))
-        (outside (tree_told tree.new) (joined (source_told streams.new.source) (sink_told streams.new.sink)) (clock_told clock.new) (draws_told draws.new))
-        (result ≡ 6) (result ≡ 7) (result ≡ 8) }
+        (outside (tree_told tree.old) maker.old (joined (source_told streams.old.source) (sink_told streams.old.sink)) (disk_told disk.old) (clock_told clock.old) (draws_told draws.old))
+        (outside (tree_told tree.new) maker.new (joined (source_told streams.new.source) (sink_told streams.new.sink)) (disk_told disk.new) (clock_told clock.new) (draws_told draws.new))
+        result }
 {
-    run_words(alloc, words, tree, streams, clock, draws)
+    run_words(alloc, words, tree, streams, disk, clock, draws, maker)
 }

@@ -33,6 +33,11 @@ impl<'a, R: time::Clock> Clock for SystemClock<'a, R> {
     }
 }
 
+/// Whether the clock can be read.
+pub fn can_be_read<R: time::Clock>(rt: &R) -> bool {
+    SystemTime::now(rt).is_ok()
+}
+
 /// Seconds since 1970, or none where the clock can't be read.
 fn seconds<R: time::Clock>(rt: &R) -> u64 {
     let Ok(now) = SystemTime::now(rt) else {

@@ -6,17 +6,22 @@ use soc_edge::Draws;
 use std::io;
 use std::random::RandomSource;
 
-/// A generator that was seeded once by the operating system.
+/// A generator that was seeded once by the operating system, or none for a command that draws nothing.
 #[derive(Drop)]
 pub struct SystemDraws {
-    generator: StdRng,
+    generator: Option<StdRng>,
 }
 
 impl SystemDraws {
     pub fn new<S: RandomSource>(rt: &S) -> io::Result<SystemDraws> {
         Ok(SystemDraws {
-            generator: make_rng(rt)?,
+            generator: Some(make_rng(rt)?),
         })
+    }
+
+    /// Draws that are all 0.
+    pub fn none() -> SystemDraws {
+        SystemDraws { generator: None }
     }
 }
 
@@ -26,12 +31,17 @@ impl Draws for SystemDraws {
     ghost told = { λ _. record { throttles = λ _. None; ids = λ _. None } };
 
     fn throttle(&mut self) -> u64 {
-        self.generator.next_u64()
+        match &mut self.generator {
+            Some(generator) => generator.next_u64(),
+            None => 0,
+        }
     }
 
     fn id(&mut self) -> [u8; 16] {
         let mut bytes = [0; 16];
-        self.generator.fill_bytes(&mut bytes);
+        if let Some(generator) = &mut self.generator {
+            generator.fill_bytes(&mut bytes);
+        }
         bytes
     }
 }

@@ -1,21 +1,26 @@
-//! The folder that the program runs in, as a tree. What its files hold is not told.
+//! A folder of the system as a tree. What its files hold is not told.
 use soc_edge::{Tree, TreeError};
-use soc_raw::Bytes;
+use soc_raw::{Bytes, NoMemory};
 use std::alloc::Global;
 use std::fs;
-use std::io::ErrorKind;
+use std::io::{self, ErrorKind};
 use std::rt::Files;
 
-/// The folder that the program runs in.
+/// The folder of a path.
 #[derive(Drop)]
 pub struct Folder<'a, R> {
     rt: &'a R,
+    path: &'a str,
     faults: u64,
 }
 
 impl<'a, R> Folder<'a, R> {
-    pub fn new(rt: &'a R) -> Self {
-        Folder { rt, faults: 0 }
+    pub fn new(rt: &'a R, path: &'a str) -> Self {
+        Folder {
+            rt,
+            path,
+            faults: 0,
+        }
     }
 }
 
@@ -24,13 +29,20 @@ impl<'a, R: Files + AllocGlobal> Tree for Folder<'a, R> {
 
     ghost told = { λ folder. record { files = None; faults = folder.faults } };
 
-    fn file(&mut self, _alloc: Global, name: &str) -> Result<Option<Bytes>, TreeError> {
-        let error = match fs::read(self.rt, name) {
+    /// A name that no file can have, and one below what is no folder, is that of a missing file.
+    fn file(&mut self, alloc: Global, name: &str) -> Result<Option<Bytes>, TreeError> {
+        let Ok(path) = path_of(alloc, self.path, name) else {
+            return Err(TreeError::NoMemory);
+        };
+        let error = match read_through(self.rt, path.as_str()) {
             Ok(bytes) => return Ok(Some(Bytes::from(bytes))),
             Err(error) => error,
         };
         match error.kind() {
-            ErrorKind::NotFound => Ok(None),
+            ErrorKind::NotFound
+            | ErrorKind::NotADirectory
+            | ErrorKind::InvalidFilename
+            | ErrorKind::InvalidInput => Ok(None),
             ErrorKind::OutOfMemory => Err(TreeError::NoMemory),
             _ => {
                 self.faults = self.faults.saturating_add(1);
@@ -38,4 +50,23 @@ impl<'a, R: Files + AllocGlobal> Tree for Folder<'a, R> {
             }
         }
     }
+}
+
+/// The path of a name in a folder.
+fn path_of(alloc: Global, folder: &str, name: &str) -> Result<String, NoMemory> {
+    let mut path = String::from_str(alloc, folder)?;
+    path.push_str("/")?;
+    path.push_str(name)?;
+    Ok(path)
+}
+
+/// Reads a file, through interruptions.
+fn read_through<R: Files + AllocGlobal>(rt: &R, path: &str) -> io::Result<Vec<u8>> {
+    for _ in 0..u64::MAX {
+        match fs::read(rt, path) {
+            Err(error) if error.kind() == ErrorKind::Interrupted => {}
+            answer => return answer,
+        }
+    }
+    Err(ErrorKind::Interrupted.into())
 }

@@ -1,10 +1,11 @@
-//! The program: it makes the real folder, input, output, clock and draws, and leaves the rest to `soc_serve`.
+//! The program: it makes the real folder, input, output, journal's file, clock and draws, and leaves the rest to `soc_serve`.
 #![tactic(auto)]
 
 mod clock;
 mod disk;
 mod draws;
 mod folder;
+mod journal_file;
 mod streams;
 #[cfg(test)]
 mod tests;
@@ -12,14 +13,22 @@ mod tests;
 use clock::SystemClock;
 use draws::SystemDraws;
 use folder::Folder;
-use soc_edge::Both;
+use journal_file::JournalFile;
+use soc_edge::{Both, ReadAhead};
 use soc_serve::run_words;
+use soc_siglists::RegexMaker;
+use soc_words::{Task, Words, WordsError};
 use std::env;
 use std::io::{self, ErrorKind};
 use std::process::ExitCode;
 use streams::{InputStream, OutputStream};
 
-/// The status where the system gives no words or no random bytes.
+/// The journal's file and the folder of other words' runs.
+const JOURNAL: &str = "journal.soc";
+
+const TREE: &str = ".";
+
+/// The status where the system gives no words, no moment or no random bytes.
 const READ_FAULT: u8 = 6;
 
 /// The status where there is no memory for the words.
@@ -30,24 +39,54 @@ fn main(rt: HostRuntime) -> ExitCode {
         Ok(words) => words,
         Err(error) => return ExitCode::from(status_of(&error)),
     };
-    let Ok(mut draws) = SystemDraws::new(&rt) else {
-        return ExitCode::from(READ_FAULT);
+    let status = match Words::read(rt.alloc(), words.as_slice()) {
+        Ok(said) => run_said(&rt, words.as_slice(), &said),
+        Err(WordsError::NotOurs) => run(&rt, words.as_slice(), JOURNAL, TREE, SystemDraws::none()),
+        Err(WordsError::NoMemory) => NO_MEMORY,
     };
-    let mut tree = Folder::new(&rt);
+    ExitCode::from(status)
+}
+
+/// Runs the program over the files that its words name. Only `replay` needs a clock and random bytes.
+fn run_said(rt: &HostRuntime, words: &[String], said: &Words) -> u8 {
+    let draws = match said.command {
+        Task::Replay => {
+            if !clock::can_be_read(rt) {
+                return READ_FAULT;
+            }
+            let Ok(draws) = SystemDraws::new(rt) else {
+                return READ_FAULT;
+            };
+            draws
+        }
+        _ => SystemDraws::none(),
+    };
+    run(rt, words, said.journal.as_str(), said.tree.as_str(), draws)
+}
+
+/// Runs the program over a journal's file and a folder.
+fn run(rt: &HostRuntime, words: &[String], journal: &str, tree: &str, draws: SystemDraws) -> u8 {
+    let Ok(mut disk) = ReadAhead::new(rt.alloc(), JournalFile::new(rt, journal)) else {
+        return NO_MEMORY;
+    };
+    let mut tree = Folder::new(rt, tree);
     let mut streams = Both {
         source: InputStream::new(rt.stdin()),
         sink: OutputStream::new(rt.stdout()),
     };
-    let mut clock = SystemClock::new(&rt);
-    let status = run_words(
+    let mut clock = SystemClock::new(rt);
+    let mut draws = draws;
+    let mut maker = RegexMaker::new();
+    run_words(
         rt.alloc(),
-        words.as_slice(),
+        words,
         &mut tree,
         &mut streams,
+        &mut disk,
         &mut clock,
         &mut draws,
-    );
-    ExitCode::from(status)
+        &mut maker,
+    )
 }
 
 /// The words behind the program's name. A word that isn't UTF-8 is no word of a command, and there are none then.

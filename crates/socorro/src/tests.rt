@@ -62,13 +62,19 @@ fn draws_differ(rt: HostRuntime) -> Result<(), Fail> {
 fn a_folder_gives_its_files(rt: HostRuntime) -> Result<(), Fail> {
     let name = "folder_test.toml";
     fs::write(&rt, name, "crashes = 1")?;
-    let mut folder = Folder::new(&rt);
+    let mut folder = Folder::new(&rt, ".");
     let file = folder.file(rt.alloc(), name)?;
+    let below = folder.file(rt.alloc(), "folder_test.toml/tokens.toml")?;
+    let refused = folder.file(rt.alloc(), ".");
     fs::remove_file(&rt, name)?;
     assert!(rt; file.is_some_and(|bytes| bytes.as_slice() == b"crashes = 1".as_slice()));
-    let file = folder.file(rt.alloc(), name)?;
-    assert!(rt; file.is_none());
-    let refused = folder.file(rt.alloc(), ".");
+    assert!(rt; below.is_none());
     assert!(rt; matches!(&refused, Err(TreeError::Failed)));
+    let long = "folder_test".repeat(rt.alloc(), 30)?;
+    for missing in [name, "a\0b", long.as_str()] {
+        assert!(rt; folder.file(rt.alloc(), missing)?.is_none());
+    }
+    let mut nowhere = Folder::new(&rt, "no_folder");
+    assert!(rt; nowhere.file(rt.alloc(), name)?.is_none());
     Ok(())
 }

@@ -1,6 +1,0 @@
-pub mod AnswerLemmas
-pub mod ArrivalLemmas
-pub mod ConnectionLemmas
-pub mod LineLemmas
-pub mod ReportLemmas
-pub mod TaskLemmas

@@ -1,7 +1,0 @@
-use Rattle.soc_interim_session.proofs.AnswerLemmas.{Carries-asked}
-use Rattle.soc_interim_session.proofs.answers.ask.Goals as goal
-
-pub returns : goal.returns
-returns g c =
-    Carries-asked g.K.Desk.Asks c.args.command c.ask-receipt.result c.args.desk.now c.ask-receipt.new.self c.desk_reply.result c.ok.result
-    c.ask-receipt.ensures.asks c.ask-receipt.ensures.kind c.desk_reply.ensures.ok c.desk_reply.ensures.err c.ok.ensures.value

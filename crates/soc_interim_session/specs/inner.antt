@@ -1,4 +1,0 @@
--- Words of private contracts and of proofs: a session message by message.
-pub mod Arrivals
-pub mod Steps
-pub mod Tasks
