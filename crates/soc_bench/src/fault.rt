@@ -1,8 +1,12 @@
 //! Why a workload wasn't done.
+use soc_dump::DumpError;
 use soc_edge::Failed;
 use soc_journal::{AppendError, OpenError};
 use soc_multipart::PartsError;
-use soc_raw::NoMemory;
+use soc_query::QueryError;
+use soc_raw::{NoMemory, RecordError};
+use soc_report::KitError;
+use soc_siglists::ListError;
 use soc_symfile::SymError;
 use std::alloc::{AllocError, AllocFailed};
 use std::io;
@@ -12,7 +16,7 @@ use thiserror::Error;
 #[derive(Debug, Drop, Error)]
 pub enum Fault {
     /// The words name no workload.
-    #[error("usage: soc_bench multipart MEGABYTES [plain|near] | journal ENTRIES SIZE | symbols MEGABYTES | hall THREADS TURNS | ring JOBS")]
+    #[error("usage: soc_bench multipart MEGABYTES [plain|near] | journal ENTRIES SIZE | symbols MEGABYTES | dump KIND | walk TIMES DUMP SYMBOLS.. | report ROWS [DUMP SYMBOLS..] | search ROWS | signature SIGNATURES | hall THREADS TURNS | ring JOBS")]
     Words,
     /// An allocation was refused.
     #[error("out of memory")]
@@ -35,6 +39,24 @@ pub enum Fault {
     /// The symbol text that was made is not read.
     #[error("no symbols: {0}")]
     NoSymbols(SymError),
+    /// The dump that was made is not read.
+    #[error("no dump: {0}")]
+    NoDump(DumpError),
+    /// The lists that were made are not read.
+    #[error("no lists: {0}")]
+    NoLists(ListError),
+    /// The dump has no thread that can be walked.
+    #[error("no thread to walk")]
+    NoThread,
+    /// The lists and symbols are not read.
+    #[error("no kit: {0}")]
+    NoKit(KitError),
+    /// The crash that was made is not read.
+    #[error("no crash: {0}")]
+    NoCrash(RecordError),
+    /// The query that was made is not read.
+    #[error("no query: {0}")]
+    NoQuery(QueryError),
     /// The system gave no words or no time, or took no text.
     #[error("{0}")]
     Io(io::Error),

@@ -4,23 +4,35 @@
 
 mod bodies;
 mod counts;
+mod crashes;
+mod dumps;
 mod fault;
+mod files;
 mod hall;
 mod journal;
+mod kits;
+mod lists;
+mod made_dump;
 mod multipart;
 mod numbers;
 mod offsets;
+mod reports;
 mod ring;
+mod rows;
+mod search;
+mod signature;
 mod symbol_text;
 mod symbols;
 mod timing;
+mod walks;
 
 use fault::Fault;
 use std::env;
 use std::process::ExitCode;
-use std::rt::{Clock, Env};
+use std::rt::{Clock, Env, Files};
 use std::sync::Wait;
 use std::thread::Threads;
+use std::time::CpuClock;
 
 fn main(rt: HostRuntime) -> ExitCode {
     match run(&rt) {
@@ -34,7 +46,7 @@ fn main(rt: HostRuntime) -> ExitCode {
 }
 
 /// Does the workload that the first word names. The words behind it are the workload's own.
-fn run<R: Env + Clock + Print + Eprint + AllocGlobal + Threads + Wait + Sync>(
+fn run<R: Env + Files + Clock + CpuClock + Print + Eprint + AllocGlobal + Threads + Wait + Sync>(
     rt: &R,
 ) -> Result<(), Fault> {
     let mut words = Vec::new(rt.alloc());
@@ -50,6 +62,22 @@ fn run<R: Env + Clock + Print + Eprint + AllocGlobal + Threads + Wait + Sync>(
         "symbols" => symbols::run(rt, words),
         "hall" => hall::run(rt, words),
         "ring" => ring::run(rt, words),
+        _ => make_report(rt, workload.as_str(), words),
+    }
+}
+
+/// Does a workload on the way from a dump to a search.
+fn make_report<R: Files + CpuClock + Print + Eprint + AllocGlobal>(
+    rt: &R,
+    workload: &str,
+    words: &[String],
+) -> Result<(), Fault> {
+    match workload {
+        "dump" => dumps::run(rt, words),
+        "walk" => walks::run(rt, words),
+        "report" => reports::run(rt, words),
+        "signature" => signature::run(rt, words),
+        "search" => search::run(rt, words),
         _ => Err(Fault::Words),
     }
 }

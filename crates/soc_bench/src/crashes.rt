@@ -1,0 +1,70 @@
+//! Made crashes.
+use crate::fault::Fault;
+use crate::rows::made_id;
+use soc_raw::RawCrash;
+use std::alloc::{AllocError, Global};
+
+/// A second of September 2016.
+const MOMENT: u64 = 1_474_156_800;
+
+/// What each crash says, in the order of the names.
+const ANNOTATIONS: [(&str, &str); 17] = [
+    ("AdapterDeviceID", "0x0a16"),
+    ("AdapterVendorID", "0x8086"),
+    (
+        "Add-ons",
+        "formautofill%40mozilla.org:1.0.1,screenshots%40mozilla.org:39.0.1,webcompat%40mozilla.org:133.4.0",
+    ),
+    ("AvailablePageFile", "17179869184"),
+    ("BuildID", "20260918000000"),
+    ("Comments", "it crashed again when I opened the page"),
+    ("CrashTime", "1474156800"),
+    ("InstallTime", "1474100000"),
+    ("MozCrashReason", "MOZ_RELEASE_ASSERT(mState)"),
+    ("ProcessType", "content"),
+    ("ProductName", "Firefox"),
+    ("ReleaseChannel", "release"),
+    ("StartupCrash", "0"),
+    ("StartupTime", "1474156000"),
+    ("URL", "https://www.example.org/a/page"),
+    ("Version", "150.0.1"),
+    ("ipc_channel_error", "ShutDownKill"),
+];
+
+/// The crash of a number, with a dump where one is given. Its id is that of the row of the number.
+pub fn made_crash(alloc: Global, number: u64, dump: Option<&[u8]>) -> Result<RawCrash, Fault> {
+    let mut record = Vec::new(alloc);
+    record.extend_from_slice(made_id(alloc, number)?.as_bytes())?;
+    record.extend_from_slice(&MOMENT.to_le_bytes())?;
+    record.extend_from_slice(&0u64.to_le_bytes())?;
+    put(&mut record, b"accept_all")?;
+    put_count(&mut record, ANNOTATIONS.len())?;
+    for (name, value) in &ANNOTATIONS {
+        put(&mut record, name.as_bytes())?;
+        put(&mut record, value.as_bytes())?;
+    }
+    match dump {
+        Some(dump) => {
+            put_count(&mut record, 1)?;
+            put(&mut record, b"upload_file_minidump")?;
+            put(&mut record, dump)?;
+        }
+        None => put_count(&mut record, 0)?,
+    }
+    match RawCrash::decode(alloc, record.as_slice()) {
+        Ok(raw) => Ok(raw),
+        Err(error) => Err(Fault::NoCrash(error)),
+    }
+}
+
+/// A text or a dump of a record.
+fn put(record: &mut Vec<u8>, bytes: &[u8]) -> Result<(), AllocError> {
+    put_count(record, bytes.len())?;
+    record.extend_from_slice(bytes)
+}
+
+/// A number of a record, in four bytes.
+fn put_count(record: &mut Vec<u8>, count: usize) -> Result<(), AllocError> {
+    let [a, b, c, d, ..] = (count as u64).to_le_bytes();
+    record.extend_from_slice(&[a, b, c, d])
+}

@@ -1,0 +1,43 @@
+//! Lists and symbol files, as a service finds them in its folder.
+use crate::fault::Fault;
+use crate::lists::{irrelevant_list, prefix_list};
+use soc_edge::{MemTree, Numbers};
+use soc_raw::{Blobs, Bytes, Text};
+use soc_report::KitText;
+use std::alloc::Global;
+use std::fs;
+use std::rt::Files;
+
+/// The texts of made lists, and of symbol files that are given by their paths in the folder `symbols`.
+pub fn kit_text<R: Files + AllocGlobal>(rt: &R, paths: &[String]) -> Result<KitText, Fault> {
+    let alloc = rt.alloc();
+    let mut files = Blobs::new(alloc);
+    let mut list = String::new(alloc);
+    for path in paths {
+        list.push_str(path.as_str())?;
+        list.push_str("\n")?;
+        put_symbols(rt, &mut files, path.as_str())?;
+    }
+    put_text(alloc, &mut files, "symbols.txt", list)?;
+    put_text(alloc, &mut files, "irrelevant.txt", irrelevant_list(alloc)?)?;
+    put_text(alloc, &mut files, "prefix.txt", prefix_list(alloc)?)?;
+    let mut tree = MemTree::new(files, Numbers::new(Vec::new(alloc)));
+    match KitText::read(alloc, &mut tree) {
+        Ok(texts) => Ok(texts),
+        Err(error) => Err(Fault::NoKit(error)),
+    }
+}
+
+/// Puts a symbol file among the files.
+fn put_symbols<R: Files + AllocGlobal>(rt: &R, files: &mut Blobs, path: &str) -> Result<(), Fault> {
+    let place = format!(in rt.alloc(); "symbols/{path}")?;
+    let content = fs::read(rt, place.as_str())?;
+    files.set(Text::from(place), Bytes::from(content))?;
+    Ok(())
+}
+
+fn put_text(alloc: Global, files: &mut Blobs, name: &str, text: String) -> Result<(), Fault> {
+    let bytes = Bytes::of(alloc, text.as_bytes())?;
+    files.set(Text::of(alloc, name)?, bytes)?;
+    Ok(())
+}
