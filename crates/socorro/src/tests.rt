@@ -4,6 +4,7 @@ use crate::draws::SystemDraws;
 use crate::folder::Folder;
 use crate::streams::{InputStream, OutputStream};
 use soc_edge::{Clock, Draws, Failed, Sink, Source, Tree, TreeError};
+use soc_raw::Bytes;
 use std::fs;
 use std::io::{self, Read};
 use std::process::Abort;
@@ -58,23 +59,31 @@ fn draws_differ(rt: HostRuntime) -> Result<(), Fail> {
     Ok(())
 }
 
+/// What a folder has under a name.
+fn look(rt: &HostRuntime, folder: &str, name: &str) -> Result<Option<Bytes>, TreeError> {
+    Folder::new(rt, folder).file(rt.alloc(), name)
+}
+
 #[test]
 fn a_folder_gives_its_files(rt: HostRuntime) -> Result<(), Fail> {
     let name = "folder_test.toml";
     fs::write(&rt, name, "crashes = 1")?;
-    let mut folder = Folder::new(&rt, ".");
-    let file = folder.file(rt.alloc(), name)?;
-    let below = folder.file(rt.alloc(), "folder_test.toml/tokens.toml")?;
-    let refused = folder.file(rt.alloc(), ".");
+    let file = look(&rt, ".", name)?;
+    let below = look(&rt, ".", "folder_test.toml/tokens.toml")?;
+    let refused = look(&rt, ".", ".");
     fs::remove_file(&rt, name)?;
     assert!(rt; file.is_some_and(|bytes| bytes.as_slice() == b"crashes = 1".as_slice()));
     assert!(rt; below.is_none());
     assert!(rt; matches!(&refused, Err(TreeError::Failed)));
+    Ok(())
+}
+
+#[test]
+fn what_is_not_there_is_missing(rt: HostRuntime) -> Result<(), Fail> {
     let long = "folder_test".repeat(rt.alloc(), 30)?;
-    for missing in [name, "a\0b", long.as_str()] {
-        assert!(rt; folder.file(rt.alloc(), missing)?.is_none());
-    }
-    let mut nowhere = Folder::new(&rt, "no_folder");
-    assert!(rt; nowhere.file(rt.alloc(), name)?.is_none());
+    assert!(rt; look(&rt, ".", long.as_str())?.is_none());
+    assert!(rt; look(&rt, ".", "missing_test.toml")?.is_none());
+    assert!(rt; look(&rt, ".", "a\0b")?.is_none());
+    assert!(rt; look(&rt, "no_folder", "missing_test.toml")?.is_none());
     Ok(())
 }
