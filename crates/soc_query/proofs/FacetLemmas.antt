@@ -15,7 +15,7 @@ use Rattle.soc_schema.specs.declared.value.Cell.{Cell}
 use Rattle.soc_schema.specs.Rows.{value_of}
 use Rattle.soc_store.specs.Stored.{is_value, rows_with, places_of, values_of, some_has}
 use Rattle.soc_query.specs.declared.answer.Term.{Term}
-use Rattle.soc_query.specs.declared.facet.Counted.{Counted}
+use Rattle.soc_query.specs.declared.leaders.Counted.{Counted}
 use Rattle.soc_query.specs.inner.Selections.{as_term}
 use Rattle.soc_query.specs.Answers.{terms_of}
 
@@ -87,19 +87,6 @@ terms_more f rows vs i v at =
     ∙ ap (λ u. map pair (filter (some_has f rows) (take i vs)) ++ map pair (cond (some_has f rows u) (u ∷ []) [])) here
     ∙ ap (λ b. map pair (filter (some_has f rows) (take i vs)) ++ map pair (cond b (v ∷ []) [])) (counted_has f v rows)
     ∙ ap (λ l. map pair (filter (some_has f rows) (take i vs)) ++ l) (map_cond pair (ltb 0 (length (rows_with f v rows))) v)
-
-module _ (f : ℕ) (rows : List (ℕ × List Cell)) (vs : List Value) (i : ℕ) (v : Value) (at : slice_get vs i ≡ Some v) {E : Type 0} (pair : E → Term) (old : List E) (so_far : map pair old ≡ terms_so_far f rows (take i vs)) (n : ℕ) (count : n ≡ length (rows_with f v rows)) where
-  pub terms_pushed : (e : E) → 0 < n → pair e ≡ record { value = v; count = n } → map pair (old ++ e ∷ []) ≡ terms_so_far f rows (take (i + 1) vs)
-  terms_pushed e some is =
-      let enough : 0 < length (rows_with f v rows) = omega (arith, count) in
-      map-append pair old (e ∷ []) ∙ ap (λ l. l ++ pair e ∷ []) so_far ∙ ap (λ p. terms_so_far f rows (take i vs) ++ p ∷ []) (is ∙ ap (λ m. record { value = v; count = m }) count)
-      ∙ ap (λ b. terms_so_far f rows (take i vs) ++ cond b (term_of f rows v ∷ []) []) (sym (lt-ltb 0 (length (rows_with f v rows)) enough)) ∙ sym (terms_more f rows vs i v at)
-
-  pub terms_passed : n ≤ 0 → map pair old ≡ terms_so_far f rows (take (i + 1) vs)
-  terms_passed none =
-      let few : length (rows_with f v rows) ≤ 0 = omega (arith, count) in
-      so_far ∙ sym (append-nil (terms_so_far f rows (take i vs)))
-      ∙ ap (λ b. terms_so_far f rows (take i vs) ++ cond b (term_of f rows v ∷ []) []) (sym (le-ltb 0 (length (rows_with f v rows)) few)) ∙ sym (terms_more f rows vs i v at)
 
 pub terms_all : (test : ℕ × List Cell → Bool) (f : ℕ) (rows : List (ℕ × List Cell)) (i : ℕ) → values_of f (filter test rows) ≡ filter (some_has f (filter test rows)) (values_of f rows) → length (values_of f rows) ≤ i → terms_so_far f (filter test rows) (take i (values_of f rows)) ≡ terms_of f (filter test rows)
 terms_all test f rows i matching all = ap (terms_so_far f (filter test rows)) (take_all i (values_of f rows) all) ∙ terms_whole test f rows matching

@@ -7,7 +7,9 @@ pub mod GrantLemmas
 pub mod GroupLemmas
 pub mod HitLemmas
 pub mod JsonLemmas
+pub mod LeaderLemmas
 pub mod OrderLemmas
+pub mod ProductLemmas
 pub mod QueryLemmas
 pub mod ReadingLemmas
 pub mod SeenLemmas

@@ -165,7 +165,7 @@ in_chosen : (b : Bool) (p : ℕ) (places : List ℕ) → inn p (cond b places []
 in_chosen true p places = refl
 in_chosen false p places = refl
 
-same_value_is : (v w : Value) → is_value v (Some w) ≡ true → v ≡ w
+pub same_value_is : (v w : Value) → is_value v (Some w) ≡ true → v ≡ w
 same_value_is v w e = value_exact v w (equal_from (value_cmp v w) e)
   where
     equal_from : (r : Ordering) → is_eq r ≡ true → r ≡ Equal
@@ -197,7 +197,7 @@ chosen_one test w vs takes there =
     let here : (test w && is_value w (Some w)) ≡ true = and_from (test w) (is_value w (Some w)) takes (ap is_eq (tied_itself value_total w)) in
     list_any_at (λ v. test v && is_value v (Some w)) vs there.0 w there.1 (ap (λ v. test v && is_value v (Some w)) there.2 ∙ here)
 
-has_chosen : (test : Value → Bool) (o : Option Value) (vs : List Value) → IfSome o (Contains vs) → list_any (λ v. test v && is_value v o) vs ≡ option_map_or test o false
+pub has_chosen : (test : Value → Bool) (o : Option Value) (vs : List Value) → IfSome o (Contains vs) → list_any (λ v. test v && is_value v o) vs ≡ option_map_or test o false
 has_chosen test None vs there = none_has test vs
 has_chosen test (Some w) vs there =
     elim (test w) as (λ b. test w ≡ b → list_any (λ v. test v && is_value v (Some w)) vs ≡ b) [ true ↦ λ takes. chosen_one test w vs takes there | false ↦ λ out. not_chosen test w vs out ] refl

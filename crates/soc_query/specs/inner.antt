@@ -1,2 +1,4 @@
+pub mod Leaders
+pub mod Products
 pub mod Selections
 pub mod Walks

@@ -66,6 +66,8 @@ impl Test {
     ghost use Rattle.std.specs.Prelude.{◌≡◌, IfSome};
     ghost use Rattle.soc_query.specs.declared.condition.Comparison.TheVariants as Comparison;
     ghost use Rattle.soc_query.specs.declared.condition.Test.TheVariants as Test;
+    ghost use Rattle.std.specs.Option.{option_copied};
+    ghost use Rattle.soc_query.specs.Answers.{passes};
     ghost use Rattle.soc_query.specs.inner.Selections.{chosen};
 
     /// The value that the test asks for, where it asks for one.
@@ -87,12 +89,23 @@ impl Test {
             Test::Compares(how, operand) => compares(*how, operand, value),
         }
     }
+
+    /// Whether the value that a row has of the field, if any, is as the test asks.
+    fn passes(&self, value: Option<&Value>) -> bool
+        ensures { result ≡ passes self.now (option_copied value.entry) }
+    {
+        match value {
+            Some(value) => !matches!(self, Test::Absent) && self.chooses(value),
+            None => matches!(self, Test::Absent),
+        }
+    }
 }
 
 impl Condition {
     ghost use Rattle.std.specs.Prelude.{◌≡◌};
     ghost use Rattle.std.specs.Option.{option_copied};
     ghost use Rattle.soc_query.specs.Answers.{is_exact};
+    ghost use Rattle.soc_query.specs.inner.Products.{is_met};
     ghost use Rattle.soc_query.specs.inner.Selections.{exact_value, is_reversed};
 
     /// Whether it asks for one value of its field.
@@ -116,6 +129,13 @@ impl Condition {
             Test::Compares(Comparison::Equals, value) => Some(value),
             _ => None,
         }
+    }
+
+    /// Whether a row that has this value of its field, or none, meets it.
+    pub(crate) fn is_met(&self, value: Option<&Value>) -> bool
+        ensures { result ≡ is_met self.now (option_copied value.entry) }
+    {
+        self.test.passes(value) != self.negated
     }
 
     /// Whether rows without the values that it asks about meet it.

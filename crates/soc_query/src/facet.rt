@@ -1,39 +1,51 @@
 //! Facets: the values of a field in the selected rows, with their counts.
-ghost use Rattle.std.specs.Prelude.{◌≡◌, ℕ, List, Bool, IfOk, OnOk, length, map, take, nat_lt, count_by};
+ghost use Rattle.std.specs.Prelude.{◌≡◌, ◌<◌, ◌&&◌, IfOk, length, map, take, slice_get, Some};
 ghost use Rattle.std.specs.List.{filter};
-ghost use Rattle.std.specs.Ordering.{nat_cmp};
-ghost use Rattle.soc_query.specs.declared.facet.Counted.{Counted};
-ghost use Rattle.soc_query.specs.Answers.{facet_of, in_order, terms_of};
-ghost use Rattle.soc_query.specs.inner.Selections.{as_term, selected};
+ghost use Rattle.soc_store.specs.Stored.{rows_with, values_of};
+ghost use Rattle.soc_query.specs.Answers.{facet_of, in_order, meets, sees, terms_of};
+ghost use Rattle.soc_query.specs.inner.Leaders.{by_count};
+ghost use Rattle.soc_query.specs.inner.Products.{AskAlone};
+ghost use Rattle.soc_query.specs.inner.Selections.{Selects, selected};
 
-use crate::answer::{Facet, Facets, Term, Terms};
+use crate::answer::{Facet, Facets, Terms};
+use crate::leaders::{Counted, Leaders};
 use crate::places::PlaceSet;
+use crate::products::{ProductSet, asked_products};
 use crate::query::Query;
 use crate::selection::count_of;
 use soc_raw::NoMemory;
-use soc_schema::{Field, Value};
+use soc_schema::Field;
 use soc_store::Store;
 use std::alloc::Global;
 
-/// A value and how many of the selected rows have it.
-#[derive(Drop)]
-struct Counted<'a> {
-    value: &'a Value,
-    count: u64,
-}
-
-/// The facets that a query asks for, over the selected rows.
+/// The facets that a query asks for, over the selected rows, which are those that it asks for.
 pub(crate) fn facets(
     alloc: Global,
     store: &Store,
     query: &Query,
     set: &Option<PlaceSet>,
 ) -> Result<Facets, NoMemory>
+    requires { Selects (selected set.now) (λ row. sees query.now.caller row && meets query.now.conditions row) store.now }
+    ensures { IfOk result (λ facets. facets ≡ map (facet_of query.now.facet_size (filter (λ s. selected set.now s.0) store.now)) query.now.facets) }
+{
+    let products = products_alone(alloc, store, query, set)?;
+    facets_of(alloc, store, query, set, &products)
+}
+
+/// The facets, counted by products where these are named.
+fn facets_of(
+    alloc: Global,
+    store: &Store,
+    query: &Query,
+    set: &Option<PlaceSet>,
+    products: &Option<ProductSet<'_>>,
+) -> Result<Facets, NoMemory>
+    requires { AskAlone (selected set.now) store.now products.now }
     ensures { IfOk result (λ facets. facets ≡ map (facet_of query.now.facet_size (filter (λ s. selected set.now s.0) store.now)) query.now.facets) }
 {
     let mut facets = Facets::new(alloc);
     for field in query.facets() {
-        let terms = facet_terms(alloc, store, *field, set, query.facet_size())?;
+        let terms = facet_terms(alloc, store, *field, set, products, query.facet_size())?;
         facets.push(Facet {
             field: *field,
             terms,
@@ -42,54 +54,78 @@ pub(crate) fn facets(
     Ok(facets)
 }
 
+/// The products whose rows are selected, where running counts tell which these are and not each row is.
+fn products_alone<'a>(
+    alloc: Global,
+    store: &'a Store,
+    query: &Query,
+    set: &Option<PlaceSet>,
+) -> Result<Option<ProductSet<'a>>, NoMemory>
+    requires { Selects (selected set.now) (λ row. sees query.now.caller row && meets query.now.conditions row) store.now }
+    ensures { IfOk result (AskAlone (selected set.now) store.now) }
+{
+    match set {
+        Some(_) => asked_products(alloc, store, query),
+        None => Ok(None),
+    }
+}
+
 /// The terms of one facet.
 fn facet_terms(
     alloc: Global,
     store: &Store,
     field: Field,
     set: &Option<PlaceSet>,
+    products: &Option<ProductSet<'_>>,
     size: u64,
 ) -> Result<Terms, NoMemory>
-    ensures { IfOk result (λ terms. terms ≡ take size (in_order (λ t u. nat_cmp u.count t.count) (terms_of field (filter (λ s. selected set.now s.0) store.now)))) }
+    requires { AskAlone (selected set.now) store.now products.now }
+    ensures { IfOk result (λ terms. terms ≡ take size (in_order by_count (terms_of field (filter (λ s. selected set.now s.0) store.now)))) }
 {
-    let mut counted = counted_values(alloc, store, field, set)?;
-    sort_by_count(&mut counted)?;
-    let mut terms = Terms::new(alloc);
-    for i in 0..counted.len().min(size as usize) {
-        let one = &counted[i];
-        let value = one.value.copy(alloc)?;
-        terms.push(Term {
-            value,
-            count: one.count,
-        })?;
-    }
-    Ok(terms)
+    leading_values(alloc, store, field, set, products, size as usize)?.terms(alloc)
 }
 
-/// Greater counts first; what ties stays as it stands.
-fn sort_by_count(counted: &mut Vec<Counted<'_>>) -> Result<(), NoMemory>
-    ensures { OnOk result (map as_term counted.new.items ≡ in_order (λ t u. nat_cmp u.count t.count) (map as_term counted.old.items)) }
-{
-    counted.sort_by(|a, b| b.count.cmp(&a.count))?;
-    Ok(())
-}
-
-/// Each value of the field in the selected rows, in rising order, with the number of these that have it.
-fn counted_values<'a>(
+/// The values of the field that most of the selected rows have.
+fn leading_values<'a>(
     alloc: Global,
     store: &'a Store,
     field: Field,
     set: &Option<PlaceSet>,
-) -> Result<Vec<Counted<'a>>, NoMemory>
-    ensures { IfOk result (λ counted. map as_term counted.items ≡ terms_of field (filter (λ s. selected set.now s.0) store.now)) }
+    products: &Option<ProductSet<'_>>,
+    size: usize,
+) -> Result<Leaders<'a>, NoMemory>
+    requires { AskAlone (selected set.now) store.now products.now }
+    ensures { IfOk result (λ leaders. leaders ≡ record { size = size; terms = take size (in_order by_count (terms_of field (filter (λ s. selected set.now s.0) store.now))) }) }
 {
-    let mut counted = Vec::new(alloc);
+    let mut leaders = Leaders::new(alloc, size);
     for i in 0..store.values(field) {
-        let (value, places, _) = store.term_at(field, i);
-        let count = count_of(set, places) as u64;
-        if count > 0 {
-            counted.push(Counted { value, count })?;
+        let counted = counted_at(store, field, i, set, products);
+        if counted.count > 0 {
+            leaders.offer(counted)?;
         }
     }
-    Ok(counted)
+    Ok(leaders)
+}
+
+/// The `i`th value of the field, and how many of the selected rows have it: by the running counts of products where
+/// these tell it, and else by its places.
+fn counted_at<'a>(
+    store: &'a Store,
+    field: Field,
+    i: usize,
+    set: &Option<PlaceSet>,
+    products: &Option<ProductSet<'_>>,
+) -> Counted<'a>
+    requires within { i < length (values_of field store.now) }
+    requires alone { AskAlone (selected set.now) store.now products.now }
+    ensures value { slice_get (values_of field store.now) i ≡ Some result.value.now }
+    ensures count { result.count ≡ length (rows_with field result.value.now (filter (λ s. selected set.now s.0) store.now)) }
+{
+    let (value, places, counts) = store.term_at(field, i);
+    let _rows = store.len();
+    let count = match products {
+        Some(products) => products.count(counts),
+        None => count_of(set, places) as u64,
+    };
+    Counted { value, count }
 }

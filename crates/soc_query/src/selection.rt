@@ -208,7 +208,7 @@ fn shown_places(alloc: Global, store: &Store, caller: &Caller) -> Result<PlaceSe
 }
 
 /// The text of a value that is one.
-fn text_of(value: &Value) -> Option<&str>
+pub(crate) fn text_of(value: &Value) -> Option<&str>
     ensures { option_copied result ≡ text_of (Some value.now) }
 {
     match value {

@@ -9,7 +9,7 @@ use Rattle.soc_schema.specs.Rows.{value_of}
 use Rattle.soc_query.specs.declared.condition.Test.{Test}
 use Rattle.soc_query.specs.declared.condition.Test.TheVariants.{Absent, Compares}
 use Rattle.soc_query.specs.declared.condition.Condition.{Condition}
-use Rattle.soc_query.specs.declared.facet.Counted.{Counted}
+use Rattle.soc_query.specs.declared.leaders.Counted.{Counted}
 use Rattle.soc_query.specs.declared.answer.Term.{Term}
 use Rattle.soc_query.specs.Answers.{compares, is_exact, meets}
 use Rattle.soc_query.specs.Places.{has}

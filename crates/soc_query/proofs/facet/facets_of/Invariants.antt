@@ -1,7 +1,7 @@
 use Rattle.std.proofs.Common.{◌≡◌, map, take, filter}
 use Rattle.soc_query.specs.Answers.{facet_of}
 use Rattle.soc_query.specs.inner.Selections.{selected}
-use Rattle.soc_query.proofs.facet.facets.Given as goal
+use Rattle.soc_query.proofs.facet.facets_of.Given as goal
 
 abbrev pub invariant-loop-field : goal.invariant-loop-field
 invariant-loop-field l =
