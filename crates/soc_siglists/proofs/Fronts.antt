@@ -24,7 +24,9 @@ use Rattle.std.proofs.lemmas.Slice.Eq.{bytes_eq-Decides}
 use Rattle.soc_raw.specs.Names.{byte_cmp, IsRising, with_value}
 use Rattle.soc_siglists.specs.Lists.{matches_one}
 use Rattle.soc_siglists.specs.Patterns.{matches_start}
-use Rattle.soc_siglists.specs.inner.Literals.{AreApart, AreSplit, IsApart, IsLiteral, IsUpTo, begins_with, begins_with_one}
+use Rattle.soc_siglists.specs.inner.Leads.{IsLedBy}
+use Rattle.soc_siglists.specs.declared.lead.Lead.{Lead}
+use Rattle.soc_siglists.specs.inner.Literals.{AreApart, AreSplit, IsApart, IsUpTo, StandsFor, begins_with, begins_with_one}
 
 -- ---- fronts
 
@@ -333,13 +335,20 @@ or_between false false false = refl
 matches_more : (patterns : List (List ℕ)) (text frame : List ℕ) → matches_one (patterns ++ text ∷ []) frame ≡ (matches_one patterns frame || matches_start frame text)
 matches_more patterns text frame = list_any-append (matches_start frame) patterns (text ∷ []) ∙ ap (λ b. matches_one patterns frame || b) (or_false (matches_start frame text))
 
-pub split_literal : (patterns literals literals' others : List (List ℕ)) (text : List ℕ) → AreSplit patterns literals others → IsLiteral text
-    → ((frame : List ℕ) → begins_with_one literals' frame ≡ (begins_with_one literals frame || begins_with frame text)) → AreSplit (patterns ++ text ∷ []) literals' others
-split_literal patterns literals literals' others text split own added_to frame is =
-    matches_more patterns text frame ∙ ap (λ b. b || matches_start frame text) (split frame is)
+pub split_literal : (patterns literals literals' others : List (List ℕ)) (pattern text : List ℕ) → AreSplit patterns literals others → StandsFor pattern text
+    → ((frame : List ℕ) → begins_with_one literals' frame ≡ (begins_with_one literals frame || begins_with frame text)) → AreSplit (patterns ++ pattern ∷ []) literals' others
+split_literal patterns literals literals' others pattern text split own added_to frame is =
+    matches_more patterns pattern frame ∙ ap (λ b. b || matches_start frame pattern) (split frame is)
     ∙ ap (λ b. (begins_with_one literals frame || matches_one others frame) || b) (own frame is)
     ∙ or_between (begins_with_one literals frame) (matches_one others frame) (begins_with frame text)
     ∙ ap (λ b. b || matches_one others frame) (sym (added_to frame))
+
+-- a pattern whose lead is all that it asks for stands for that
+pub stands : (pattern : List ℕ) (lead : Lead) → IsLedBy pattern lead → lead.is_all ≡ true → StandsFor pattern lead.text
+stands pattern lead led sure frame is = elim (cases_Bool (begins_with frame lead.text)) [
+  | inl passes ↦ led.all sure frame is passes ∙ sym passes
+  | inr fails ↦ false_from_ne_true _ (λ h. true≢false (sym (led.begins frame is h) ∙ fails)) ∙ sym fails
+]
 
 pub split_other : (patterns literals others : List (List ℕ)) (text : List ℕ) → AreSplit patterns literals others
     → AreSplit (patterns ++ text ∷ []) literals (others ++ text ∷ [])

@@ -1,5 +1,5 @@
 -- A compiled pattern matches as the grammar reads its text.
-use Rattle.std.proofs.Common.{◌≡◌, ℕ, zero, suc, ◌<◌, ◌≤◌, ◌==◌, Bool, true, false, ◌&&◌, List, get_or, Option, None, Some, IsSome, IsSomeAnd, option_map, length, refl, sym, ap, ◌∙◌, subst, arith, true≢false, inl, inr}
+use Rattle.std.proofs.Common.{◌≡◌, ℕ, zero, suc, ◌+◌, ◌-◌, ◌<◌, ◌≤◌, ◌==◌, Bool, true, false, ◌&&◌, Box, Global, Vec, List, [], ◌∷◌, map, drop, drop-cons, drop_of_length-le, get_or, Option, None, Some, IsSome, IsSomeAnd, option_map, length, refl, sym, ap, ◌∙◌, subst, arith, true≢false, inl, inr}
 use Rattle.std.specs.Prelude.{nat_le}
 use Rattle.std.specs.Option.{option_map_or}
 use Rattle.std.specs.Str.{chars, is_utf8, IsUtf8}
@@ -10,14 +10,20 @@ use Rattle.std.proofs.lemmas.Bool.Decides.{nat_tests}
 use Rattle.regex_syntax.specs.Grammar.{Names, read}
 use Rattle.regex_syntax.specs.Brackets.{Nested}
 use Rattle.regex_hir.specs.declared.hir.Hir.{Hir}
-use Rattle.regex.specs.Patterns.{Re, Match, Matches, SameCaptures, default_config, find_str, has_bytes_at, literal, span, Reads, ReadsAsText}
+use Rattle.regex_hir.specs.declared.hir.Hir.TheVariants.{Concat, Literal, Repetition}
+use Rattle.regex_hir.specs.Meaning.{meaning, cat_all, up_to}
+use Rattle.regex_hir.proofs.MeaningLemmas.{meaning-Concat, meaning-Literal, meaning-Repetition}
+use Rattle.regex.specs.Patterns.{Re, Match, Matches, SameCaptures, cat, default_config, find_str, has_bytes_at, literal, repeat, span, Reads}
 use Rattle.regex.specs.Strings.{regex_source, regex_pattern}
 use Rattle.regex.specs.declared.string.regex.Regex.{Regex}
 use Rattle.regex.proofs.ForCallers.{find_str_sound, find_str_complete, span_alike}
 use Rattle.soc_siglists.specs.Patterns.{is_pattern, matches_start}
 use Rattle.soc_siglists.specs.Makers.{IsMade}
 use Rattle.soc_siglists.specs.inner.Compiled.{IsOwn, MatchesAs}
-use Rattle.soc_siglists.specs.inner.Literals.{IsFrame, IsLiteral, begins_with}
+use Rattle.soc_siglists.specs.inner.Leads.{BeginsBy, IsFront, IsLead, IsLedBy, IsOptional, Leads, MatchesBy}
+use Rattle.soc_siglists.specs.inner.Literals.{IsFrame, begins_with}
+use Rattle.soc_siglists.specs.declared.lead.Front.{Front}
+use Rattle.soc_siglists.specs.declared.lead.Lead.{Lead}
 
 abbrev pub Found : Type 0
 Found = Nested Re × Names
@@ -112,40 +118,117 @@ positive : (n : ℕ) → (n == 0) ≡ false → 0 < n
 positive zero e = absurd (true≢false e)
 positive (suc n) e = omega arith
 
-begins_not : (text frame : List ℕ) → begins_with frame text ≡ false → (o : Option Match) → find_str (literal text) frame 0 ≡ o → begins o ≡ false
-begins_not text frame fails None e = refl
-begins_not text frame fails (Some m) e =
-    let sound = find_str_sound (literal text) frame 0 m e in
-    false_from_ne_true _ (λ here. true≢false (sym sound.1.0 ∙ ap (λ n. has_bytes_at frame n text) (eqb-true m.start 0 here) ∙ has_here text frame ∙ fails))
+-- a search whose match begins at the start gives one
+begun_matches : (re : Re) (frame : List ℕ) (o : Option Match) → find_str re frame 0 ≡ o → begins o ≡ true → (j : ℕ) × Matches frame re 0 j
+begun_matches re frame None e h = absurd (true≢false (sym h))
+begun_matches re frame (Some m) e h =
+    let sound = find_str_sound re frame 0 m e in
+    (m.trace.end, subst (λ n. Matches frame re n m.trace.end) (eqb-true m.start 0 h) sound.1)
 
-some_begins : (text frame : List ℕ) → IsFrame frame → Matches frame (literal text) 0 (length text) → (o : Option Match) → find_str (literal text) frame 0 ≡ o
-    → IsSome (find_str (literal text) frame 0) → begins o ≡ true
-some_begins text frame is matches None e some = absurd (true≢false (sym (subst IsSome e some)))
-some_begins text frame is matches (Some m) e some =
-    let sound = find_str_sound (literal text) frame 0 m e in
-    true_from_ne_false _ (λ past. sound.2 0 (length text) (omega arith) (positive m.start past) (IsCharBoundary-start frame is.utf8) matches)
+-- a match at the start is the leftmost one
+some_begins : (re : Re) (frame : List ℕ) (j : ℕ) → IsFrame frame → Matches frame re 0 j → (o : Option Match) → find_str re frame 0 ≡ o
+    → IsSome (find_str re frame 0) → begins o ≡ true
+some_begins re frame j is matches None e some = absurd (true≢false (sym (subst IsSome e some)))
+some_begins re frame j is matches (Some m) e some =
+    let sound = find_str_sound re frame 0 m e in
+    true_from_ne_false _ (λ past. sound.2 0 j (omega arith) (positive m.start past) (IsCharBoundary-start frame is.utf8) matches)
 
-begins_if : (text frame : List ℕ) → IsFrame frame → begins_with frame text ≡ true → begins (find_str (literal text) frame 0) ≡ true
-begins_if text frame is passes =
-    let matches : Matches frame (literal text) 0 (length text) = (has_here text frame ∙ passes, omega arith) in
-    some_begins text frame is matches (find_str (literal text) frame 0) refl
-    (find_str_complete (literal text) frame 0 0 (length text) (omega arith) (IsCharBoundary-start frame is.utf8) matches)
+matches_begin : (re : Re) (frame : List ℕ) (j : ℕ) → IsFrame frame → Matches frame re 0 j → begins (find_str re frame 0) ≡ true
+matches_begin re frame j is matches =
+    some_begins re frame j is matches (find_str re frame 0) refl (find_str_complete re frame 0 0 j (omega arith) (IsCharBoundary-start frame is.utf8) matches)
 
--- a search for a text finds it where the frame begins just where the frame begins with it
-text_begins : (text frame : List ℕ) → IsFrame frame → begins (find_str (literal text) frame 0) ≡ begins_with frame text
-text_begins text frame is = elim (cases_Bool (begins_with frame text)) [
-  | inl passes ↦ begins_if text frame is passes ∙ sym passes
-  | inr fails ↦ begins_not text frame fails (find_str (literal text) frame 0) refl ∙ sym fails
-]
+-- ---- what matches begin with
 
-asked_text : (o : Option Found) (text frame : List ℕ) → IsFrame frame → IsSomeAnd o (λ found. SameCaptures found.0.value (literal text))
-    → option_map_or (λ (found : Found). begins (find_str found.0.value frame 0)) o false ≡ begins_with frame text
-asked_text None text frame is same = absurd same
-asked_text (Some found) text frame is same =
-    by_span (find_str found.0.value frame 0) ∙ ap begins_by (span_alike same frame is.bytes true 0) ∙ sym (by_span (find_str (literal text) frame 0)) ∙ text_begins text frame is
+pub front_unknown : (re : Re) (front : Front) → front.bytes.now ≡ [] → front.is_all ≡ false → IsFront re front
+unfolding has_bytes_at
+front_unknown re front empty unsure = record {
+  begins = λ hay j m. rw empty refl;
+  all = λ h. absurd (true≢false (sym h ∙ unsure));
+}
 
--- a text that escaping leaves as it is stands for itself
-pub own_literal : (text : List ℕ) → ReadsAsText text text → IsLiteral text
-unfolding matches_start ReadsAsText
-own_literal text reads frame is =
-    asked_text (read default_config (chars text)) text frame is (weaker (read default_config (chars text)) _ _ (λ x h. h.1) (reads default_config refl refl))
+up_to_optional : (most : ℕ) (greedy : Bool) (re : Re) → IsOptional (up_to greedy most re)
+up_to_optional zero greedy re hay i = refl
+up_to_optional (suc n) true re hay i = inr refl
+up_to_optional (suc n) false re hay i = inl refl
+
+pub optional_repetition : (most : Option ℕ) (greedy : Bool) (re : Re) → IsOptional (repeat 0 most greedy re)
+unfolding repeat
+optional_repetition None true re hay i = inr refl
+optional_repetition None false re hay i = inl refl
+optional_repetition (Some most) greedy re hay i = up_to_optional (most - 0) greedy re hay i
+
+pub repetition_optional : (hir : Hir) (least : ℕ) (most : Option ℕ) (greedy : Bool) (sub : Box Hir Global) → hir ≡ Repetition least most greedy sub
+    → (least == 0) ≡ true → IsOptional (meaning hir)
+repetition_optional hir least most greedy sub is none =
+    subst IsOptional (sym (ap meaning is ∙ meaning-Repetition least most greedy sub ∙ ap (λ n. repeat n most greedy (meaning sub.value)) (eqb-true least 0 none)))
+    (optional_repetition most greedy (meaning sub.value))
+
+pub optional_both : (a b : Re) → IsOptional a → IsOptional b → IsOptional (cat a b)
+optional_both a b p q hay i = (i, p hay i, q hay i)
+
+-- what is left after one more tree
+pub optional_on : (subs : List Hir) (i : ℕ) (sub : Hir) → i < length subs → sub ≡ get_or subs i sub → IsOptional (meaning sub)
+    → IsOptional (cat_all (map meaning (drop (i + 1) subs))) → IsOptional (cat_all (map meaning (drop i subs)))
+optional_on subs i sub inside is here rest =
+    let split : map meaning (drop i subs) ≡ meaning sub ∷ map meaning (drop (suc i) subs) =
+    ap (map meaning) (drop-cons subs i sub inside ∙ ap (λ x. x ∷ drop (suc i) subs) (sym is)) in
+    let next : suc i ≡ i + 1 = omega arith in
+    subst IsOptional (sym (ap cat_all split)) (optional_both (meaning sub) (cat_all (map meaning (drop (suc i) subs))) here (subst (λ n. IsOptional (cat_all (map meaning (drop n subs)))) (sym next) rest))
+
+pub optional_end : (subs : List Hir) (i : ℕ) → length subs ≤ i → IsOptional (cat_all (map meaning (drop i subs)))
+optional_end subs i past = subst (λ ts. IsOptional (cat_all (map meaning ts))) (sym (drop_of_length-le subs past)) (λ hay i. refl)
+
+pub front_literal : (bytes : List ℕ) (front : Front) → front.bytes.now ≡ bytes → IsFront (literal bytes) front
+front_literal bytes front same = record {
+  begins = λ hay j m. rw same m.0;
+  all = λ _ hay h. (0 + length bytes, (rw same at h, refl));
+}
+
+pub front_first : (bytes : List ℕ) (rest : Re) (front : Front) → front.bytes.now ≡ bytes → (front.is_all ≡ true → IsOptional rest) → IsFront (cat (literal bytes) rest) front
+front_first bytes rest front same optional = record {
+  begins = λ hay j m. rw same m.1.0;
+  all = λ is hay h. (0 + length bytes, (0 + length bytes, (rw same at h, refl), optional is hay (0 + length bytes)));
+}
+
+pub hir_literal : (hir : Hir) (bytes : Vec ℕ Global) (front : Front) → hir ≡ Literal bytes → front.bytes.now ≡ bytes.items → IsFront (meaning hir) front
+hir_literal hir bytes front is same = subst (λ re. IsFront re front) (sym (ap meaning is ∙ meaning-Literal bytes)) (front_literal bytes.items front same)
+
+pub hir_first : (hir : Hir) (bytes : Vec ℕ Global) (rest : List Hir) (front : Front) → hir ≡ Literal bytes → front.bytes.now ≡ bytes.items
+    → (front.is_all ≡ true → IsOptional (cat_all (map meaning rest))) → IsFront (cat_all (map meaning (hir ∷ rest))) front
+hir_first hir bytes rest front is same optional =
+    subst (λ re. IsFront (cat re (cat_all (map meaning rest))) front) (sym (ap meaning is ∙ meaning-Literal bytes)) (front_first bytes.items (cat_all (map meaning rest)) front same optional)
+
+pub hir_concat : (hir : Hir) (subs : Vec Hir Global) (front : Front) → hir ≡ Concat subs → IsFront (cat_all (map meaning subs.items)) front → IsFront (meaning hir) front
+hir_concat hir subs front is h = subst (λ re. IsFront re front) (sym (ap meaning is ∙ meaning-Concat subs)) h
+
+pub front_leads : (re : Re) (front : Front) (lead : Lead) → IsFront re front → lead.text ≡ front.bytes.now → lead.is_all ≡ front.is_all → Leads re lead
+front_leads re front lead is text all = record {
+  begins = subst (BeginsBy re) (sym text) is.begins;
+  all = λ h. subst (MatchesBy re) (sym text) (is.all (sym all ∙ h));
+}
+
+pub no_lead : (re : Re) (lead : Lead) → lead.text ≡ [] → lead.is_all ≡ false → Leads re lead
+unfolding has_bytes_at
+no_lead re lead empty unsure = record {
+  begins = λ hay j m. rw empty refl;
+  all = λ h. absurd (true≢false (sym h ∙ unsure));
+}
+
+-- what the grammar's own tree says of matches holds for the text
+pub led_by : (text : List ℕ) (hir : Hir) (names : Names) (lead : Lead) → Reads default_config text hir names → Leads (meaning hir) lead → IsLedBy text lead
+unfolding Reads
+led_by text hir names lead reads leads =
+    let re = meaning hir in
+    let same : MatchesAs text re = weaker (read default_config (chars text)) _ _ (λ x h. h.1) reads in
+    record {
+      begins = λ frame is h.
+          let found = begun_matches re frame (find_str re frame 0) refl (starts text frame re is.bytes same ∙ h) in
+          sym (has_here lead.text frame) ∙ leads.begins frame found.0 found.1;
+      all = λ sure frame is h.
+          let found = leads.all sure frame (has_here lead.text frame ∙ h) in
+          sym (starts text frame re is.bytes same) ∙ matches_begin re frame found.0 is found.1;
+    }
+
+-- a frame that doesn't begin with the lead isn't matched
+pub not_led : (pattern lead frame : List ℕ) → IsLead pattern lead → IsFrame frame → begins_with frame lead ≡ false → matches_start frame pattern ≡ false
+not_led pattern lead frame led is fails = false_from_ne_true _ (λ h. true≢false (sym (led frame is h) ∙ fails))

@@ -1,5 +1,6 @@
--- Words of private contracts and of proofs: how a compiled pattern stands to its text, which patterns stand for their own
--- text, and what reading one file answers.
+-- Words of private contracts and of proofs: how a compiled pattern stands to its text, what matches begin with, tables of
+-- texts, and what reading one file answers.
 pub mod Compiled
 pub mod Literals
+pub mod Leads
 pub mod OneFile

@@ -4,6 +4,8 @@
 mod entries;
 mod error;
 mod failing_maker;
+mod lead;
+mod led;
 mod lines;
 mod lists;
 mod literals;

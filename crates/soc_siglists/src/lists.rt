@@ -52,7 +52,7 @@ impl Lists {
         })
     }
 
-    /// What asks the lists of many frames. To make it costs far more than one question.
+    /// What asks the lists of many frames. What searches for a pattern is made when it is first needed, and kept.
     pub fn matchers(&self, alloc: Global) -> Result<ListMatchers<'_>, NoMemory>
         ensures { IfOk result (λ matchers. matchers ≡ self.now) }
     {
@@ -67,7 +67,7 @@ impl Lists {
         ensures { IfOk result (λ answer. answer ≡ is_irrelevant self.now frame.now) }
     {
         let mut matchers = self.irrelevant.matchers(alloc)?;
-        Ok(matchers.match_one(frame))
+        matchers.match_one(alloc, frame)
     }
 
     /// Whether a pattern of the prefix list matches where the frame begins.
@@ -75,7 +75,7 @@ impl Lists {
         ensures { IfOk result (λ answer. answer ≡ is_prefix self.now frame.now) }
     {
         let mut matchers = self.prefix.matchers(alloc)?;
-        Ok(matchers.match_one(frame))
+        matchers.match_one(alloc, frame)
     }
 
     /// Where the first frame stands that a sentinel matches where it begins, counted from 0.
@@ -83,6 +83,6 @@ impl Lists {
         ensures { IfOk result (λ place. place ≡ sentinel_place self.now frames.now) }
     {
         let mut matchers = self.sentinel.matchers(alloc)?;
-        Ok(first_match(&mut matchers, frames))
+        first_match(alloc, &mut matchers, frames)
     }
 }

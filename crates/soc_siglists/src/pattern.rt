@@ -1,11 +1,13 @@
 //! One pattern of a list.
-ghost use Rattle.std.specs.Prelude.{◌≡◌, true, IfOk};
+ghost use Rattle.std.specs.Prelude.{◌≡◌, IfOk};
 ghost use Rattle.regex.specs.Strings.{regex_source};
 ghost use Rattle.soc_siglists.specs.Patterns.{matches_start};
 ghost use Rattle.soc_siglists.specs.inner.Compiled.{IsOwn};
-ghost use Rattle.soc_siglists.specs.inner.Literals.{IsLiteral};
+ghost use Rattle.soc_siglists.specs.inner.Leads.{IsLedBy};
 
-use regex::{Matcher, Regex, escape};
+use crate::lead::{Lead, lead_of};
+use regex::{Matcher, Regex};
+use regex_syntax::{Config, parse};
 use soc_raw::NoMemory;
 use std::alloc::Global;
 use std::marker::Model;
@@ -43,12 +45,15 @@ impl Pattern {
         self.made.as_str()
     }
 
-    /// Whether no character of the text has a meaning of its own, so that the pattern matches its own text.
-    pub fn is_literal(&self, alloc: Global) -> Result<bool, NoMemory>
-        ensures { IfOk result (λ is. is ≡ true → IsLiteral self.now) }
+    /// A text that each match begins with.
+    pub fn lead(&self, alloc: Global) -> Result<Lead, NoMemory>
+        ensures { IfOk result (IsLedBy self.now) }
     {
-        let escaped = escape(alloc, self.made.as_str())?;
-        Ok(escaped.as_str() == self.made.as_str())
+        // the text was read before, so only memory can be wanting
+        let Ok(parsed) = parse(alloc, self.made.as_str(), &Config::default()) else {
+            return Err(NoMemory);
+        };
+        lead_of(alloc, &parsed.hir)
     }
 
     /// What asks the pattern.

@@ -1,23 +1,24 @@
 //! The patterns of one list.
-ghost use Rattle.std.specs.Prelude.{◌≡◌, ◌||◌, ℕ, List, IfOk, OnOk};
+ghost use Rattle.std.specs.Prelude.{◌≡◌, ◌==◌, ◌||◌, ℕ, List, length, IfOk, OnOk};
 ghost use Rattle.std.specs.Map.{keys_of};
 ghost use Rattle.soc_siglists.specs.Lists.{matches_one};
 ghost use Rattle.soc_siglists.specs.inner.Literals.{begins_with, begins_with_one};
 
 use crate::literals::Literals;
 use crate::matchers::{matchers_of, matches_one};
-use crate::pattern::{Pattern, PatternMatcher};
+use crate::led::{LedMatcher, LedPattern};
+use crate::pattern::Pattern;
 use soc_raw::{NoMemory, Text, Texts};
 use std::alloc::Global;
 use std::marker::Model;
 
-/// The patterns of a list, of which those that stand for their own text lie in a table. Contracts see the texts of all,
-/// in order.
+/// The patterns of a list, of which those that match all frames that begin with a text lie in a table by that text.
+/// Contracts see the texts of all, in order.
 #[derive(Drop)]
 pub struct Patterns {
     texts: Vec<Text>,
     literals: Literals,
-    others: Vec<Pattern>,
+    others: Vec<LedPattern>,
 }
 
 impl Model for Patterns {
@@ -41,10 +42,11 @@ impl Patterns {
         let mut others = Vec::new(alloc);
         for pattern in made {
             texts.push(Text::of(alloc, pattern.as_str())?)?;
-            if pattern.is_literal(alloc)? {
-                add(alloc, &mut sorted, pattern.as_str())?;
+            let lead = pattern.lead(alloc)?;
+            if lead.is_all {
+                add(alloc, &mut sorted, lead.text)?;
             } else {
-                others.push(pattern)?;
+                others.push(LedPattern::of(pattern, lead.text))?;
             }
         }
         let literals = literals_of(alloc, &sorted)?;
@@ -69,10 +71,10 @@ impl Patterns {
 }
 
 /// Adds a name.
-fn add(alloc: Global, names: &mut Texts, name: &str) -> Result<(), NoMemory>
-    ensures { OnOk result ((frame : List ℕ) → begins_with_one (keys_of names.new) frame ≡ (begins_with_one (keys_of names.old) frame || begins_with frame name.now)) }
+fn add(alloc: Global, names: &mut Texts, name: Text) -> Result<(), NoMemory>
+    ensures { OnOk result ((frame : List ℕ) → begins_with_one (keys_of names.new) frame ≡ (begins_with_one (keys_of names.old) frame || begins_with frame name)) }
 {
-    names.set(Text::of(alloc, name)?, Text::of(alloc, "")?)?;
+    names.set(name, Text::of(alloc, "")?)?;
     Ok(())
 }
 
@@ -92,7 +94,7 @@ fn literals_of(alloc: Global, names: &Texts) -> Result<Literals, NoMemory>
 pub struct PatternMatchers<'a> {
     texts: &'a [Text],
     literals: &'a Literals,
-    others: Vec<PatternMatcher<'a>>,
+    others: Vec<LedMatcher<'a>>,
 }
 
 impl<'a> Model for PatternMatchers<'a> {
@@ -107,11 +109,21 @@ impl<'a> Model for PatternMatchers<'a> {
 }
 
 impl<'a> PatternMatchers<'a> {
+    /// Whether there is no pattern.
+    pub fn is_empty(&self) -> bool
+        ensures { result ≡ (length self.now == 0) }
+    {
+        self.texts.is_empty()
+    }
+
     /// Whether one of the patterns matches where the frame begins.
-    pub fn match_one(&mut self, frame: &str) -> bool
-        ensures value { result ≡ matches_one self.old frame.now }
+    pub fn match_one(&mut self, alloc: Global, frame: &str) -> Result<bool, NoMemory>
+        ensures value { IfOk result (λ is. is ≡ matches_one self.old frame.now) }
         ensures same { self.new ≡ self.old }
     {
-        self.literals.begin(frame) || matches_one(&mut self.others, frame)
+        if self.literals.begin(frame) {
+            return Ok(true);
+        }
+        matches_one(alloc, &mut self.others, frame)
     }
 }

@@ -30,7 +30,7 @@ fn read(alloc: Global, irrelevant: &str, prefix: &str, sentinel: &str) -> Result
 const TOGETHER: &str = "zz\nabcd\nc@0x[0-9]\nbzz\nabc\nb\nabc\nabce";
 
 /// Patterns, frames, and whether a match begins where the frame does.
-const MATCHES: [(&str, &str, bool); 27] = [
+const MATCHES: [(&str, &str, bool); 43] = [
     ("abort", "abort", true),
     ("abort", "abort_message", true),
     ("abort", "mozabort", false),
@@ -58,6 +58,22 @@ const MATCHES: [(&str, &str, bool); 27] = [
     (TOGETHER, "c@0x", false),
     (TOGETHER, "zz", true),
     (TOGETHER, "zy", false),
+    ("a.*", "", false),
+    ("a.*\nb", "a", true),
+    ("ab(_c)?d", "abd", true),
+    ("ab(_c)?d", "ab_cd", true),
+    ("ab(_c)?d", "ab", false),
+    ("ab(_c)?d", "ab_abd", false),
+    ("ef.*(x|)$", "efg", true),
+    ("ij?k", "ik", true),
+    ("ij?k", "ijj", false),
+    ("l|mn", "mn", true),
+    ("l|mn", "m", false),
+    ("xo{0,2}(p)*", "x", true),
+    ("(?i)qr", "QR", true),
+    ("\\(s\\)", "(s)t", true),
+    ("\\(s\\)", "s", false),
+    ("a.*\nb+c", "bc", true),
 ];
 
 #[test]
@@ -147,8 +163,10 @@ fn first_sentinel(rt: HostRuntime) -> Result<(), Fail> {
     assert_eq!(rt; lists.sentinel_at(alloc, &texts(alloc, &[])?)?, None);
     let mut matchers = lists.matchers(alloc)?;
     for _ in 0..3 {
-        assert!(rt; matchers.is_sentinel("b") && !matchers.is_sentinel("a"));
-        assert!(rt; !matchers.is_prefix("b") && !matchers.is_irrelevant("b"));
+        assert!(rt; matchers.is_sentinel(alloc, "b")?);
+        assert!(rt; !matchers.is_sentinel(alloc, "a")?);
+        assert!(rt; !matchers.is_prefix(alloc, "b")?);
+        assert!(rt; !matchers.is_irrelevant(alloc, "b")?);
     }
     Ok(())
 }

@@ -1,6 +1,7 @@
 -- All frames, cut to their first characters, one text more.
-use Rattle.std.proofs.Common.{◌≡◌, ℕ, ◌+◌, ◌-◌, ◌≤◌, Bool, true, false, cond, List, ◌++◌, sym, ap, ◌∙◌, arith, append_assoc}
+use Rattle.std.proofs.Common.{◌≡◌, ℕ, ◌+◌, ◌-◌, ◌≤◌, ◌==◌, Bool, true, false, cond, List, ◌++◌, sym, ap, ◌∙◌, arith, append_assoc}
 use Rattle.std.specs.Str.{IsUtf8}
+use Rattle.std.proofs.lemmas.Bool.Decides.{nat_tests}
 use Rattle.soc_sigrules.specs.Chars.{char_count, first_chars}
 use Rattle.soc_sigrules.specs.Stacks.{separator}
 use Rattle.soc_sigrules.specs.inner.Protos.{ProtoState}
@@ -39,3 +40,6 @@ pub pushed_first : (state last : ProtoState) (frame : List ℕ) → state.has_fr
     → last.text ≡ proto_with state.has_frames state.text frame
 pushed_first state last frame none is =
     ap (λ (s : ProtoState). s.text) is ∙ ap (λ b. first_chars 2000 (state.text ++ cond b (separator ++ frame) frame)) (sym none)
+
+pub full_is : (count room : ℕ) → count + room ≡ 2000 → (room == 0) ≡ (count == 2000)
+full_is count room all = grind (arith, nat_tests)

@@ -1,11 +1,11 @@
 //! Signatures, by their frames one after another.
-ghost use Rattle.std.specs.Prelude.{◌≡◌, true, ◌++◌, ◌∷◌, ◌||◌, [], ℕ, List, IfOk, OnOk};
+ghost use Rattle.std.specs.Prelude.{◌≡◌, true, false, ◌++◌, ◌∷◌, ◌||◌, [], ℕ, List, IfOk, OnOk, IsTrue};
 ghost use Rattle.std.specs.Str.{bytes_eq};
-ghost use Rattle.soc_siglists.specs.Lists.{is_sentinel};
+ghost use Rattle.soc_siglists.specs.Lists.{ListTexts, is_sentinel};
 ghost use Rattle.soc_sigrules.specs.Rules.{watchdog, after_rule, after_rules};
 ghost use Rattle.soc_sigrules.specs.Stacks.{text_of};
 ghost use Rattle.soc_sigrules.specs.Signatures.{summary_of, signature_of};
-ghost use Rattle.soc_sigrules.specs.inner.Steps.{proto_with, texts_with, texts_before, with_frame};
+ghost use Rattle.soc_sigrules.specs.inner.Steps.{proto_with, texts_with, texts_before, is_settled, with_frame};
 
 use crate::crash::{Crash, Marked};
 use crate::input::{SigInput, Signature};
@@ -81,22 +81,23 @@ impl<'a> SignatureBuilder<'a> {
     }
 
     /// Looks whether the frame is the first sentinel: what stands before that is forgotten.
-    fn meet_sentinel(&mut self, frame: &str)
-        ensures { self.new ≡ record self.old { has_sentinel = self.old.has_sentinel || is_sentinel self.old.lists frame.now; texts = texts_before self.old frame.now } }
+    fn meet_sentinel(&mut self, frame: &str) -> Result<(), NoMemory>
+        ensures { OnOk result (self.new ≡ record self.old { has_sentinel = self.old.has_sentinel || is_sentinel self.old.lists frame.now; texts = texts_before self.old frame.now }) }
     {
-        if self.has_sentinel || !self.lists.is_sentinel(frame) {
-            return;
+        if self.has_sentinel || !self.lists.is_sentinel(self.alloc, frame)? {
+            return Ok(());
         }
         self.has_sentinel = true;
         self.texts = TextList::new(self.alloc);
         self.is_ended = false;
+        Ok(())
     }
 
     /// Adds a text at the end.
     fn append(&mut self, text: &str) -> Result<(), NoMemory>
         ensures { OnOk result (self.new ≡ record self.old { texts = self.old.texts ++ text.now ∷ [] }) }
     {
-        let is_prefix = self.lists.is_prefix(text);
+        let is_prefix = self.lists.is_prefix(self.alloc, text)?;
         self.texts.push(Text::of(self.alloc, text)?)?;
         self.is_ended = self.is_ended || !is_prefix;
         Ok(())
@@ -106,7 +107,7 @@ impl<'a> SignatureBuilder<'a> {
     fn keep(&mut self, frame: &str) -> Result<(), NoMemory>
         ensures { OnOk result (self.new ≡ record self.old { texts = texts_with self.old.lists self.old.texts frame.now }) }
     {
-        if self.is_ended || self.lists.is_irrelevant(frame) {
+        if self.is_ended || self.lists.is_irrelevant(self.alloc, frame)? {
             return Ok(());
         }
         let Some(module) = module_text(frame) else {
@@ -118,6 +119,17 @@ impl<'a> SignatureBuilder<'a> {
         self.append(module)
     }
 
+    /// Whether no frame but the watchdog's changes anything any more: nothing follows the texts, no sentinel can come
+    /// that they are forgotten for, and all that is kept of the frames as they are is there.
+    pub fn is_settled(&self) -> bool
+        ensures value { result ≡ is_settled self.now }
+        ensures frames { IsTrue result → (lists : ListTexts) (frames : List (List ℕ)) (frame : List ℕ) → bytes_eq frame watchdog ≡ false → self.now ≡ summary_of lists frames → self.now ≡ summary_of lists (frames ++ frame ∷ []) }
+    {
+        self.is_ended
+            && self.proto.is_full()
+            && (self.has_sentinel || self.lists.has_no_sentinel())
+    }
+
     /// Adds the text of the next frame.
     pub fn push(mut self, frame: &str) -> Result<SignatureBuilder<'a>, NoMemory>
         ensures step { IfOk result (λ builder. builder ≡ with_frame self.entry frame.now) }
@@ -125,7 +137,7 @@ impl<'a> SignatureBuilder<'a> {
     {
         self.extend_proto(frame)?;
         self.watch(frame);
-        self.meet_sentinel(frame);
+        self.meet_sentinel(frame)?;
         self.keep(frame)?;
         Ok(self)
     }

@@ -1,5 +1,5 @@
 //! The frames as they are.
-ghost use Rattle.std.specs.Prelude.{◌≡◌, ◌++◌, true, false, [], OnOk};
+ghost use Rattle.std.specs.Prelude.{◌≡◌, ◌==◌, ◌&&◌, ◌++◌, true, false, [], OnOk};
 ghost use Rattle.soc_sigrules.specs.Chars.{first_chars, char_count};
 ghost use Rattle.soc_sigrules.specs.inner.Steps.{proto_with};
 
@@ -65,6 +65,13 @@ impl Proto {
         self.append(frame)?;
         self.has_frames = true;
         Ok(())
+    }
+
+    /// Whether no frame can be added any more.
+    pub fn is_full(&self) -> bool
+        ensures { result ≡ (self.now.has_frames && (char_count self.now.text == 2000)) }
+    {
+        self.has_frames && self.room == 0
     }
 
     /// The text.

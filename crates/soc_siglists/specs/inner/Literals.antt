@@ -1,4 +1,4 @@
--- Patterns that stand for their own text, and tables of such.
+-- Patterns that stand for a text, and tables of such texts.
 use Rattle.std.specs.Prelude.{◌≡◌, ℕ, ◌<◌, ◌||◌, nat_eq, Bool, false, List, get_or, length}
 use Rattle.std.specs.Ordering.{is_gt}
 use Rattle.std.specs.List.{All, list_any, starts_with}
@@ -23,9 +23,9 @@ pub record IsFrame (frame : List ℕ) : Type 0 where
   pub utf8 : IsUtf8 frame
   pub bytes : (k : ℕ) → get_or frame k 0 < 256
 
--- as a pattern the text matches the frames that begin with it
-abbrev pub IsLiteral : List ℕ → Type 0
-IsLiteral text = (frame : List ℕ) → IsFrame frame → matches_start frame text ≡ begins_with frame text
+-- the pattern matches the frames that begin with the text
+abbrev pub StandsFor : List ℕ → List ℕ → Type 0
+StandsFor pattern text = (frame : List ℕ) → IsFrame frame → matches_start frame pattern ≡ begins_with frame text
 
 -- it stands up to the other one, which doesn't begin with it
 pub record IsApart (text other : List ℕ) : Type 0 where

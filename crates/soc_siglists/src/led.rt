@@ -1,0 +1,101 @@
+//! Patterns with the texts that their matches begin with.
+ghost use Rattle.std.specs.Prelude.{◌≡◌, false, IfOk, IsFalse};
+ghost use Rattle.soc_siglists.specs.Patterns.{matches_start};
+ghost use Rattle.soc_siglists.specs.inner.Leads.{IsLead};
+
+use crate::pattern::{Pattern, PatternMatcher};
+use soc_raw::{NoMemory, Text};
+use std::alloc::Global;
+use std::marker::Model;
+
+/// A pattern with a text that each of its matches begins with. Contracts see the pattern's text.
+#[derive(Drop)]
+pub struct LedPattern {
+    pattern: Pattern,
+    lead: Text,
+}
+
+impl Model for LedPattern {
+    ghost use Rattle.std.specs.Prelude.{List, ℕ};
+    ghost use Rattle.soc_siglists.specs.inner.Leads.{IsLead};
+
+    ghost Value = { List ℕ };
+
+    ghost view = { λ p. p.pattern };
+
+    ghost invariant = { λ p. IsLead p.pattern p.lead };
+}
+
+impl LedPattern {
+    pub fn of(pattern: Pattern, lead: Text) -> LedPattern
+        requires { IsLead pattern lead }
+        ensures { result ≡ pattern }
+    {
+        LedPattern { pattern, lead }
+    }
+
+    /// Whether a match may begin where the frame does.
+    fn may_match(&self, frame: &str) -> bool
+        ensures { IsFalse result → matches_start frame.now self.now ≡ false }
+    {
+        frame.as_bytes().starts_with(self.lead.as_str().as_bytes())
+    }
+
+    /// What asks the pattern.
+    pub fn matcher(&self) -> LedMatcher<'_>
+        ensures { result ≡ self.now }
+    {
+        LedMatcher {
+            led: self,
+            made: None,
+        }
+    }
+}
+
+/// A pattern that can be asked again and again. What searches is made when a frame first begins as the matches do.
+/// Contracts see the pattern's text.
+#[derive(Drop)]
+pub struct LedMatcher<'a> {
+    led: &'a LedPattern,
+    made: Option<Box<PatternMatcher<'a>>>,
+}
+
+impl<'a> Model for LedMatcher<'a> {
+    ghost use Rattle.std.specs.Prelude.{List, ℕ, ◌≡◌};
+    ghost use Rattle.std.specs.Option.{ForSome};
+
+    ghost Value = { List ℕ };
+
+    ghost view = { λ m. m.led.now };
+
+    ghost invariant = { λ m. ForSome m.made (λ made. made.value ≡ m.led.now) };
+}
+
+impl<'a> LedMatcher<'a> {
+    /// Whether the leftmost match begins where the frame does.
+    pub fn matches_start(&mut self, alloc: Global, frame: &str) -> Result<bool, NoMemory>
+        ensures value { IfOk result (λ is. is ≡ matches_start frame.now self.old) }
+        ensures same { self.new ≡ self.old }
+    {
+        if self.led.may_match(frame) {
+            self.search(alloc, frame)
+        } else {
+            Ok(false)
+        }
+    }
+
+    /// The same, by a search.
+    fn search(&mut self, alloc: Global, frame: &str) -> Result<bool, NoMemory>
+        ensures value { IfOk result (λ is. is ≡ matches_start frame.now self.old) }
+        ensures same { self.new ≡ self.old }
+    {
+        let led = self.led;
+        let mut matcher = match self.made.take() {
+            Some(matcher) => matcher,
+            None => Box::new(alloc, led.pattern.matcher(alloc)?)?,
+        };
+        let is_start = matcher.matches_start(frame);
+        self.made = Some(matcher);
+        Ok(is_start)
+    }
+}
