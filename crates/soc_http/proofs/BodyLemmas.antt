@@ -7,8 +7,8 @@ use Rattle.soc_edge.specs.Told.{Told, Reads}
 use Rattle.soc_edge.proofs.Told.{Reads-append}
 use Rattle.soc_http.specs.declared.body.BodyError.{BodyError}
 use Rattle.soc_http.specs.declared.body.BodyError.TheVariants as B
-use Rattle.soc_http.specs.Body.{IfCut}
-use Rattle.soc_http.specs.inner.Bodies.{IsPiece, IsPieceReady, PassesOver, Passes, Past, IsFilledTo}
+use Rattle.soc_http.specs.Body.{IfCut, PassesOver, Passes}
+use Rattle.soc_http.specs.inner.Bodies.{IsPiece, IsPieceReady, Past, IsFilledTo}
 
 -- ---- passing over
 

@@ -53,6 +53,24 @@ ReadsBodyAhead None count result after = after ≡ None
 ReadsBodyAhead (Some text) count result None = ⊥
 ReadsBodyAhead (Some text) count result (Some rest) = ReadsBody text count result rest
 
+-- ---- a body that is passed over
+
+-- so many bytes were taken, or all that there were
+abbrev pub PassesOver : List ℕ → ℕ → Result (Unit {0}) BodyError → List ℕ → Type 0
+PassesOver text count (Ok done) rest = Skips text count rest
+PassesOver text count (Err B.CutShort) rest = (length text < count) × (rest ≡ [])
+PassesOver text count (Err B.ReadFault) rest = (length text < count) × (rest ≡ [])
+PassesOver text count (Err B.NoMemory) rest = ⊥
+
+-- the source gave bytes, and with them the window's text begins with the bytes that were passed over, whatever else the
+-- source has left
+pub record Passes
+    (before after : Told) (old : List ℕ) (count : ℕ) (result : Result (Unit {0}) BodyError) (new : List ℕ) : Type 0 where
+  pub given : List ℕ
+  pub gives : Reads before after given
+  pub reads : PassesOver (old ++ given) count result new
+  pub ended : IfCut result (IsAtEnd after.left)
+
 -- ---- a piece that is lent
 
 abbrev pub ReadsPiece : List ℕ → Result (Bor (List ℕ)) BodyError → List ℕ → Type 0

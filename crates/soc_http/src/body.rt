@@ -4,8 +4,8 @@ ghost use Rattle.soc_edge.specs.Told.{OnlyReads, ReadFailed};
 ghost use Rattle.soc_http.specs.Reading.{ahead};
 ghost use Rattle.std.specs.Borrow.{sem};
 ghost use Rattle.std.specs.Io.BufRead.{Rests};
-ghost use Rattle.soc_http.specs.Body.{BodyFrom, ReadsBodyAhead, PieceFrom};
-ghost use Rattle.soc_http.specs.inner.Bodies.{IsPieceReady, Passes, IntoFrom};
+ghost use Rattle.soc_http.specs.Body.{BodyFrom, Passes, ReadsBodyAhead, PieceFrom};
+ghost use Rattle.soc_http.specs.inner.Bodies.{IsPieceReady, IntoFrom};
 ghost use Rattle.soc_http.specs.contracts.buffer.Buffer.{the_row};
 
 use crate::buffer::{Buffer, read_behind};
@@ -61,8 +61,13 @@ pub(crate) fn piece_len<S: Source>(
     })
 }
 
-/// Passes over `length` bytes of a body.
-fn pass<S: Source>(source: &mut S, buffer: &mut Buffer, length: u64) -> Result<(), BodyError>
+/// Passes over the next `length` bytes of a body, and takes no memory. `ReadFault` comes only where the source failed, and
+/// `NoMemory` never.
+pub fn pass_over<S: Source>(
+    source: &mut S,
+    buffer: &mut Buffer,
+    length: u64,
+) -> Result<(), BodyError>
     ensures passes { Passes (S.told source.old) (S.told source.new) buffer.old length result buffer.new }
     ensures cause { IsErrOf result BodyError.ReadFault → ReadFailed (S.told source.old) (S.told source.new) }
 {
@@ -122,7 +127,7 @@ fn next_body<S: Source>(
     ensures cause { IsErrOf result BodyError.ReadFault → ReadFailed (S.told source.old) (S.told source.new) }
 {
     let Ok(mut body) = zeros(alloc, length as usize) else {
-        pass(source, buffer, length)?;
+        pass_over(source, buffer, length)?;
         return Err(BodyError::NoMemory);
     };
     read_into(source, buffer, body.as_mut_slice())?;

@@ -17,12 +17,12 @@ mod search;
 mod tests;
 mod verb;
 
-pub use body::{BodyError, body_piece, read_body};
+pub use body::{BodyError, body_piece, pass_over, read_body};
 pub use buffer::Buffer;
 pub use head::{Head, HeadError};
 pub use heads::read_head;
 pub use lines::{encoding_of, first_named, is_repeated, lines_named};
-pub use query::{first_value, pairs_of};
+pub use query::{first_value, first_value_in, pairs_of};
 pub use reply::{Answered, Kind, WriteFault, write_reply};
 pub use route::{Route, RouteError, Routes};
 pub use verb::Verb;

@@ -29,3 +29,16 @@ pub fn first_value<'a>(pairs: &'a Pairs, name: &str) -> Option<&'a str>
     }
     None
 }
+
+/// The value of the first pair of this name in a query or in a form's body. No list of the pairs is made.
+pub fn first_value_in(alloc: Global, query: &[u8], name: &str) -> Result<Option<Text>, NoMemory>
+    ensures { IfOk result (λ found. found ≡ first_value name.now (query_pairs query.now)) }
+{
+    for pair in form_urlencoded::parse(alloc, query).into_owned() {
+        let (pair_name, value) = pair?;
+        if pair_name.as_str() == name {
+            return Ok(Some(Text::from(value)));
+        }
+    }
+    Ok(None)
+}

@@ -24,19 +24,6 @@ pub record IsPieceReady
 
 -- ---- a body that is passed over
 
-abbrev pub PassesOver : List ℕ → ℕ → Result (Unit {0}) BodyError → List ℕ → Type 0
-PassesOver text count (Ok done) rest = Skips text count rest
-PassesOver text count (Err B.CutShort) rest = (length text < count) × (rest ≡ [])
-PassesOver text count (Err B.ReadFault) rest = (length text < count) × (rest ≡ [])
-PassesOver text count (Err B.NoMemory) rest = ⊥
-
-pub record Passes
-    (before after : Told) (old : List ℕ) (count : ℕ) (result : Result (Unit {0}) BodyError) (new : List ℕ) : Type 0 where
-  pub given : List ℕ
-  pub gives : Reads before after given
-  pub reads : PassesOver (old ++ given) count result new
-  pub ended : IfCut result (IsAtEnd after.left)
-
 -- what stands behind so many bytes, once the source gave some
 pub record Past (before after : Told) (old new : List ℕ) (count : ℕ) : Type 0 where
   pub given : List ℕ

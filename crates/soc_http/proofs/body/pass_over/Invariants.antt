@@ -1,6 +1,6 @@
 use Rattle.std.proofs.Common.{◌-◌, ◌≤◌}
 use Rattle.soc_http.specs.inner.Bodies.{Past}
-use Rattle.soc_http.proofs.body.pass.Given as goal
+use Rattle.soc_http.proofs.body.pass_over.Given as goal
 
 abbrev pub invariant-loop-left : goal.invariant-loop-left
 invariant-loop-left g l =

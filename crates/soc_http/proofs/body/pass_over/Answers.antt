@@ -1,7 +1,7 @@
 use Rattle.std.proofs.Common.{◌≤◌, arith}
 use Rattle.std.proofs.lemmas.Result.{err_from_is_err_and}
 use Rattle.soc_http.proofs.BodyLemmas.{Past-more, Passes-failed}
-use Rattle.soc_http.proofs.body.pass.Goals as goal
+use Rattle.soc_http.proofs.body.pass_over.Goals as goal
 
 pub returns-in_err-count-clause-passes : goal.returns-in_err-count-clause-passes
 returns-in_err-count-clause-passes g c =
