@@ -100,12 +100,3 @@ Carries-asked {K} step question receipt desk after (Err error) reply steps kind 
   answers = subst (AnswersWith (plan_text (Asks question)) (Some (record { command = question.command; receipt = receipt }))) (sym ok) (refl, kind, err);
   stopped = refl;
 }
-
-message-is : (message : Message) (head : Head) (body : List ℕ) → message.head ≡ head → message.body ≡ body → message_of head body ≡ message
-message-is message head body h b = ap (λ x. message_of x body) (sym h) ∙ ap (λ x. message_of message.head x) (sym b)
-
--- the message is the one that came
-pub Answers-came : {K : Type 0} (step : K → Command → Receipt → K → Type 0) (rules : Rules) (message : Message) (head : Head) (body : List ℕ) (desk after : K) (x y : Outlook) (outcome : Handled)
-    → message.head ≡ head → message.body ≡ body → Answers step rules (message_of head body) desk after x y outcome → Answers step rules message desk after x y outcome
-Answers-came {K} step rules message head body desk after x y outcome h b answers =
-    subst (λ m. Answers step rules m desk after x y outcome) (message-is message head body h b) answers

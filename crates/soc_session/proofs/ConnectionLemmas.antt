@@ -61,21 +61,21 @@ Serves-edge {K} asks rules window behind budget desk x before after end given gi
 }
 
 serves-ended : {K : Type 0} (asks : K → Command → Receipt → K → Type 0) (rules : Rules) (window behind : List ℕ) (desk : K) (x : Outlook) (before after : Told) (given : List ℕ)
-    → Gives before.left after.left given → ReadsMessage (window ++ given) (Ok None) behind after.left → after.held ≡ before.held → (budget : ℕ) → 0 < budget
+    → Gives before.left after.left given → ReadsMessage rules (window ++ given) (Ok None) behind after.left → after.held ≡ before.held → (budget : ℕ) → 0 < budget
     → ServesFrom asks rules window budget (around before desk x) (around after desk x) behind Ended
 serves-ended asks rules window behind desk x before after given gives reads stays budget some =
     Serves-edge asks rules window behind budget desk x before after Ended given gives (reads.0, reads.2) (Takes-none before.held after.held stays)
     (no-response budget (λ bytes. bytes < budget) some)
 
 pub Serves-failed : {K : Type 0} (asks : K → Command → Receipt → K → Type 0) (rules : Rules) (window behind : List ℕ) (desk : K) (x : Outlook) (before after : Told) (given : List ℕ)
-    → Gives before.left after.left given → ReadsMessage (window ++ given) (Err H.ReadFault) behind after.left → after.held ≡ before.held → (budget : ℕ) → 0 < budget
+    → Gives before.left after.left given → ReadsMessage rules (window ++ given) (Err H.ReadFault) behind after.left → after.held ≡ before.held → (budget : ℕ) → 0 < budget
     → ServesFrom asks rules window budget (around before desk x) (around after desk x) behind ReadFault
 Serves-failed asks rules window behind desk x before after given gives reads stays budget some =
     Serves-edge asks rules window behind budget desk x before after ReadFault given gives reads (Takes-none before.held after.held stays)
     (no-response budget (λ bytes. bytes < budget) some)
 
 pub Serves-wanting : {K : Type 0} (asks : K → Command → Receipt → K → Type 0) (rules : Rules) (window behind : List ℕ) (desk : K) (x : Outlook) (before after : Told) (given : List ℕ) (error : HeadError)
-    → Gives before.left after.left given → ReadsMessage (window ++ given) (Err error) behind after.left → after.held ≡ before.held → (budget : ℕ) → 0 < budget
+    → Gives before.left after.left given → ReadsMessage rules (window ++ given) (Err error) behind after.left → after.held ≡ before.held → (budget : ℕ) → 0 < budget
     → ServesFrom asks rules window budget (around before desk x) (around after desk x) behind NoMemory
 Serves-wanting asks rules window behind desk x before after given error gives reads stays budget some =
     Serves-edge asks rules window behind budget desk x before after NoMemory given gives tt (Takes-none before.held after.held stays)
@@ -121,23 +121,23 @@ refused-response {K} asks rules window behind budget desk x before after end err
   ends = ends;
 }
 
-refused-at : (text rest : List ℕ) (left : Option (List ℕ)) (error : HeadError) → (error ≡ H.ReadFault → ⊥) → (error ≡ H.NoMemory → ⊥) → ReadsMessage text (Err error) rest left → RefusedAt text left error
-refused-at text rest left H.BadHead n m p = p
-refused-at text rest left H.HeadTooLarge n m p = p
-refused-at text rest left H.NoLength n m p = p
-refused-at text rest left H.BodyTooLarge n m p = p
-refused-at text rest left H.CutShort n m p = p
-refused-at text rest left H.ReadFault n m p = absurd (n refl)
-refused-at text rest left H.NoMemory n m p = absurd (m refl)
+refused-at : (rules : Rules) (text rest : List ℕ) (left : Option (List ℕ)) (error : HeadError) → (error ≡ H.ReadFault → ⊥) → (error ≡ H.NoMemory → ⊥) → ReadsMessage rules text (Err error) rest left → RefusedAt text left error
+refused-at rules text rest left H.BadHead n m p = p
+refused-at rules text rest left H.HeadTooLarge n m p = p
+refused-at rules text rest left H.NoLength n m p = p
+refused-at rules text rest left H.BodyTooLarge n m p = p
+refused-at rules text rest left H.CutShort n m p = p
+refused-at rules text rest left H.ReadFault n m p = absurd (n refl)
+refused-at rules text rest left H.NoMemory n m p = absurd (m refl)
 
 pub Serves-refused : {K : Type 0} (asks : K → Command → Receipt → K → Type 0) (rules : Rules) (window behind : List ℕ) (desk : K) (x : Outlook) (before after : Told) (given : List ℕ) (error : HeadError) (end : SessionEnd)
-    → (error ≡ H.ReadFault → ⊥) → (error ≡ H.NoMemory → ⊥) → Gives before.left after.left given → ReadsMessage (window ++ given) (Err error) behind after.left → Refuses before.held after.held error end → (budget : ℕ) → 0 < budget
+    → (error ≡ H.ReadFault → ⊥) → (error ≡ H.NoMemory → ⊥) → Gives before.left after.left given → ReadsMessage rules (window ++ given) (Err error) behind after.left → Refuses before.held after.held error end → (budget : ℕ) → 0 < budget
     → ServesFrom asks rules window budget (around before desk x) (around after desk x) behind end
 Serves-refused asks rules window behind desk x before after given error Refused n m gives reads how budget some =
-    refused-response asks rules window behind budget desk x before after Refused error given gives (refused-at _ _ after.left error n m reads) tt
+    refused-response asks rules window behind budget desk x before after Refused error given gives (refused-at rules _ _ after.left error n m reads) tt
     (whole before.held after.held (refused error) how) (behind-one budget (refused error) _ some refl)
 Serves-refused asks rules window behind desk x before after given error WriteFault n m gives reads how budget some =
-    refused-response asks rules window behind budget desk x before after WriteFault error given gives (refused-at _ _ after.left error n m reads) tt
+    refused-response asks rules window behind budget desk x before after WriteFault error given gives (refused-at rules _ _ after.left error n m reads) tt
     (cuts before.held after.held (refused error) how) (behind-one budget (refused error) _ some tt)
 Serves-refused asks rules window behind desk x before after given error NoMemory n m gives reads how budget some =
     Serves-wanting asks rules window behind desk x before after given error gives reads how budget some
@@ -211,7 +211,7 @@ written-on asks rules window behind desk desk' x y before after exchange given n
 
 -- a message that came whole was answered
 pub Steps-on : {K : Type 0} (asks : K → Command → Receipt → K → Type 0) (rules : Rules) (window behind : List ℕ) (desk desk' : K) (x y : Outlook) (before middle after : Told) (incoming : Incoming) (next : Next)
-    → Arrives before middle window (Ok (Some incoming)) behind → OnlyWrites middle after → Responds asks rules incoming desk desk' x y middle.held after.held next
+    → Arrives rules before middle window (Ok (Some incoming)) behind → OnlyWrites middle after → Responds asks rules incoming desk desk' x y middle.held after.held next
     → StepsOn asks rules window (around before desk x) behind (around after desk' y) next
 Steps-on {K} asks rules window behind desk desk' x y before middle after incoming next p wrote_only responds =
     let message = p.reads.0 in
@@ -223,25 +223,25 @@ Steps-on {K} asks rules window behind desk desk' x y before middle after incomin
     written-on asks rules window behind desk desk' x y before after exchange p.given next reply.2 reply.3 gives takes reply.4 wrote
 
 pub Serves-ended : {K : Type 0} (asks : K → Command → Receipt → K → Type 0) (rules : Rules) (window behind : List ℕ) (desk : K) (x : Outlook) (before after : Told)
-    → Arrives before after window (Ok None) behind → (budget : ℕ) → 0 < budget → ServesFrom asks rules window budget (around before desk x) (around after desk x) behind Ended
+    → Arrives rules before after window (Ok None) behind → (budget : ℕ) → 0 < budget → ServesFrom asks rules window budget (around before desk x) (around after desk x) behind Ended
 Serves-ended asks rules window behind desk x before after p budget some =
     serves-ended asks rules window behind desk x before after p.given p.gives.gives p.reads p.gives.only.held_stays budget some
 
 pub Serves-halted : {K : Type 0} (asks : K → Command → Receipt → K → Type 0) (rules : Rules) (window behind : List ℕ) (desk : K) (x : Outlook) (before middle after : Told) (error : HeadError) (end : SessionEnd)
-    → Arrives before middle window (Err error) behind → OnlyWrites middle after → Halts middle.held after.held error end → (budget : ℕ) → 0 < budget
+    → Arrives rules before middle window (Err error) behind → OnlyWrites middle after → Halts middle.held after.held error end → (budget : ℕ) → 0 < budget
     → ServesFrom asks rules window budget (around before desk x) (around after desk x) behind end
 Serves-halted asks rules window behind desk x before middle after error end p only how budget some =
-    halted error end (subst (λ (l : Option (List ℕ)). Gives before.left l p.given) (sym only.left_stays) p.gives.gives) (subst (ReadsMessage (window ++ p.given) (Err error) behind) (sym only.left_stays) p.reads)
+    halted error end (subst (λ (l : Option (List ℕ)). Gives before.left l p.given) (sym only.left_stays) p.gives.gives) (subst (ReadsMessage rules (window ++ p.given) (Err error) behind) (sym only.left_stays) p.reads)
     (subst (λ (h : Option (List ℕ)). Halts h after.held error end) p.gives.only.held_stays how)
   where
     given : List ℕ
     given = p.given
 
-    halted : (error : HeadError) (end : SessionEnd) → Gives before.left after.left given → ReadsMessage (window ++ given) (Err error) behind after.left → Halts before.held after.held error end
+    halted : (error : HeadError) (end : SessionEnd) → Gives before.left after.left given → ReadsMessage rules (window ++ given) (Err error) behind after.left → Halts before.held after.held error end
         → ServesFrom asks rules window budget (around before desk x) (around after desk x) behind end
     halted error end gives reads (inl (is, ends, stays)) =
         subst (λ (e : SessionEnd). ServesFrom asks rules window budget (around before desk x) (around after desk x) behind e) (sym ends)
-        (Serves-failed asks rules window behind desk x before after given gives (subst (λ (e : HeadError). ReadsMessage (window ++ given) (Err e) behind after.left) is reads) stays budget some)
+        (Serves-failed asks rules window behind desk x before after given gives (subst (λ (e : HeadError). ReadsMessage rules (window ++ given) (Err e) behind after.left) is reads) stays budget some)
     halted error end gives reads (inr (inl (is, ends, stays))) =
         subst (λ (e : SessionEnd). ServesFrom asks rules window budget (around before desk x) (around after desk x) behind e) (sym ends)
         (Serves-wanting asks rules window behind desk x before after given error gives reads stays budget some)
@@ -411,7 +411,7 @@ next-is exchange message incoming outcome next m h s is =
     ∙ ap (λ (h : Head). next_of (says_stopped exchange.asked) h.last (h.bytes + h.length)) head
 
 pub Responds-written : {K : Type 0} (asks : K → Command → Receipt → K → Type 0) (rules : Rules) (incoming : Incoming) (desk after : K) (x y : Outlook) (held held' : Option (List ℕ)) (outcome : Handled) (last : Bool) (next : Next)
-    → ((message : Message) → IsMessage incoming message → Answers asks rules message desk after x y outcome) → last ≡ (outcome.stopped || incoming.head.last)
+    → ((message : Message) → IsMessage rules incoming message → Answers asks rules message desk after x y outcome) → last ≡ (outcome.stopped || incoming.head.last)
     → Takes held held' (reply_text (closing last (reply_of outcome.reply))) → IsNext outcome.stopped incoming.head.last (incoming.head.bytes + incoming.head.length) next
     → Responds asks rules incoming desk after x y held held' next
 Responds-written {K} asks rules incoming desk after x y held held' outcome last next answers l wrote is = record {
@@ -430,7 +430,7 @@ Responds-written {K} asks rules incoming desk after x y held held' outcome last 
 }
 
 pub Responds-cut : {K : Type 0} (asks : K → Command → Receipt → K → Type 0) (rules : Rules) (incoming : Incoming) (desk after : K) (x y : Outlook) (held held' : Option (List ℕ)) (outcome : Handled) (last : Bool)
-    → ((message : Message) → IsMessage incoming message → Answers asks rules message desk after x y outcome) → last ≡ (outcome.stopped || incoming.head.last)
+    → ((message : Message) → IsMessage rules incoming message → Answers asks rules message desk after x y outcome) → last ≡ (outcome.stopped || incoming.head.last)
     → TakesFront held held' (reply_text (closing last (reply_of outcome.reply))) → Responds asks rules incoming desk after x y held held' (Ends WriteFault)
 Responds-cut {K} asks rules incoming desk after x y held held' outcome last answers l front = record {
   reply = λ message came.

@@ -1,8 +1,10 @@
 pub mod AnswerLemmas
 pub mod ArrivalLemmas
 pub mod ConnectionLemmas
+pub mod IntakeLemmas
 pub mod JsonLemmas
 pub mod LawLemmas
 pub mod LineLemmas
 pub mod PlanLemmas
 pub mod SampleLemmas
+pub mod TakeLemmas

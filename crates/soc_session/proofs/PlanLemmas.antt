@@ -25,6 +25,7 @@ use Rattle.soc_session.specs.declared.plans.Plan.{Plan as Planned}
 use Rattle.soc_session.specs.declared.rules.Rules.{Rules}
 use Rattle.soc_session.specs.Plan.{Drawn, IsDrawn, IsMalformed, Plan, says, asks, about, search_by, tops_by, MayDrawFor, Plans, PlansAt, PlansFor, PlansRoute, PlansSubmission, HoldsSubmission, asker_of, plan_of}
 use Rattle.soc_session.specs.Replies.{malformed, not_found, query_refusal, tops_refusal}
+use Rattle.soc_session.specs.inner.Intakes.{IsSubmitted}
 use Rattle.soc_session.specs.inner.Plans.{Draws, HandsDrawn, plan_text}
 
 -- nothing was drawn
@@ -51,24 +52,13 @@ Draws-one rules message said drawn x y (Ok p) submits range hands is = record { 
 Draws-one rules message said drawn x y (Err error) submits range hands is =
     record { drawn = drawn ∷ []; hands = hands; plans = (plan_of rules.rules drawn said said.sent_id, (said, submits, range, refl)) }
 
-pub Draws-malformed : (rules : Rules) (message : Message) (reason : Reason) (x : Outlook) (result : Result Planned NoMemory) → IsMalformed message reason
-    → IfOk result (λ p. plan_text p ≡ says (malformed reason)) → Draws (PlansSubmission rules message) x x result
-Draws-malformed rules message reason x result is said = Draws-none (PlansSubmission rules message) x result (says (malformed reason)) (reason, is, refl) said
+-- a submission's plans are the message's
+pub Draws-submitted : (rules : Rules) (message : Message) (x y : Outlook) (result : Result Planned NoMemory) → IsSubmitted rules message.head
+    → Draws (PlansSubmission rules message) x y result → Draws (Plans rules message) x y result
+Draws-submitted rules message x y result submitted draws =
+    Draws-map (PlansSubmission rules message) (Plans rules message) x y result (λ drawn plan p. submitted message.body drawn plan p) draws
 
 -- ---- routes
-
--- a submission's plans are its route's
-pub Draws-submit : (rules : Rules) (message : Message) (route : Route) (caller : Caller) (x y : Outlook) (result : Result Planned NoMemory) → route ≡ R.Submit
-    → Draws (PlansSubmission rules message) x y result → Draws (λ drawn plan. PlansRoute rules message drawn plan route caller) x y result
-Draws-submit rules message route caller x y result is draws =
-    Draws-map (PlansSubmission rules message) (λ drawn plan. PlansRoute rules message drawn plan route caller) x y result
-    (λ drawn plan p. subst (λ r. PlansRoute rules message drawn plan r caller) (sym is) p) draws
-
--- a route that draws nothing
-pub Draws-route : (rules : Rules) (message : Message) (route at : Route) (caller : Caller) (x : Outlook) (result : Result Planned NoMemory) (plan : Plan) → route ≡ at
-    → IfOk result (λ p. plan_text p ≡ plan) → PlansRoute rules message [] plan at caller → Draws (λ drawn plan. PlansRoute rules message drawn plan route caller) x x result
-Draws-route rules message route at caller x result plan is said holds =
-    Draws-none (λ drawn plan. PlansRoute rules message drawn plan route caller) x result plan (subst (λ r. PlansRoute rules message [] plan r caller) (sym is) holds) said
 
 -- a route's plans are the message's
 pub Plans-at : (rules : Rules) (message : Message) (drawn : List Drawn) (plan : Plan) (found : Result Route RouteError)
@@ -80,13 +70,6 @@ pub Plans-for : (rules : Rules) (message : Message) (drawn : List Drawn) (plan :
     → Plans rules message drawn plan
 Plans-for rules message drawn plan route asker is who plans =
     Plans-at rules message drawn plan (Ok route) is (subst (PlansFor rules message drawn plan route) who plans)
-
-pub Draws-for : (rules : Rules) (message : Message) (route : Route) (caller : Caller) (x y : Outlook) (result : Result Planned NoMemory)
-    → route_of message.head.verb message.head.path ≡ Ok route → Some caller ≡ asker_of rules message.head
-    → Draws (λ drawn plan. PlansRoute rules message drawn plan route caller) x y result → Draws (Plans rules message) x y result
-Draws-for rules message route caller x y result is who draws =
-    Draws-map (λ drawn plan. PlansRoute rules message drawn plan route caller) (Plans rules message) x y result
-    (λ drawn plan p. Plans-for rules message drawn plan route (Some caller) is who p) draws
 
 -- ---- what is asked of one crash
 

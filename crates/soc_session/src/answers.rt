@@ -1,11 +1,11 @@
 //! What one message is answered over a desk.
-ghost use Rattle.std.specs.Prelude.{◌≡◌, None, false};
+ghost use Rattle.std.specs.Prelude.{◌≡◌, IfSome, None, false};
 ghost use Rattle.soc_edge.specs.Ahead.{outlook};
 ghost use Rattle.soc_http.specs.Message.{Message};
-ghost use Rattle.soc_session.specs.inner.Arrivals.{IsMessage, IsSized};
+ghost use Rattle.soc_session.specs.inner.Intakes.{FitsContent, Says};
 ghost use Rattle.soc_session.specs.inner.Plans.{Answers, Carries, plan_text};
 
-use crate::arrivals::Incoming;
+use crate::intake::Content;
 use crate::plans::Plan;
 use crate::question::Question;
 use crate::replies::Room;
@@ -13,7 +13,7 @@ use crate::routes::plan_of;
 use crate::rules::Rules;
 use soc_desk::Desk;
 use soc_edge::{Clock, Draws};
-use soc_http::{Answered, Routes};
+use soc_http::Answered;
 use soc_raw::NoMemory;
 use std::alloc::Global;
 
@@ -31,21 +31,19 @@ pub(crate) fn answer<K: Desk, C: Clock, W: Draws>(
     alloc: Global,
     desk: &mut K,
     rules: &Rules,
-    routes: &Routes,
-    incoming: &Incoming,
+    content: Option<Content>,
     clock: &mut C,
     draws: &mut W,
 ) -> Handled
-    requires { IsSized incoming.now }
-    ensures { (message : Message) → IsMessage incoming.now message → Answers K.Asks rules.now message desk.old desk.new
+    requires { IfSome content FitsContent }
+    ensures { (message : Message) → IfSome content (Says rules.now message) → Answers K.Asks rules.now message desk.old desk.new
         (outlook (C.told clock.old) (W.told draws.old))
         (outlook (C.told clock.new) (W.told draws.new)) result }
 {
-    let Some(body) = &incoming.body else {
+    let Some(content) = content else {
         return Handled::wanting();
     };
-    let body = body.as_slice();
-    match plan_of(alloc, rules, routes, &incoming.head, body, clock, draws) {
+    match plan_of(alloc, rules, content, clock, draws) {
         Ok(plan) => carry_out(alloc, desk, plan),
         Err(NoMemory) => Handled::wanting(),
     }

@@ -3,7 +3,7 @@ ghost use Rattle.std.specs.Prelude.{◌≡◌, ◌≢◌, ◌≤◌, ◌||◌, [
 ghost use Rattle.soc_edge.specs.Ahead.{outlook};
 ghost use Rattle.soc_edge.specs.Told.{HasCause, NeverFall, OnlyWrites, WriteFailed, Writes, WritesFront};
 ghost use Rattle.soc_http.specs.Reply.{reply_text};
-ghost use Rattle.soc_session.specs.inner.Arrivals.{Arrives, IsSized};
+ghost use Rattle.soc_session.specs.inner.Arrivals.{IsSized};
 ghost use Rattle.soc_session.specs.Replies.{closing, no_memory};
 ghost use Rattle.soc_session.specs.Session.{Serves, around};
 ghost use Rattle.soc_session.specs.inner.Steps.{Halts, IsNext, Refuses, Responds, StepsOn};
@@ -89,12 +89,10 @@ fn answer_next<K: Desk, X: Source + Sink, C: Clock, W: Draws>(
     ensures never_fall { NeverFall (X.told link.old) (X.told link.new) }
     ensures cause { HasCause (result ≡ Next.Ends SessionEnd.ReadFault) (result ≡ Next.Ends SessionEnd.WriteFault) (X.told link.old) (X.told link.new) }
 {
-    match next_message(alloc, link, buffer) {
+    match next_message(alloc, rules, routes, link, buffer) {
         Ok(None) => Next::Ends(SessionEnd::Ended),
         Ok(Some(incoming)) => {
-            answer_message(
-                alloc, desk, link, rules, routes, incoming, clock, draws, spare,
-            )
+            answer_message(alloc, desk, link, rules, incoming, clock, draws, spare)
         }
         Err(error) => Next::Ends(halt(alloc, link, error)),
     }
@@ -138,7 +136,6 @@ fn answer_message<K: Desk, X: Sink, C: Clock, W: Draws>(
     desk: &mut K,
     link: &mut X,
     rules: &Rules,
-    routes: &Routes,
     incoming: Incoming,
     clock: &mut C,
     draws: &mut W,
@@ -155,15 +152,12 @@ fn answer_message<K: Desk, X: Sink, C: Clock, W: Draws>(
     ensures write_cause { result ≡ Next.Ends SessionEnd.WriteFault → WriteFailed (X.told link.old) (X.told link.new) }
     ensures only { OnlyWrites (X.told link.old) (X.told link.new) }
 {
-    let outcome = answer(alloc, desk, rules, routes, &incoming, clock, draws);
+    let Incoming { head, content } = incoming;
+    let outcome = answer(alloc, desk, rules, content, clock, draws);
     let stopped = outcome.stopped;
-    let last = is_last(stopped, incoming.head.last);
+    let last = is_last(stopped, head.last);
     match write_last(link, spare, outcome.reply, last) {
-        Ok(()) => next_of(
-            stopped,
-            incoming.head.last,
-            incoming.head.bytes + incoming.head.length,
-        ),
+        Ok(()) => next_of(stopped, head.last, head.bytes + head.length),
         Err(WriteFault) => Next::Ends(SessionEnd::WriteFault),
     }
 }

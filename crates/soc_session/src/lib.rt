@@ -3,10 +3,12 @@
 
 mod answers;
 mod arrivals;
+mod bodies;
 mod connection;
 mod drawing;
 mod ending;
 mod forms;
+mod intake;
 mod json;
 mod laws;
 mod lines;

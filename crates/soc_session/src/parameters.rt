@@ -1,9 +1,9 @@
 //! What a message's query or form says: which crash, and which of its dumps.
-ghost use Rattle.std.specs.Prelude.{◌≡◌, IfOk};
+ghost use Rattle.std.specs.Prelude.{◌≡◌, IfOk, codes};
 ghost use Rattle.soc_http.specs.Query.{query_pairs};
 ghost use Rattle.soc_session.specs.Parameters.{crash_named, dump_named, id_in};
 
-use soc_http::{Head, first_value, pairs_of};
+use soc_http::{Head, first_value, first_value_in, pairs_of};
 use soc_raw::{CrashId, NoMemory, Pairs};
 use std::alloc::Global;
 
@@ -28,6 +28,16 @@ pub(crate) fn crash_named(name: &str, pairs: &Pairs) -> Option<CrashId>
     match first_value(pairs, name) {
         Some(text) => id_in(text),
         None => None,
+    }
+}
+
+/// The crash that the first `crash_ids` pair of a form names.
+pub(crate) fn crash_posted(alloc: Global, form: &[u8]) -> Result<Option<CrashId>, NoMemory>
+    ensures { IfOk result (λ found. found ≡ crash_named (codes "crash_ids") (query_pairs form.now)) }
+{
+    match first_value_in(alloc, form, "crash_ids")? {
+        Some(text) => Ok(id_in(text.as_str())),
+        None => Ok(None),
     }
 }
 

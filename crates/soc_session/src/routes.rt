@@ -1,17 +1,22 @@
-//! The routes of the service, a file for each group of them: what a message comes to.
-ghost use Rattle.std.specs.Prelude.{◌≤◌, length};
+//! The routes of the service, a file for each group of them: how a message's body is taken in, and what the message comes
+//! to.
+ghost use Rattle.std.specs.Prelude.{IfOk};
 ghost use Rattle.soc_edge.specs.Ahead.{outlook};
-ghost use Rattle.soc_session.specs.Plan.{Plans, PlansRoute};
-ghost use Rattle.soc_session.specs.inner.Plans.{Draws, message_of};
+ghost use Rattle.soc_http.specs.Message.{Message};
+ghost use Rattle.soc_session.specs.Plan.{Plans};
+ghost use Rattle.soc_session.specs.inner.Intakes.{Awaits, AwaitsAt, FitsContent, Says};
+ghost use Rattle.soc_session.specs.inner.Plans.{Draws};
 
-mod asks;
+pub(crate) mod asks;
 mod control;
 mod crashes;
 mod pages;
 mod search;
-mod submit;
+pub(crate) mod submit;
 
+use self::asks::Action;
 use crate::forms::Form;
+use crate::intake::{Content, Intake, passing};
 use crate::lines::asker;
 use crate::plans::Plan;
 use crate::replies::Room;
@@ -22,67 +27,77 @@ use soc_raw::NoMemory;
 use soc_schema::Caller;
 use std::alloc::Global;
 
-/// What a message comes to. A well-formed submission takes its draws even where memory wants for its plan.
-pub(crate) fn plan_of<C: Clock, W: Draws>(
+/// How the body behind a head is taken in.
+pub(crate) fn intake_of(
     alloc: Global,
     rules: &Rules,
     routes: &Routes,
     head: &Head,
-    body: &[u8],
-    clock: &mut C,
-    draws: &mut W,
-) -> Result<Plan, NoMemory>
-    requires { length body.now ≤ 16777216 }
-    ensures { Draws (Plans rules.now (message_of head.now body.now))
-        (outlook (C.told clock.old) (W.told draws.old))
-        (outlook (C.told clock.new) (W.told draws.new)) result }
+) -> Result<Intake, NoMemory>
+    ensures { Awaits rules.now head.now result }
 {
     let route = match routes.find(alloc, head.verb, head.path.as_str()) {
         Ok(route) => route,
-        Err(RouteError::NoRoute) => return Plan::line(alloc, 404, "no route"),
+        Err(RouteError::NoRoute) => return passing(Plan::line(alloc, 404, "no route")),
         Err(RouteError::WrongVerb { allow }) => {
-            return Ok(Plan::Says(Room::new(alloc)?.wrong_method(allow)));
+            return Ok(Intake::Passes(Plan::Says(Room::new(alloc)?.wrong_method(allow))));
         }
         Err(RouteError::NoMemory) => return Err(NoMemory),
     };
     let Some(caller) = asker(alloc, rules, &head.lines)? else {
-        return Plan::line(alloc, 403, "unknown token");
+        return passing(Plan::line(alloc, 403, "unknown token"));
     };
-    plan_at(alloc, rules, route, caller, head, body, clock, draws)
+    intake_at(alloc, route, caller, head)
 }
 
-/// What a known caller's message comes to at its route.
-fn plan_at<C: Clock, W: Draws>(
+/// How the body behind a known caller's head is taken in at its route.
+fn intake_at(alloc: Global, route: Route, caller: Caller, head: &Head) -> Result<Intake, NoMemory>
+    ensures { AwaitsAt route caller head.now result }
+{
+    match route {
+        Route::Submit => submit::intake(alloc, head),
+        Route::RawCrash => passing(crashes::annotations(alloc, head, caller)),
+        Route::RawDump => passing(crashes::dump(alloc, head, caller)),
+        Route::ProcessedCrash => passing(crashes::report(alloc, head, caller)),
+        Route::SuperSearch => passing(search::reports(alloc, head, caller, Form::Data)),
+        Route::SuperSearchFields => passing(search::fields(alloc, &caller)),
+        Route::Reprocessing => Ok(Intake::Collects {
+            action: Action::Reprocess,
+            caller,
+        }),
+        Route::PriorityJob => Ok(Intake::Collects {
+            action: Action::Prioritise,
+            caller,
+        }),
+        Route::Withdrawal => Ok(Intake::Collects {
+            action: Action::Withdraw,
+            caller,
+        }),
+        Route::Tops => passing(search::tops(alloc, head, caller, Form::Data)),
+        Route::Turn => Ok(Intake::Passes(control::turn(caller))),
+        Route::Drain => Ok(Intake::Passes(control::drain(caller))),
+        Route::Stop => Ok(Intake::Passes(control::stop(caller))),
+        Route::Report(id) => passing(pages::report(alloc, id.as_str(), caller)),
+        Route::Search => passing(search::reports(alloc, head, caller, Form::Page)),
+        Route::TopsPage => passing(search::tops(alloc, head, caller, Form::Page)),
+    }
+}
+
+/// What a message comes to. A submission takes its draws even where memory wants for its plan.
+pub(crate) fn plan_of<C: Clock, W: Draws>(
     alloc: Global,
     rules: &Rules,
-    route: Route,
-    caller: Caller,
-    head: &Head,
-    body: &[u8],
+    content: Content,
     clock: &mut C,
     draws: &mut W,
 ) -> Result<Plan, NoMemory>
-    requires { length body.now ≤ 16777216 }
-    ensures { Draws (λ drawn plan. PlansRoute rules.now (message_of head.now body.now) drawn plan route caller)
+    requires { FitsContent content }
+    ensures { (message : Message) → Says rules.now message content → Draws (Plans rules.now message)
         (outlook (C.told clock.old) (W.told draws.old))
         (outlook (C.told clock.new) (W.told draws.new)) result }
 {
-    match route {
-        Route::Submit => submit::submission(alloc, rules, head, body, clock, draws),
-        Route::RawCrash => crashes::annotations(alloc, head, caller),
-        Route::RawDump => crashes::dump(alloc, head, caller),
-        Route::ProcessedCrash => crashes::report(alloc, head, caller),
-        Route::SuperSearch => search::reports(alloc, head, caller, Form::Data),
-        Route::SuperSearchFields => search::fields(alloc, &caller),
-        Route::Reprocessing => asks::reprocess(alloc, body, caller),
-        Route::PriorityJob => asks::prioritise(alloc, body, caller),
-        Route::Withdrawal => asks::withdraw(alloc, body, caller),
-        Route::Tops => search::tops(alloc, head, caller, Form::Data),
-        Route::Turn => Ok(control::turn(caller)),
-        Route::Drain => Ok(control::drain(caller)),
-        Route::Stop => Ok(control::stop(caller)),
-        Route::Report(id) => pages::report(alloc, id.as_str(), caller),
-        Route::Search => search::reports(alloc, head, caller, Form::Page),
-        Route::TopsPage => search::tops(alloc, head, caller, Form::Page),
+    match content {
+        Content::Planned(plan) => Ok(plan),
+        Content::Submitted(said) => submit::plan(alloc, rules, said, clock, draws),
     }
 }

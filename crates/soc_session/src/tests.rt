@@ -1,17 +1,19 @@
 //! Worked rows: what a session over a sample desk writes, and how it ends.
+mod drip;
 mod ordered;
 mod routes;
 mod sample;
 mod watched;
 mod worked;
 
+use self::drip::Drip;
 use self::ordered::{OrderedClock, OrderedDraws};
 use self::routes::{Line, ORDERS, READS, SEARCHES};
 use self::sample::{Choice, Sample};
 use self::watched::Watched;
 use self::worked::{
-    AMPLE, ANSWERS, CUT_SHORT, DISCARDED, ENDS, FETCH_SUBMIT, FIREFOX, STOP, STOPPING, STORED,
-    WRONG_METHOD,
+    AMPLE, ANSWERS, BAD_PART_HEAD, CUT_SHORT, DISCARDED, ENDS, FETCH_SUBMIT, FIREFOX, HEADLESS,
+    NO_ROUTE, POST_NOTHING, STOP, STOPPING, STORED, WRONG_METHOD,
 };
 use crate::{Rules, SessionEnd, session};
 use soc_edge::{
@@ -198,6 +200,44 @@ fn messages_are_cut_short(rt: HostRuntime) -> Result<(), Fail> {
         )?;
     }
     Ok(())
+}
+
+/// Expects the same replies, whatever pieces the messages come in.
+fn expect_in_pieces(
+    rt: &impl Abort,
+    alloc: Global,
+    messages: &[&[u8]],
+    replies: &[&[u8]],
+) -> Result<(), Fail> {
+    let input = joined(alloc, messages)?;
+    let output = joined(alloc, replies)?;
+    for size in [1, 2, 3, 5, 7, 1_000] {
+        let mut link = Both {
+            source: Drip {
+                rest: input.as_slice(),
+                size,
+            },
+            sink: MemSink::new(alloc, 32_768, Numbers::new(Vec::new(alloc)))?,
+        };
+        let end = serve(alloc, Choice::Own, &mut link, AMPLE)?;
+        assert_eq!(rt; end, SessionEnd::Ended);
+        assert_eq!(rt; link.sink.bytes(), output.as_slice());
+    }
+    Ok(())
+}
+
+#[test]
+fn bodies_come_in_pieces(rt: HostRuntime) -> Result<(), Fail> {
+    let messages = [FIREFOX, FIREFOX];
+    expect_in_pieces(&rt, rt.alloc(), &messages, &[STORED, STORED])
+}
+
+/// What follows a body that a form refuses, or that no route takes, is the next message.
+#[test]
+fn refused_bodies_are_passed_over(rt: HostRuntime) -> Result<(), Fail> {
+    let messages = [HEADLESS, FIREFOX, POST_NOTHING, FETCH_SUBMIT];
+    let replies = [BAD_PART_HEAD, STORED, NO_ROUTE, WRONG_METHOD];
+    expect_in_pieces(&rt, rt.alloc(), &messages, &replies)
 }
 
 /// A session ends by its fault behind a front of what it would write, or as it would without one.

@@ -88,5 +88,5 @@ WritesNext before after exchange next =
 -- a message that came is answered
 pub record Responds {K : Type 0} (asks : K → Command → Receipt → K → Type 0) (rules : Rules) (incoming : Incoming) (desk after : K) (ahead behind : Outlook)
     (held held' : Option (List ℕ)) (next : Next) : Type 0 where
-  pub reply : (message : Message) → IsMessage incoming message → (exchange : Exchange) × (exchange.message ≡ message) × IsExchange rules exchange
+  pub reply : (message : Message) → IsMessage rules incoming message → (exchange : Exchange) × (exchange.message ≡ message) × IsExchange rules exchange
       × StepsDesk asks desk exchange.asked after × HandsDrawn ahead behind exchange.drawn × WritesNext held held' exchange next

@@ -1,52 +1,55 @@
 //! What is asked for the crash that a form names.
-ghost use Rattle.std.specs.Prelude.{◌≡◌, IfOk, codes};
+ghost use Rattle.std.specs.Prelude.{◌≡◌, IfOk, codes, true};
 ghost use Rattle.soc_http.specs.Query.{query_pairs};
-ghost use Rattle.soc_desk.specs.Commands.{to_prioritise, to_reprocess, to_withdraw};
+ghost use Rattle.soc_desk.specs.Commands.{command_text};
 ghost use Rattle.soc_session.specs.Parameters.{crash_named};
 ghost use Rattle.soc_session.specs.Plan.{about};
+ghost use Rattle.soc_session.specs.inner.Actions.{to_act};
+ghost use Rattle.soc_session.specs.inner.Askable.{is_askable};
 ghost use Rattle.soc_session.specs.inner.Plans.{plan_text};
 
 use crate::forms::Form;
-use crate::parameters::crash_named;
+use crate::parameters::crash_posted;
 use crate::plans::Plan;
 use soc_desk::Command;
-use soc_http::pairs_of;
-use soc_raw::NoMemory;
+use soc_raw::{CrashId, NoMemory};
 use soc_schema::Caller;
 use std::alloc::Global;
 
-/// `/api/PriorityJob/`: a crash is processed, unless it has a report.
-pub(super) fn prioritise(alloc: Global, body: &[u8], caller: Caller) -> Result<Plan, NoMemory>
-    ensures { IfOk result (λ plan. plan_text plan ≡
-        about (crash_named (codes "crash_ids") (query_pairs body.now)) (to_prioritise caller) Form.Data) }
-{
-    let pairs = pairs_of(alloc, body)?;
-    let Some(id) = crash_named("crash_ids", &pairs) else {
-        return Plan::not_found(alloc);
-    };
-    Ok(Plan::asking(Command::Priority { caller, id }, Form::Data))
+/// What is asked for the crash that a form names.
+#[derive(Clone, Copy, Debug)]
+pub(crate) enum Action {
+    /// `/api/PriorityJob/`: it is processed, unless it has a report.
+    Prioritise,
+    /// `/api/Reprocessing/`: it is processed, again where it has a report.
+    Reprocess,
+    /// `/api/Withdrawal/`: it is shown nowhere any longer.
+    Withdraw,
 }
 
-/// `/api/Reprocessing/`: a crash is processed, again where it has a report.
-pub(super) fn reprocess(alloc: Global, body: &[u8], caller: Caller) -> Result<Plan, NoMemory>
+/// Asks it for the crash that the first `crash_ids` pair of a form names.
+pub(crate) fn plan(
+    alloc: Global,
+    action: Action,
+    caller: Caller,
+    form: &[u8],
+) -> Result<Plan, NoMemory>
     ensures { IfOk result (λ plan. plan_text plan ≡
-        about (crash_named (codes "crash_ids") (query_pairs body.now)) (to_reprocess caller) Form.Data) }
+        about (crash_named (codes "crash_ids") (query_pairs form.now)) (to_act action caller) Form.Data) }
 {
-    let pairs = pairs_of(alloc, body)?;
-    let Some(id) = crash_named("crash_ids", &pairs) else {
+    let Some(id) = crash_posted(alloc, form)? else {
         return Plan::not_found(alloc);
     };
-    Ok(Plan::asking(Command::Reprocess { caller, id }, Form::Data))
+    Ok(Plan::asking(command(action, caller, id), Form::Data))
 }
 
-/// `/api/Withdrawal/`: a crash is shown nowhere any longer.
-pub(super) fn withdraw(alloc: Global, body: &[u8], caller: Caller) -> Result<Plan, NoMemory>
-    ensures { IfOk result (λ plan. plan_text plan ≡
-        about (crash_named (codes "crash_ids") (query_pairs body.now)) (to_withdraw caller) Form.Data) }
+fn command(action: Action, caller: Caller, id: CrashId) -> Command
+    ensures text { command_text result ≡ to_act action caller id }
+    ensures askable { is_askable result ≡ true }
 {
-    let pairs = pairs_of(alloc, body)?;
-    let Some(id) = crash_named("crash_ids", &pairs) else {
-        return Plan::not_found(alloc);
-    };
-    Ok(Plan::asking(Command::Withdraw { caller, id }, Form::Data))
+    match action {
+        Action::Prioritise => Command::Priority { caller, id },
+        Action::Reprocess => Command::Reprocess { caller, id },
+        Action::Withdraw => Command::Withdraw { caller, id },
+    }
 }

@@ -1,69 +1,72 @@
 //! Submissions.
 ghost use Rattle.std.specs.Prelude.{◌≡◌, ◌≤◌, length, IfOk, IfErr};
 ghost use Rattle.soc_edge.specs.Ahead.{outlook};
+ghost use Rattle.soc_http.specs.Message.{Message};
 ghost use Rattle.soc_raw.specs.Day.{IsMoment};
-ghost use Rattle.soc_forms.specs.declared.form_error.FormError.TheVariants.{Malformed};
-ghost use Rattle.soc_forms.specs.declared.reasons.Reason.{Reason as Why};
 ghost use Rattle.soc_forms.specs.Fits.{FitsCrash};
+ghost use Rattle.soc_forms.specs.FormErrors.{LinesRefusal};
 ghost use Rattle.soc_forms.specs.SubmissionViews.{submission_text};
-ghost use Rattle.soc_session.specs.Plan.{HoldsSubmission, IsMalformed, PlansSubmission, crash_with, keeps, plan_by, plan_of, says};
+ghost use Rattle.soc_session.specs.Plan.{HoldsSubmission, PlansSubmission, crash_with, encoding_in, keeps, kinds_in, plan_by, plan_of, says};
 ghost use Rattle.soc_session.specs.Replies.{malformed};
-ghost use Rattle.soc_session.specs.inner.Plans.{Draws, drawn_of, message_of, plan_text};
+ghost use Rattle.soc_session.specs.inner.Intakes.{AwaitsSubmission, IsNewForm};
+ghost use Rattle.soc_session.specs.inner.Plans.{Draws, drawn_of, plan_text};
 
 use crate::drawing::{Drawing, draw};
 use crate::forms::Form;
+use crate::intake::{Intake, passing};
 use crate::plans::Plan;
 use crate::replies::Room;
 use crate::rules::Rules;
 use soc_desk::Command;
 use soc_edge::{Clock, Draws};
-use soc_forms::{FormError, Reason, Submission, read_submission};
+use soc_forms::{FormError, Reason, Submission};
 use soc_http::{Head, encoding_of, lines_named};
 use soc_raw::{CrashId, Digit, NoMemory, RawCrash, Text};
 use soc_throttle::{Outcome, RuleSet, Verdict};
 use std::alloc::Global;
 
-/// `/submit`: a crash is kept, by the rules.
-pub(super) fn submission<C: Clock, W: Draws>(
-    alloc: Global,
-    rules: &Rules,
-    head: &Head,
-    body: &[u8],
-    clock: &mut C,
-    draws: &mut W,
-) -> Result<Plan, NoMemory>
-    requires { length body.now ≤ 16777216 }
-    ensures { Draws (PlansSubmission rules.now (message_of head.now body.now))
-        (outlook (C.told clock.old) (W.told draws.old))
-        (outlook (C.told clock.new) (W.told draws.new)) result }
+/// `/submit`: the body is fed to a form, unless the head's lines are none of a form.
+pub(super) fn intake(alloc: Global, head: &Head) -> Result<Intake, NoMemory>
+    ensures { AwaitsSubmission head.now result }
 {
-    match submission_in(alloc, head, body) {
-        Ok(said) => {
-            let drawing = draw(clock, draws);
-            decide(alloc, &rules.rules, said, drawing)
-        }
-        Err(FormError::Malformed(reason)) => refuse(alloc, reason),
+    match form_of(alloc, head) {
+        Ok(form) => Ok(Intake::Feeds(form)),
+        Err(FormError::Malformed(reason)) => passing(refuse(alloc, reason)),
         Err(FormError::NoMemory) => Err(NoMemory),
     }
 }
 
+/// The form that a head's lines say the body is.
+fn form_of(alloc: Global, head: &Head) -> Result<soc_forms::Form, FormError>
+    ensures found { IfOk result (IsNewForm head.now) }
+    ensures refused { IfErr result (LinesRefusal (encoding_in head.now) (kinds_in head.now)) }
+{
+    let kinds = lines_named(alloc, &head.lines, "content-type")?;
+    soc_forms::Form::new(alloc, encoding_of(&head.lines), &kinds)
+}
+
 /// Answers that a submission is malformed.
-fn refuse(alloc: Global, reason: Reason) -> Result<Plan, NoMemory>
+pub(crate) fn refuse(alloc: Global, reason: Reason) -> Result<Plan, NoMemory>
     ensures { IfOk result (λ plan. plan_text plan ≡ says (malformed reason)) }
 {
     Ok(Plan::Says(Room::new(alloc)?.malformed(reason)))
 }
 
-/// What a submission says.
-fn submission_in(alloc: Global, head: &Head, body: &[u8]) -> Result<Submission, FormError>
-    requires { length body.now ≤ 16777216 }
-    ensures says { IfOk result (λ said. HoldsSubmission (message_of head.now body.now) (submission_text said)) }
-    ensures fits { IfOk result (λ said. FitsCrash (submission_text said)) }
-    ensures refused { IfErr result (λ error. (reason : Why) → error ≡ Malformed reason → IsMalformed (message_of head.now body.now) reason) }
+/// What a submission comes to: a crash is kept, by the rules.
+pub(super) fn plan<C: Clock, W: Draws>(
+    alloc: Global,
+    rules: &Rules,
+    said: Submission,
+    clock: &mut C,
+    draws: &mut W,
+) -> Result<Plan, NoMemory>
+    requires fits { FitsCrash (submission_text said) }
+    ensures { (message : Message) → HoldsSubmission message (submission_text said) → Draws (PlansSubmission rules.now message)
+        (outlook (C.told clock.old) (W.told draws.old))
+        (outlook (C.told clock.new) (W.told draws.new)) result }
 {
-    let kinds = lines_named(alloc, &head.lines, "content-type")?;
-    let said = read_submission(alloc, encoding_of(&head.lines), &kinds, body)?;
-    Ok(said)
+    let drawing = draw(clock, draws);
+    decide(alloc, &rules.rules, said, drawing)
 }
 
 /// What becomes of a submission: a sent id is used, else the rules decide.

@@ -26,6 +26,12 @@ const UNCLOSED: &[u8] =
     b"POST /submit HTTP/1.1\r\nHost: h\r\nContent-Type: multipart/form-data; boundary=b\r\nContent-Length: 72\r\n\r\n\
 --b\r\nContent-Disposition: form-data; name=\"ProductName\"\r\n\r\nFirefox\r\n--b-";
 
+/// A form that is refused at its first part's head. Behind that its body has a whole message.
+pub(super) const HEADLESS: &[u8] =
+    b"POST /submit HTTP/1.1\r\nHost: h\r\nContent-Type: multipart/form-data; boundary=b\r\nContent-Length: 94\r\n\r\n\
+--b\r\nA: b\r\n\r\n\
+POST /control/stop HTTP/1.1\r\nHost: h\r\nAuth-Token: operator\r\nContent-Length: 0\r\n\r\n";
+
 /// A submission that sends its id.
 const SENT: &[u8] =
     b"POST /submit HTTP/1.1\r\nHost: h\r\nContent-Type: multipart/form-data; boundary=b\r\nContent-Length: 165\r\n\r\n\
@@ -45,6 +51,11 @@ const EXTRA_AND_PLAIN: &[u8] =
     b"POST /submit HTTP/1.1\r\nHost: h\r\nContent-Type: multipart/form-data; boundary=b\r\nContent-Length: 169\r\n\r\n\
 --b\r\nContent-Disposition: form-data; name=\"extra\"\r\nContent-Type: application/json\r\n\r\n{\"a\":1}\r\n\
 --b\r\nContent-Disposition: form-data; name=\"ProductName\"\r\n\r\nFirefox\r\n--b--\r\n";
+
+/// A body that no route takes. It is a whole message.
+pub(super) const POST_NOTHING: &[u8] =
+    b"POST /nothing HTTP/1.1\r\nHost: h\r\nContent-Length: 34\r\n\r\n\
+GET /nothing HTTP/1.1\r\nHost: h\r\n\r\n";
 
 const NOTHING: &[u8] = b"GET /nothing HTTP/1.1\r\nHost: h\r\n\r\n";
 
@@ -85,7 +96,10 @@ const BAD_EXTRA: &[u8] =
 const MIXED: &[u8] =
     b"HTTP/1.1 400 Bad Request\r\nContent-Type: text/plain\r\nContent-Length: 36\r\n\r\nDiscarded=malformed_extra_and_plain\n";
 
-const NO_ROUTE: &[u8] =
+pub(super) const BAD_PART_HEAD: &[u8] =
+    b"HTTP/1.1 400 Bad Request\r\nContent-Type: text/plain\r\nContent-Length: 34\r\n\r\nDiscarded=malformed_bad_part_head\n";
+
+pub(super) const NO_ROUTE: &[u8] =
     b"HTTP/1.1 404 Not Found\r\nContent-Type: text/plain\r\nContent-Length: 9\r\n\r\nno route\n";
 
 const NO_ROUTE_LAST: &[u8] =
