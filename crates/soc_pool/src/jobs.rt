@@ -9,6 +9,8 @@ use crossbeam_queue::RuledArrayQueue;
 use soc_raw::{CrashId, NoMemory};
 use std::alloc::Global;
 use std::sync::Wait;
+use std::sync::atomic::AtomicU64;
+use std::sync::atomic::Ordering::SeqCst;
 
 /// How many jobs a ring holds.
 pub const PLACES: usize = 1024;
@@ -24,6 +26,8 @@ pub enum Job {
 #[derive(Drop)]
 pub struct Jobs {
     ring: RuledArrayQueue<Job, Seen, OneRing>,
+    // How many jobs were put, modulo 2^64. Who finds the ring empty sleeps until it changes.
+    puts: AtomicU64,
     ghost places: { ruled_capacity ring ≡ PLACES },
 }
 
@@ -42,7 +46,10 @@ impl Jobs {
     {
         let list = Vec::with_capacity(alloc, passes as usize)?;
         let (ring, maker) = RuledArrayQueue::ruled(alloc, PLACES)?;
-        let jobs = Jobs { ring };
+        let jobs = Jobs {
+            ring,
+            puts: AtomicU64::new(0),
+        };
         let passes = jobs.fill(list, maker, passes);
         Ok((jobs, passes))
     }
@@ -80,7 +87,11 @@ impl Jobs {
         ensures empties { MatchResult result (λ after. empties_of after ≡ empties_of pass) (λ back. empties_of back.0 ≡ empties_of pass) }
     {
         match self.ring.push_as::<Put, R>(rt, &mut pass.ring, job) {
-            Ok(()) => Ok(pass),
+            Ok(()) => {
+                self.puts.fetch_add(1, SeqCst);
+                self.puts.wake_one();
+                Ok(pass)
+            }
             Err(job) => {
                 pass.fulls = pass.fulls.saturating_add(1);
                 Err((pass, job))
@@ -101,5 +112,25 @@ impl Jobs {
             pass.empties = pass.empties.saturating_add(1);
         }
         (pass, job)
+    }
+
+    /// Takes the next job. Where the ring is empty it sleeps until one is put.
+    pub fn next<R: Wait>(&self, rt: &R, mut pass: Pass) -> (Pass, Job)
+        requires { IsPassOf self.now pass }
+        ensures pass { IsPassOf self.now result.0 }
+        ensures taken { Takes (seen_of pass) result.1 (seen_of result.0) }
+        ensures fulls { fulls_of result.0 ≡ fulls_of pass }
+    {
+        for _ in rt.forever() {
+            // A put behind this look changes the count before it wakes, so none falls between the take and the sleep.
+            let puts = self.puts.load(SeqCst);
+            let (after, job) = self.take(rt, pass);
+            pass = after;
+            if let Some(job) = job {
+                return (pass, job);
+            }
+            self.puts.park(rt, (puts & 0xffff_ffff) as u32);
+        }
+        unreachable!()
     }
 }
