@@ -4,9 +4,9 @@ ghost use Rattle.std.specs.Map.{keys_of};
 ghost use Rattle.soc_siglists.specs.Lists.{matches_one};
 ghost use Rattle.soc_siglists.specs.inner.Literals.{begins_with, begins_with_one};
 
+use crate::led::{LedMatcher, LedPattern};
 use crate::literals::Literals;
 use crate::matchers::{matchers_of, matches_one};
-use crate::led::{LedMatcher, LedPattern};
 use crate::pattern::Pattern;
 use soc_raw::{NoMemory, Text, Texts};
 use std::alloc::Global;

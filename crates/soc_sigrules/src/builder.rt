@@ -125,9 +125,7 @@ impl<'a> SignatureBuilder<'a> {
         ensures value { result ≡ is_settled self.now }
         ensures frames { IsTrue result → (lists : ListTexts) (frames : List (List ℕ)) (frame : List ℕ) → bytes_eq frame watchdog ≡ false → self.now ≡ summary_of lists frames → self.now ≡ summary_of lists (frames ++ frame ∷ []) }
     {
-        self.is_ended
-            && self.proto.is_full()
-            && (self.has_sentinel || self.lists.has_no_sentinel())
+        self.is_ended && self.proto.is_full() && (self.has_sentinel || self.lists.has_no_sentinel())
     }
 
     /// Adds the text of the next frame.
