@@ -1,0 +1,44 @@
+-- When a command may be asked of a shared book, and what a turn gives its seat.
+use Rattle.std.specs.Prelude.{◌≡◌, ℕ, ◌^◌, ◌<◌, Bool, false, IsTrue, List, ◌++◌, length, Option, Some, ⊤}
+use Rattle.soc_raw.specs.RawCrash.{record_text}
+use Rattle.soc_raw.specs.Record.{Crash, IsCrash, record_of}
+use Rattle.soc_schema.specs.declared.value.Cell.{Cell}
+use Rattle.soc_ledger.specs.declared.event.Event.{Event}
+use Rattle.soc_ledger.specs.Events.{has_stop}
+use Rattle.soc_desk.specs.declared.desk.Command.{Command}
+use Rattle.soc_desk.specs.declared.desk.Command.TheVariants as C
+use Rattle.soc_desk.specs.declared.desk.Receipt.{Receipt}
+use Rattle.soc_desk.specs.declared.desk.Reply.{Reply}
+use Rattle.soc_desk.specs.declared.desk.Reply.TheVariants as R
+use Rattle.soc_desk.specs.Asks.{IsAltered}
+use Rattle.soc_desk.specs.Basis.{Basis}
+use Rattle.soc_desk.specs.Grows.{Grows}
+use Rattle.soc_desk.specs.Kinds.{IsReplyTo}
+use Rattle.soc_turns.specs.declared.change.Change.{Change}
+use Rattle.soc_turns.specs.Changes.{events_in, text_in}
+
+-- A finished crash has the row that this reporter gives, and where the disk tells its content its record stands in the log.
+abbrev pub MayAsk : (Crash → List Cell) → Bool → List Change → Command → Type 0
+MayAsk row_of told log (C.Finish processed) = (processed.row ≡ row_of processed.crash)
+    × (IsTrue told → IsCrash processed.crash × (text_in log processed.crash.id ≡ Some (record_of processed.crash)))
+MayAsk row_of told log _ = ⊤
+
+-- a crash that was fetched has the record with which it was accepted
+abbrev pub FetchesText : List Change → Command → Reply → Type 0
+FetchesText log (C.Fetch id) (R.Fetched (Some raw)) = text_in log id ≡ Some (record_text raw)
+FetchesText log _ _ = ⊤
+
+-- What a turn adds is what the command adds under its reply, with some change in doubt before it and after it. The receipt
+-- tells of the log after the turn.
+pub record Answers (basis : Basis) (log : List Change) (command : Command) (receipt : Receipt) (log' : List Change) : Type 0 where
+  pub piece : List Change
+  pub behind : log' ≡ log ++ piece
+  pub doubt : Option Event
+  pub left : Option Event
+  pub grows : Grows basis (events_in log) doubt command receipt.reply (events_in piece) left
+  pub kind : IsReplyTo command receipt.reply
+  pub front : receipt.front ≡ length log'
+  pub short : length log' < 2 ^ 60
+  pub stopped : receipt.stopped ≡ has_stop (events_in log')
+  pub altered : IsAltered receipt.reply → basis.is_told ≡ false
+  pub fetched : IsTrue basis.is_told → FetchesText log command receipt.reply
