@@ -14,6 +14,8 @@ mod rules;
 mod shutdown;
 mod spaces;
 mod stack;
+#[cfg(test)]
+mod tests;
 
 pub use builder::{SignatureBuilder, signature};
 pub use input::{SigInput, Signature};
