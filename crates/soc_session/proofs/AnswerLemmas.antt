@@ -1,10 +1,9 @@
 -- What one message is answered.
-use Rattle.std.proofs.Common.{◌≡◌, ℕ, ◌∷◌, List, [], Option, None, Some, Result, Ok, Err, true, false, refl, sym, ap, subst, ◌∙◌, inl, inr, true≢false}
+use Rattle.std.proofs.Common.{◌≡◌, ◌∷◌, List, [], Option, None, Some, Result, Ok, Err, true, false, refl, sym, ap, subst, inl, inr, true≢false}
 use Rattle.std.specs.Prelude.{IfOk, OnErr}
 use Rattle.std.specs.Result.{result_ok}
 use Rattle.soc_raw.specs.declared.no_memory.NoMemory.{NoMemory}
 use Rattle.soc_edge.specs.Ahead.{Outlook}
-use Rattle.soc_http.specs.declared.head.Head.{Head}
 use Rattle.soc_http.specs.declared.reply.Answered.{Answered}
 use Rattle.soc_http.specs.Message.{Message}
 use Rattle.soc_desk.specs.declared.desk.Command.{Command}
@@ -20,7 +19,7 @@ use Rattle.soc_session.specs.Desk.{Asking, IsExchange}
 use Rattle.soc_session.specs.Plan.{Drawn, Plan, says, asks, MayDraw, Plans}
 use Rattle.soc_session.specs.Replies.{BuildsText, desk_reply, no_memory}
 use Rattle.soc_session.specs.inner.Askable.{is_askable}
-use Rattle.soc_session.specs.inner.Plans.{Answers, AnswersWith, Carries, Draws, HandsDrawn, message_of, plan_text, reply_of}
+use Rattle.soc_session.specs.inner.Plans.{Answers, AnswersWith, Carries, Draws, HandsDrawn, plan_text, reply_of}
 
 -- what may be asked at any time
 pub needs-nothing : (command : Command) → is_askable command ≡ true → NeedsNothing command

@@ -1,21 +1,17 @@
 -- What a head asks for, and what is had of the body behind it.
-use Rattle.std.proofs.Common.{◌≡◌, ℕ, ◌≤◌, List, [], length, Option, None, Some, Result, Ok, Err, refl, sym, ap, subst, ◌∙◌, inl, inr}
+use Rattle.std.proofs.Common.{◌≡◌, ℕ, List, [], Option, Some, Result, Ok, Err, refl, sym, ap, subst, ◌∙◌, inl, inr}
 use Rattle.std.specs.Prelude.{IfOk}
 use Rattle.soc_raw.specs.declared.no_memory.NoMemory.{NoMemory}
-use Rattle.soc_multipart.specs.Parts.{PartText}
-use Rattle.soc_multipart.specs.Readers.{ReaderText}
 use Rattle.soc_forms.specs.declared.form_error.FormError.TheVariants.{Malformed}
 use Rattle.soc_forms.specs.declared.reasons.Reason.{Reason}
 use Rattle.soc_forms.specs.FormErrors.{LinesRefusal}
-use Rattle.soc_forms.specs.FormLines.{AreFormLines, LinesFault}
+use Rattle.soc_forms.specs.FormLines.{AreFormLines}
 use Rattle.soc_forms.specs.Forms.{BodySays}
 use Rattle.soc_forms.specs.SubmissionViews.{submission_text}
 use Rattle.soc_forms.specs.Submissions.{SubmissionOf, SubmissionText}
 use Rattle.soc_http.specs.declared.head.Head.{Head}
 use Rattle.soc_http.specs.declared.route.Route.{Route}
 use Rattle.soc_http.specs.declared.route.Route.TheVariants as R
-use Rattle.soc_http.specs.declared.route.RouteError.{RouteError}
-use Rattle.soc_http.specs.Message.{Message}
 use Rattle.soc_http.specs.Route.{route_of}
 use Rattle.soc_schema.specs.declared.caller.Caller.{Caller}
 use Rattle.soc_session.specs.declared.intake.Content.{Content}
@@ -25,12 +21,12 @@ use Rattle.soc_session.specs.declared.intake.Intake.TheVariants.{Passes, Feeds, 
 use Rattle.soc_session.specs.declared.plans.Plan.{Plan as Planning}
 use Rattle.soc_session.specs.declared.routes.asks.Action.{Action}
 use Rattle.soc_session.specs.declared.rules.Rules.{Rules}
-use Rattle.soc_session.specs.Plan.{Drawn, Plan, says, Plans, PlansAt, PlansFor, PlansRoute, PlansSubmission, asker_of, encoding_in, kinds_in}
+use Rattle.soc_session.specs.Plan.{Plan, says, Plans, PlansRoute, asker_of, encoding_in, kinds_in}
 use Rattle.soc_session.specs.Replies.{malformed}
-use Rattle.soc_session.specs.inner.Intakes.{Awaits, AwaitsAt, AwaitsSubmission, IsFormReady, IsNewForm, IsOfBody, IsSubmitted, Says, asks_of}
+use Rattle.soc_session.specs.inner.Intakes.{Awaits, AwaitsAt, AwaitsSubmission, IsFormReady, IsOfBody, Says, asks_of}
 use Rattle.soc_session.specs.inner.Passing.{IsPassing}
 use Rattle.soc_session.specs.inner.Plans.{message_of, plan_text}
-use Rattle.soc_session.proofs.PlanLemmas.{Plans-at, Plans-for}
+use Rattle.soc_session.proofs.PlanLemmas.{Plans-for}
 
 -- ---- a submission's head
 

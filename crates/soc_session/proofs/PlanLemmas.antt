@@ -5,7 +5,6 @@ use Rattle.soc_raw.specs.declared.no_memory.NoMemory.{NoMemory}
 use Rattle.soc_edge.specs.Ahead.{Outlook}
 use Rattle.soc_edge.proofs.Ahead.{Hands-none}
 use Rattle.soc_forms.specs.Submissions.{SubmissionText}
-use Rattle.soc_forms.specs.declared.reasons.Reason.{Reason}
 use Rattle.soc_schema.specs.declared.caller.Caller.{Caller}
 use Rattle.soc_query.specs.declared.error.QueryError.{QueryError}
 use Rattle.soc_query.specs.declared.error.QueryError.TheVariants as Q
@@ -15,7 +14,6 @@ use Rattle.soc_tops.specs.declared.error.TopsError.TheVariants as T
 use Rattle.soc_tops.specs.declared.query.TopsQuery.{TopsQuery}
 use Rattle.soc_tops.specs.Asked.{IsRefusal as IsTopsRefusal}
 use Rattle.soc_http.specs.declared.route.Route.{Route}
-use Rattle.soc_http.specs.declared.route.Route.TheVariants as R
 use Rattle.soc_http.specs.declared.route.RouteError.{RouteError}
 use Rattle.soc_http.specs.Message.{Message}
 use Rattle.soc_http.specs.Route.{route_of}
@@ -23,8 +21,8 @@ use Rattle.soc_desk.specs.Commands.{CommandText}
 use Rattle.soc_session.specs.declared.forms.Form.{Form}
 use Rattle.soc_session.specs.declared.plans.Plan.{Plan as Planned}
 use Rattle.soc_session.specs.declared.rules.Rules.{Rules}
-use Rattle.soc_session.specs.Plan.{Drawn, IsDrawn, IsMalformed, Plan, says, asks, about, search_by, tops_by, MayDrawFor, Plans, PlansAt, PlansFor, PlansRoute, PlansSubmission, HoldsSubmission, asker_of, plan_of}
-use Rattle.soc_session.specs.Replies.{malformed, not_found, query_refusal, tops_refusal}
+use Rattle.soc_session.specs.Plan.{Drawn, IsDrawn, Plan, says, asks, about, search_by, tops_by, MayDrawFor, Plans, PlansAt, PlansFor, PlansSubmission, HoldsSubmission, asker_of, plan_of}
+use Rattle.soc_session.specs.Replies.{not_found, query_refusal, tops_refusal}
 use Rattle.soc_session.specs.inner.Intakes.{IsSubmitted}
 use Rattle.soc_session.specs.inner.Plans.{Draws, HandsDrawn, plan_text}
 

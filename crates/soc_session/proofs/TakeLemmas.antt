@@ -1,9 +1,8 @@
 -- Bodies that are taken in: passed over, collected, and fed to a form piece by piece.
-use Rattle.std.proofs.Common.{◌≡◌, ℕ, ◌+◌, ◌-◌, ◌<◌, ◌≤◌, List, [], ◌∷◌, ◌++◌, length, Result, Ok, Err, refl, sym, ap, subst, ◌∙◌, append_assoc, append-nil, length-append, arith}
+use Rattle.std.proofs.Common.{◌≡◌, ℕ, ◌+◌, ◌<◌, ◌≤◌, List, [], ◌++◌, length, Result, Ok, Err, refl, sym, ap, subst, ◌∙◌, append_assoc, append-nil, length-append, arith}
 use Rattle.std.specs.Prelude.{IfErr, IfOk, OnOk}
 use Rattle.std.specs.Borrow.{Bor}
-use Rattle.std.specs.Io.KnownBytes.{IsAtEnd}
-use Rattle.soc_edge.specs.Told.{Told, Reads}
+use Rattle.soc_edge.specs.Told.{Told}
 use Rattle.soc_raw.specs.declared.no_memory.NoMemory.{NoMemory}
 use Rattle.soc_edge.proofs.Told.{Reads-append, Reads-none}
 use Rattle.soc_multipart.specs.Readers.{ReaderText, WasFed}
@@ -15,11 +14,11 @@ use Rattle.soc_forms.specs.SubmissionViews.{submission_text}
 use Rattle.soc_forms.specs.Submissions.{BodyRefusal}
 use Rattle.soc_http.specs.declared.body.BodyError.{BodyError}
 use Rattle.soc_http.specs.declared.body.BodyError.TheVariants as B
-use Rattle.soc_http.specs.Body.{BodyFrom, IfCut, Passes, PassesOver, PieceFrom, ReadsBodyFrom}
+use Rattle.soc_http.specs.Body.{BodyFrom, Passes, PieceFrom, ReadsBodyFrom}
 use Rattle.soc_session.specs.declared.intake.Content.{Content}
 use Rattle.soc_session.specs.declared.intake.Intake.{Intake}
 use Rattle.soc_session.specs.declared.intake.Intake.TheVariants.{Feeds}
-use Rattle.soc_session.specs.inner.Intakes.{Begins, FeedsPiece, FeedsSome, IsFed, IsFedSo, IsOfBody, IsOfForm, IsSaid, IsWanting, TakesBody, read_so}
+use Rattle.soc_session.specs.inner.Intakes.{Begins, FeedsPiece, IsFed, IsFedSo, IsOfBody, IsOfForm, IsSaid, IsWanting, TakesBody}
 
 -- ---- what is had of a body that was read
 

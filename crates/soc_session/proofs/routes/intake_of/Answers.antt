@@ -1,7 +1,7 @@
-use Rattle.std.proofs.Common.{sym, ap, ◌∙◌, None, Ok, refl}
+use Rattle.std.proofs.Common.{sym, ap, ◌∙◌, None, refl}
 use Rattle.soc_http.specs.Route.{route_of}
 use Rattle.soc_session.specs.Plan.{says}
-use Rattle.soc_session.specs.Replies.{no_route, wrong_method, unknown_token}
+use Rattle.soc_session.specs.Replies.{no_route, unknown_token}
 use Rattle.soc_session.specs.inner.Plans.{message_of}
 use Rattle.soc_session.proofs.IntakeLemmas.{Awaits-for, Awaits-refused}
 use Rattle.soc_session.proofs.PlanLemmas.{Plans-at, Plans-for}

@@ -1,6 +1,5 @@
 use Rattle.std.proofs.Common.{Ok, refl}
 use Rattle.soc_session.specs.Plan.{Plans}
-use Rattle.soc_session.specs.inner.Intakes.{Says}
 use Rattle.soc_session.specs.inner.Plans.{plan_text}
 use Rattle.soc_session.proofs.PlanLemmas.{Draws-none, Draws-submitted}
 use Rattle.soc_session.proofs.routes.plan_of.Goals as goal
