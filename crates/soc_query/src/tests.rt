@@ -324,6 +324,169 @@ fn answers_are_written(rt: HostRuntime) -> Result<(), Fail> {
     Ok(())
 }
 
+/// The values of the first facet with their counts, in order.
+fn facet<L: Ledger>(
+    alloc: Global,
+    store: &Store,
+    query: &Query,
+    blank: Blank,
+) -> Result<String, Fail>
+    requires name { blank.name ≡ L.name }
+    requires parts { blank.parts ≡ L.parts }
+    requires some { 0 < blank.parts }
+{
+    let mut steps: Steps<L> = Steps::new(blank);
+    let answer = answer_of(alloc, store, query, &mut steps)?;
+    let mut text = String::new(alloc);
+    for facet in answer.facets.as_slice() {
+        for term in facet.terms.as_slice() {
+            let count = term.count;
+            let shown = match &term.value {
+                Value::Text(value) => format!(in alloc; "{}:{count} ", value.as_str())?,
+                Value::Number(value) => format!(in alloc; "{value}:{count} ")?,
+                Value::Flag(value) => format!(in alloc; "{value}:{count} ")?,
+            };
+            text.push_str(shown.as_str())?;
+        }
+    }
+    Ok(text)
+}
+
+/// The first facet of a query of these pairs.
+fn facet_of(alloc: Global, store: &Store, list: &[(&str, &str)]) -> Result<String, Fail> {
+    let query = Query::read(alloc, &pairs(alloc, list)?, everybody())?;
+    facet::<Brand>(alloc, store, &query, Blank::new(1))
+}
+
+/// Pairs of a query, and its facet over few rows.
+const FACETS: [(&[(&str, &str)], &str); 11] = [
+    (&[("_facets", "signature")], "a | b:2 b:1 c:1 "),
+    (
+        &[("_facets", "signature"), ("product", "Firefox")],
+        "a | b:1 c:1 ",
+    ),
+    (
+        &[("_facets", "signature"), ("product", "!Firefox")],
+        "a | b:1 b:1 ",
+    ),
+    (
+        &[
+            ("_facets", "signature"),
+            ("product", "Firefox"),
+            ("product", "Thunderbird"),
+        ],
+        "a | b:1 b:1 c:1 ",
+    ),
+    (
+        &[
+            ("_facets", "signature"),
+            ("product", "~i"),
+            ("product", "!$d"),
+        ],
+        "a | b:1 c:1 ",
+    ),
+    (
+        &[("_facets", "signature"), ("product", "__null__")],
+        "a | b:1 ",
+    ),
+    (
+        &[("_facets", "signature"), ("product", "!__null__")],
+        "a | b:1 b:1 c:1 ",
+    ),
+    (
+        &[
+            ("_facets", "signature"),
+            ("product", "Firefox"),
+            ("uptime", "5"),
+        ],
+        "a | b:1 ",
+    ),
+    (
+        &[("_facets", "product"), ("signature", "a | b")],
+        "Firefox:1 ",
+    ),
+    (
+        &[("_facets", "signature"), ("_facets_size", "1")],
+        "a | b:2 ",
+    ),
+    (&[("_facets", "signature"), ("_facets_size", "0")], ""),
+];
+
+/// Pairs of a query, and its facet over many rows.
+const MANY_FACETS: [(&[(&str, &str)], &str); 3] = [
+    (&[("_facets", "uptime"), ("_facets_size", "1")], "0:201 "),
+    (
+        &[("_facets", "uptime"), ("_facets_size", "3")],
+        "0:201 1:200 2:200 ",
+    ),
+    (
+        &[
+            ("_facets", "uptime"),
+            ("_facets_size", "2"),
+            ("uptime", "!0"),
+        ],
+        "1:200 2:200 ",
+    ),
+];
+
+#[test]
+fn values_are_counted(rt: HostRuntime) -> Result<(), Fail> {
+    let alloc = rt.alloc();
+    let few = few_rows(alloc)?;
+    for (list, expected) in &FACETS {
+        assert_eq!(rt; facet_of(alloc, &few, list)?.as_str(), *expected);
+    }
+    let many = many_rows(alloc)?;
+    for (list, expected) in &MANY_FACETS {
+        assert_eq!(rt; facet_of(alloc, &many, list)?.as_str(), *expected);
+    }
+    Ok(())
+}
+
+/// Rows of 20 products: of the first three, and of the second two, and of each other one.
+fn rows_of_products(alloc: Global) -> Result<Store, Fail> {
+    let mut store = Store::new(alloc);
+    for i in 0u32..23 {
+        let number = if i < 20 { i } else { (i - 20) / 2 };
+        let name = format!(in alloc; "{}", number + 10)?;
+        let mut row = Row::new(alloc);
+        set(
+            &mut row,
+            Field::PRODUCT,
+            Value::Text(Text::of(alloc, name.as_str())?),
+        )?;
+        set(&mut row, Field::UPTIME, Value::Number(u64::from(number)))?;
+        match store.put(alloc, i, row) {
+            Ok(()) => {}
+            Err(_) => return Err(Fail::from("memory")),
+        }
+    }
+    Ok(store)
+}
+
+#[test]
+fn many_products_are_counted(rt: HostRuntime) -> Result<(), Fail> {
+    let alloc = rt.alloc();
+    let store = rows_of_products(alloc)?;
+    let all = facet_of(
+        alloc,
+        &store,
+        &[("_facets", "product"), ("_facets_size", "3")],
+    )?;
+    assert_eq!(rt; all.as_str(), "10:3 11:2 12:1 ");
+    let others = facet_of(
+        alloc,
+        &store,
+        &[
+            ("_facets", "uptime"),
+            ("product", "!10"),
+            ("_facets_size", "2"),
+        ],
+    )?;
+    assert_eq!(rt; others.as_str(), "1:2 2:1 ");
+    Ok(())
+}
+
 const PRODUCTS: [&str; 3] = ["Firefox", "Thunderbird", "Fenix"];
 
 const PLACES: u32 = 40;
