@@ -1,4 +1,0 @@
-pub mod Grounds
-pub mod Changes
-pub mod Turns
-pub mod inner
