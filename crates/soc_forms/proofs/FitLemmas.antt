@@ -8,7 +8,7 @@ use Rattle.std.specs.Str.Lossy.{utf8_lossy}
 use Rattle.std.proofs.lemmas.List.Sums.{sum_by-cons}
 use Rattle.serde_json.specs.Data.{Members, no_members, member}
 use Rattle.soc_raw.specs.Names.{with_value}
-use Rattle.soc_raw.specs.Record.{pair_len}
+use Rattle.soc_raw.specs.inner.Sizes.{pair_len}
 use Rattle.soc_raw.proofs.Lengths.{length_by_parts}
 use Rattle.soc_forms.specs.Extras.{text_of, with_members}
 use Rattle.soc_forms.specs.Fields.{FieldTexts, no_fields, is_extra, is_dump, is_plain, put, plain_step, dump_step, dumps_of}

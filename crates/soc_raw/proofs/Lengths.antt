@@ -4,7 +4,8 @@ use Rattle.std.specs.Prelude.{flat_map, sum_by}
 use Rattle.std.specs.Int.{w64, to_le_bytes}
 use Rattle.std.proofs.lemmas.List.Sums.{sum_by-cons}
 use Rattle.std.proofs.lemmas.List.{flat_map_more, drop_at}
-use Rattle.soc_raw.specs.Record.{Crash, pair_len, counted, pair_text, pairs_text, head_text, content_text, record_of, MAX_RECORD}
+use Rattle.soc_raw.specs.inner.Sizes.{pair_len}
+use Rattle.soc_raw.specs.Record.{Crash, counted, pair_text, pairs_text, head_text, content_text, record_of, MAX_RECORD}
 
 pub head_length : (c : Crash) → length c.id + 8 + 8 + 4 + length c.rule ≡ length (head_text c)
 unfolding head_text

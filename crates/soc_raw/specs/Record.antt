@@ -23,10 +23,6 @@ counted bytes = to_le_bytes w32 (length bytes) ++ bytes
 abbrev pub pair_text : List ℕ × List ℕ → List ℕ
 pair_text p = counted p.0 ++ counted p.1
 
--- the bytes that a pair takes
-abbrev pub pair_len : List ℕ × List ℕ → ℕ
-pair_len p = 8 + length p.0 + length p.1
-
 -- how many pairs there are, in 4 bytes, and the pairs
 abbrev pub pairs_text : List (List ℕ × List ℕ) → List ℕ
 pairs_text ps = to_le_bytes w32 (length ps) ++ flat_map pair_text ps

@@ -1,4 +1,5 @@
 pub mod Parts
 pub mod Places
 pub mod Reading
+pub mod Sizes
 pub mod Writing
