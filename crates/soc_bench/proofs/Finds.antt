@@ -5,7 +5,7 @@ use Rattle.soc_journal.specs.Entries.{Entry}
 use Rattle.soc_journal.specs.Text.{JournalText, IsOneText}
 use Rattle.soc_journal.specs.Openings.{OpeningState, HasRead, Finds}
 use Rattle.soc_journal.specs.declared.mark.Mark.{Mark}
-use Rattle.soc_bench.specs.Journals.{HasFound}
+use Rattle.soc_bench.specs.inner.Journals.{HasFound}
 
 same_bytes : {now bytes : List ℕ} → Some now ≡ Some bytes → now ≡ bytes
 same_bytes same = ap (λ (told : Option (List ℕ)). unwrap_or told []) same

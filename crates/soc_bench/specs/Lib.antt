@@ -1,3 +1,3 @@
 pub mod Bodies
 pub mod Counts
-pub mod Journals
+pub mod inner

@@ -15,7 +15,6 @@ use Rattle.soc_desk.specs.declared.desk.Reply.{Reply}
 use Rattle.soc_desk.specs.declared.desk.Reply.TheVariants as R
 use Rattle.soc_desk.specs.declared.desk.Refusal.{Refusal}
 use Rattle.soc_desk.specs.declared.desk.Refusal.TheVariants as F
-use Rattle.soc_desk.specs.declared.desk.Receipt.{Receipt}
 use Rattle.soc_desk.specs.Basis.{Basis}
 use Rattle.soc_desk.specs.Decisions.{Decision, answers, appends, decide, lacked}
 use Rattle.soc_desk.specs.Log.{Kept, Change, keep, done, stop, events, raw_of}
@@ -164,17 +163,3 @@ Step basis before (C.Drain caller) reply after =
 Step basis before (C.Stop caller) reply after = IfPermitted before (C.Stop caller) reply after (StepStop basis before reply after)
 Step basis before (C.Fetch id) reply after = StepFetch basis before id reply after
 Step basis before (C.Finish processed) reply after = StepFinish basis before processed.crash.id reply after
-
--- a step whose receipt has the length of the log after it, and says whether that log has a stop
-pub record Receives (basis : Basis) (before : State) (command : Command) (receipt : Receipt) (after : State) : Type 0 where
-  pub step : Step basis before command receipt.reply after
-  pub front : receipt.front ≡ length after.log
-  pub stopped : receipt.stopped ≡ has_stop (events basis after.log)
-
--- steps along a list of commands
-abbrev pub Run : Basis → State → List Command → List Receipt → State → Type 0
-Run basis before [] [] after = after ≡ before
-Run basis before [] (_ ∷ _) after = ⊥
-Run basis before (_ ∷ _) [] after = ⊥
-Run basis before (command ∷ commands) (receipt ∷ receipts) after =
-    (between : State) × Receives basis before command receipt between × Run basis between commands receipts after

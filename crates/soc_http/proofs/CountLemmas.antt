@@ -5,7 +5,8 @@ use Rattle.std.specs.List.{flat_map}
 use Rattle.std.proofs.lemmas.List.Sums.{sum_by-append}
 use Rattle.httparse.specs.Grammar.{LineEnd, crlf, lf, print_end, print_blank, print_version, Field, print_field, print_section, RequestHead, print_request, ReadsRequest}
 use Rattle.httparse.specs.Ascii.{space, colon}
-use Rattle.soc_http.specs.Block.{HasFewLines, line_feed}
+use Rattle.soc_text.specs.Lines.{line_feed}
+use Rattle.soc_http.specs.Block.{HasFewLines}
 
 abbrev feeds : List ℕ → ℕ
 feeds bytes = count_by (λ b. b == line_feed) bytes

@@ -1,13 +1,10 @@
 -- The head block of a message, the shortest front that ends in CR LF CR LF (RFC 9112, section 2.1), and how large it may be: that is this project's own.
 use Rattle.std.specs.Prelude.{◌≡◌, ℕ, ◌+◌, ◌<◌, ◌≤◌, List, ◌++◌, ◌==◌, length, take, codes, count_by}
+use Rattle.soc_text.specs.Lines.{line_feed}
 
 -- CR LF CR LF: the end of a line, and an empty line
 abbrev pub empty_line : List ℕ
 empty_line = codes "\r\n\r\n"
-
--- LF
-abbrev pub line_feed : ℕ
-line_feed = 10
 
 -- the text ends in an empty line
 abbrev pub EndsInEmptyLine : List ℕ → Type 0

@@ -9,13 +9,16 @@ use Rattle.soc_multipart.specs.declared.heads.HeadEnd.{HeadEnd}
 use Rattle.soc_multipart.specs.declared.heads.HeadEnd.TheVariants.{Content, Open}
 use Rattle.soc_multipart.specs.Chains.{Chain, HasNoStep}
 use Rattle.soc_text.specs.Blanks.{trimmed}
-use Rattle.soc_text.specs.Lines.{crlf}
+use Rattle.soc_text.specs.Lines.{carriage_return, line_feed, crlf}
 use Rattle.soc_multipart.specs.Params.{ParamText, AreParams, lower, value_of}
 use Rattle.soc_text.specs.Tokens.{IsToken}
 
 -- the most bytes that a head has
 abbrev pub head_limit : ℕ
 head_limit = 1024
+
+abbrev pub colon : ℕ
+colon = 58
 
 -- a line: its name, and the value with the blanks around it
 pub record LineText : Type 0 where
@@ -24,13 +27,13 @@ pub record LineText : Type 0 where
 
 -- a byte of a line's value: any but CR and LF
 abbrev pub is_line_byte : ℕ → Bool
-is_line_byte byte = not (byte == 13 || byte == 10)
+is_line_byte byte = not (byte == carriage_return || byte == line_feed)
 
 -- a line with its line end, and then rest
 pub record ReadsLine (text : List ℕ) (line : LineText) (rest : List ℕ) : Type 0 where
   pub token : IsToken line.name
   pub passes : AllPass is_line_byte line.raw
-  pub whole : text ≡ line.name ++ (58 ∷ (line.raw ++ (crlf ++ rest)))
+  pub whole : text ≡ line.name ++ (colon ∷ (line.raw ++ (crlf ++ rest)))
 
 -- the values of the lines of this name, in order
 abbrev pub values_of : List ℕ → List LineText → List (List ℕ)

@@ -8,6 +8,12 @@ use Rattle.soc_text.specs.Blanks.{is_blank}
 use Rattle.soc_text.specs.Tokens.{IsToken, is_token_byte}
 use Rattle.soc_multipart.specs.Chains.{Chain}
 
+abbrev pub semicolon : ℕ
+semicolon = 59
+
+abbrev pub equals_sign : ℕ
+equals_sign = 61
+
 abbrev pub quote : ℕ
 quote = 34
 
@@ -50,7 +56,7 @@ pub record ReadsName (spaced : Bool) (text name rest : List ℕ) : Type 0 where
   pub pad : List ℕ
   pub blanks : AllPass is_blank pad
   pub token : IsToken name
-  pub skips : SkipsGap spaced text (59 ∷ (pad ++ (name ++ (61 ∷ rest))))
+  pub skips : SkipsGap spaced text (semicolon ∷ (pad ++ (name ++ (equals_sign ∷ rest))))
 
 -- a name and what its value stands for
 pub record ParamText : Type 0 where

@@ -10,7 +10,7 @@ use Rattle.soc_schema.specs.declared.field.FieldKind.{FieldKind}
 use Rattle.soc_schema.specs.declared.field.FieldKind.TheVariants as kind
 use Rattle.soc_schema.specs.declared.value.Value.{Value}
 use Rattle.soc_schema.specs.declared.value.Value.TheVariants.{Text, Number, Flag}
-use Rattle.soc_schema.specs.Fields.{field_named, kind_of, permission_of}
+use Rattle.soc_schema.specs.Fields.{date_field, field_named, kind_of, permission_of, product_field, signature_field, uuid_field, version_field}
 use Rattle.soc_schema.specs.Permits.{Granted, is_granted}
 use Rattle.soc_query.specs.declared.condition.Comparison.{Comparison}
 use Rattle.soc_query.specs.declared.condition.Comparison.TheVariants as compare
@@ -143,9 +143,8 @@ with_part (part.FacetSize n) q = record q { facet_size = n }
 with_part (part.Number n) q = record q { number = n }
 with_part (part.Offset n) q = record q { offset = n }
 
--- date, product, signature, uuid and version
 abbrev pub default_columns : List ℕ
-default_columns = 11 ∷ 23 ∷ 27 ∷ 34 ∷ 35 ∷ []
+default_columns = date_field ∷ product_field ∷ signature_field ∷ uuid_field ∷ version_field ∷ []
 
 abbrev pub or_default : List ℕ → List ℕ
 or_default [] = default_columns

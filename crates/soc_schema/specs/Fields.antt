@@ -107,3 +107,13 @@ uuid_field = 34
 
 abbrev pub product_field : ℕ
 product_field = 23
+
+-- the fields that searches and counts show by themselves
+abbrev pub date_field : ℕ
+date_field = 11
+
+abbrev pub signature_field : ℕ
+signature_field = 27
+
+abbrev pub version_field : ℕ
+version_field = 35

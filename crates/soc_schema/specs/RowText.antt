@@ -9,11 +9,21 @@ use Rattle.soc_schema.specs.declared.value.Value.TheVariants.{Text, Number, Flag
 use Rattle.soc_schema.specs.declared.value.Cell.{Cell}
 use Rattle.soc_schema.specs.Rows.{IsRow}
 
+-- the tags of the three kinds
+abbrev pub text_tag : ℕ
+text_tag = 0
+
+abbrev pub number_tag : ℕ
+number_tag = 1
+
+abbrev pub flag_tag : ℕ
+flag_tag = 2
+
 -- a tag for the kind, and the value: a text after its length, 8 bytes, or one byte
 abbrev pub value_text : Value → List ℕ
-value_text (Text bytes) = 0 ∷ counted bytes
-value_text (Number n) = 1 ∷ to_le_bytes w64 n
-value_text (Flag b) = 2 ∷ (if b then 1 else 0) ∷ []
+value_text (Text bytes) = text_tag ∷ counted bytes
+value_text (Number n) = number_tag ∷ to_le_bytes w64 n
+value_text (Flag b) = flag_tag ∷ (if b then 1 else 0) ∷ []
 
 -- the field's place in the table, and its value
 abbrev pub cell_text : Cell → List ℕ

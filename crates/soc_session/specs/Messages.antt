@@ -1,18 +1,13 @@
--- What the link gave to a session: the messages of the bytes, one behind the other.
-use Rattle.std.specs.Prelude.{◌≡◌, ◌⊎◌, ℕ, List, [], ◌∷◌, Option}
+-- What the link gave to a session behind its last message: nothing, the beginning of a message, or one that is refused.
+use Rattle.std.specs.Prelude.{◌≡◌, ◌⊎◌, ℕ, List, [], Option}
 use Rattle.std.specs.Io.KnownBytes.{IsAtEnd}
 use Rattle.soc_http.specs.declared.head.HeadError.{HeadError}
 use Rattle.soc_http.specs.declared.head.HeadError.TheVariants as H
-use Rattle.soc_http.specs.Message.{Message, TakesMessage, RefusesMessage}
+use Rattle.soc_http.specs.Message.{RefusesMessage}
 
 -- nothing stands at the text's front, or the beginning of a message that more bytes would finish
 abbrev pub IsUnfinished : List ℕ → Type 0
 IsUnfinished text = (text ≡ []) ⊎ RefusesMessage text H.CutShort
-
--- the text is these messages, and rest stands behind them
-abbrev pub HoldsMessages : List ℕ → List Message → List ℕ → Type 0
-HoldsMessages text [] rest = text ≡ rest
-HoldsMessages text (message ∷ messages) rest = (middle : List ℕ) × TakesMessage text message middle × HoldsMessages middle messages rest
 
 -- a refusal that the bytes give, where they end within a message only at the input's end
 abbrev pub RefusedAt : List ℕ → Option (List ℕ) → HeadError → Type 0

@@ -2,13 +2,14 @@
 use Rattle.std.specs.Prelude.{ℕ, ◌-◌, ◌==◌, ◌&&◌, ◌||◌, nat_eq, nat_lt, not, Bool, List, length, map, take, filter, codes}
 use Rattle.std.specs.List.{starts_with, suffix_len, slice_split, enumerate_from}
 use Rattle.soc_text.specs.Blanks.{is_blank}
+use Rattle.soc_text.specs.Lines.{carriage_return, line_feed}
 
 abbrev pub is_line_feed : ℕ → Bool
-is_line_feed byte = byte == 10
+is_line_feed byte = byte == line_feed
 
 -- a space, a tab or a carriage return
 abbrev pub is_end_blank : ℕ → Bool
-is_end_blank byte = is_blank byte || byte == 13
+is_end_blank byte = is_blank byte || byte == carriage_return
 
 -- a line without the blanks at its end
 abbrev pub text_of : List ℕ → List ℕ

@@ -3,8 +3,14 @@
 use Rattle.std.specs.Prelude.{ℕ, ◌-◌, ◌==◌, ◌||◌, nat_lt, nat_le, Bool, if◌then◌else◌, List, [], ◌∷◌, ◌++◌, codes}
 use Rattle.std.specs.List.{count_by, join_by}
 
+abbrev pub first_behind : ℕ
+first_behind = 128
+
+abbrev pub past_behind : ℕ
+past_behind = 192
+
 abbrev pub begins_char : ℕ → Bool
-begins_char byte = nat_lt byte 128 || nat_le 192 byte
+begins_char byte = nat_lt byte first_behind || nat_le past_behind byte
 
 -- how many characters a text has
 abbrev pub char_count : List ℕ → ℕ

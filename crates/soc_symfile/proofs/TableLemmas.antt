@@ -11,8 +11,8 @@ use Rattle.soc_symfile.specs.declared.entries.Label.{Label}
 use Rattle.soc_symfile.specs.declared.entries.File.{File}
 use Rattle.soc_symfile.specs.declared.entries.SourceLine.{SourceLine}
 use Rattle.soc_symfile.specs.Records.{Records, records_in, owners_in}
-use Rattle.soc_symfile.specs.inner.Tables.{same_line, with_end, AreLaidOut, onto_last, Owns}
-use Rattle.soc_symfile.specs.Views.{extent_entry, owner_entry, label_entry, file_entry}
+use Rattle.soc_symfile.specs.inner.Tables.{owner_entry, same_line, with_end, AreLaidOut, onto_last, Owns}
+use Rattle.soc_symfile.specs.Views.{extent_entry, label_entry, file_entry}
 
 abbrev held : List Owner → List SourceLine → List Label → List File → List Owner → List Label → Records
 held functions sources publics files inits deltas = record {

@@ -1,9 +1,8 @@
 -- What the program's values hold, without the places where their slices lie in memory.
-use Rattle.std.specs.Prelude.{List, map, slice_range, option_map}
+use Rattle.std.specs.Prelude.{map, option_map}
 use Rattle.soc_symfile.specs.declared.entries.Extent.{Extent}
 use Rattle.soc_symfile.specs.declared.entries.Label.{Label}
 use Rattle.soc_symfile.specs.declared.entries.File.{File as NamedFile}
-use Rattle.soc_symfile.specs.declared.entries.Owner.{Owner}
 use Rattle.soc_symfile.specs.declared.entries.Line.{Line}
 use Rattle.soc_symfile.specs.declared.entries.Line.TheVariants as L
 use Rattle.soc_symfile.specs.declared.cfi_span.CfiSpan.{CfiSpan}
@@ -20,10 +19,6 @@ label_entry label = record { address = label.address; text = label.text.now }
 
 abbrev pub file_entry : NamedFile → FileEntry
 file_entry file = record { number = file.number; name = file.name.now }
-
--- an owner with its part of the table of all parts
-abbrev pub owner_entry : {P Q : Type 0} → (P → Q) → List P → Owner → ExtentEntry × List Q
-owner_entry part parts owner = (extent_entry owner.extent, map part (slice_range parts owner.first owner.end))
 
 abbrev pub span_of : CfiSpan → Span
 span_of span = record { init = span.init.now; deltas = map label_entry span.deltas.now }

@@ -3,15 +3,11 @@ use Rattle.std.specs.Prelude.{ℕ, pos, negsuc, ℤ, Bool, true, ◌&&◌, ◌||
 use Rattle.std.specs.List.{list_any, list_all}
 use Rattle.std.specs.Char.{is_ascii_digit, is_ascii_lowercase, is_ascii_graphic}
 use Rattle.std.specs.Str.{bytes_eq}
-use Rattle.toml.specs.Data.{Data, as_str, as_integer, as_array, Items, Members, no_members, member, get_member, is_before}
+use Rattle.toml.specs.Data.{Data, as_str, as_integer, Members, no_members, member, get_member, is_before}
 
 -- the text at a key
 abbrev pub text_at : List ℕ → Members → Option (List ℕ)
 text_at key table = option_and_then as_str (get_member key table)
-
--- the values of the array at a key
-abbrev pub array_at : List ℕ → Members → Option Items
-array_at key table = option_and_then as_array (get_member key table)
 
 -- 1 to `most` bytes, each of which passes the test
 abbrev pub has_form : (ℕ → Bool) → ℕ → List ℕ → Bool
@@ -21,9 +17,12 @@ has_form passes most text = (nat_le 1 (length text) && nat_le (length text) most
 abbrev pub of_form : (ℕ → Bool) → ℕ → List ℕ → Option (List ℕ)
 of_form passes most text = if has_form passes most text then Some text else None
 
+abbrev pub underscore : ℕ
+underscore = 95
+
 -- `a` to `z`, a digit or `_`
 abbrev pub is_name_byte : ℕ → Bool
-is_name_byte byte = (is_ascii_lowercase byte || is_ascii_digit byte) || byte == 95
+is_name_byte byte = (is_ascii_lowercase byte || is_ascii_digit byte) || byte == underscore
 
 -- the name at a key: 1 to `most` of `a` to `z`, digits and `_`
 abbrev pub name_at : List ℕ → ℕ → Members → Option (List ℕ)

@@ -20,7 +20,8 @@ use Rattle.soc_store.specs.Stored.{is_value, rows_with, some_has, values_of}
 use Rattle.soc_tops.specs.declared.ranking.Ranked.{Ranked}
 use Rattle.soc_tops.specs.declared.tops.Top.{Top}
 use Rattle.soc_tops.specs.declared.tops.Tops.{Tops}
-use Rattle.soc_tops.specs.Tops.{counted_in, in_order, put_in_order, rank_from, ranking_of, signature_field, text_in, top_of}
+use Rattle.soc_schema.specs.Fields.{signature_field}
+use Rattle.soc_tops.specs.Tops.{counted_in, in_order, put_in_order, rank_from, ranking_of, text_in, top_of}
 use Rattle.soc_tops.specs.inner.Ranks.{AreBelow, index_rank, named, numbered, top_at}
 use Rattle.soc_tops.proofs.OrderLemmas.{same_index}
 use Rattle.soc_tops.proofs.SortLemmas.{order_map}

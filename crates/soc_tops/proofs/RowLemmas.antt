@@ -15,12 +15,12 @@ use Rattle.soc_schema.specs.declared.value.Value.{Value}
 use Rattle.soc_schema.specs.declared.value.Value.TheVariants.{Text}
 use Rattle.soc_schema.specs.declared.value.Cell.{Cell}
 use Rattle.soc_schema.specs.Rows.{value_of}
-use Rattle.soc_schema.specs.Fields.{product_field}
+use Rattle.soc_schema.specs.Fields.{product_field, version_field}
 use Rattle.soc_schema.specs.Permits.{shows}
 use Rattle.soc_store.specs.Stored.{PlacesRise, is_value, places_of, product_of, row_at, rows_with, text_of}
 use Rattle.soc_tops.specs.declared.query.Days.{Days}
 use Rattle.soc_tops.specs.declared.query.TopsQuery.{TopsQuery}
-use Rattle.soc_tops.specs.Tops.{is_asked, is_within, rows_between, version_field}
+use Rattle.soc_tops.specs.Tops.{is_asked, is_within, rows_between}
 use Rattle.soc_tops.specs.inner.Ranks.{row_of}
 use Rattle.soc_tops.proofs.OrderLemmas.{all_get, less_from, value_exact}
 

@@ -12,7 +12,7 @@ use Rattle.soc_schema.specs.declared.permission.Permission.TheVariants.{Public}
 use Rattle.soc_schema.specs.declared.value.Value.{Value}
 use Rattle.soc_schema.specs.declared.value.Value.TheVariants.{Text}
 use Rattle.soc_schema.specs.declared.value.Cell.{Cell}
-use Rattle.soc_schema.specs.Fields.{field_entry, field_table, permission_of, product_field, uuid_field}
+use Rattle.soc_schema.specs.Fields.{date_field, field_entry, field_table, permission_of, product_field, signature_field, uuid_field, version_field}
 use Rattle.soc_schema.specs.Permits.{Granted, granted_cells, holds, is_granted, shows}
 use Rattle.soc_schema.specs.Rows.{value_of}
 use Rattle.soc_store.specs.Orders.{value_cmp}
@@ -21,7 +21,7 @@ use Rattle.soc_store.specs.Stored.{is_value, product_of, rows_with, some_has, te
 use Rattle.soc_tops.specs.declared.query.Days.{Days}
 use Rattle.soc_tops.specs.declared.query.TopsQuery.{TopsQuery}
 use Rattle.soc_tops.specs.Seen.{HaveOwnIds, ListTheSame, seen_rows}
-use Rattle.soc_tops.specs.Tops.{Counted, counted_in, date_field, has_day, in_order, is_asked, is_within, rank_from, ranking_of, rows_between, signature_field, text_in, top_of, tops_of, version_field}
+use Rattle.soc_tops.specs.Tops.{Counted, counted_in, has_day, in_order, is_asked, is_within, rank_from, ranking_of, rows_between, text_in, top_of, tops_of}
 use Rattle.soc_tops.proofs.OrderLemmas.{value_exact, value_total}
 use Rattle.soc_tops.proofs.RankLemmas.{counted_has, same_top, same_tops}
 use Rattle.soc_tops.proofs.SortLemmas.{Up, unique}

@@ -9,7 +9,7 @@ use Rattle.soc_schema.specs.declared.value.Value.{Value}
 use Rattle.soc_schema.specs.declared.value.Value.TheVariants.{Text}
 use Rattle.soc_schema.specs.declared.value.Cell.{Cell}
 use Rattle.soc_schema.specs.Rows.{value_of}
-use Rattle.soc_schema.specs.Fields.{product_field}
+use Rattle.soc_schema.specs.Fields.{date_field, product_field, signature_field, version_field}
 use Rattle.soc_schema.specs.Permits.{shows}
 use Rattle.soc_store.specs.Orders.{value_cmp}
 use Rattle.soc_store.specs.Stored.{is_value, product_of, rows_with, text_of, values_of}
@@ -18,16 +18,6 @@ use Rattle.soc_tops.specs.declared.query.TopsQuery.{TopsQuery}
 use Rattle.soc_tops.specs.declared.tops.Top.{Top}
 use Rattle.soc_tops.specs.declared.tops.Tops.{Tops}
 use Rattle.soc_tops.specs.Asked.{is_after}
-
--- date, signature and version in the table of fields
-abbrev pub date_field : ℕ
-date_field = 11
-
-abbrev pub signature_field : ℕ
-signature_field = 27
-
-abbrev pub version_field : ℕ
-version_field = 35
 
 -- the day lies in the range
 abbrev pub has_day : Days → List ℕ → Bool

@@ -2,9 +2,9 @@
 ghost use Rattle.std.specs.Prelude.{◌≡◌, ◌+◌, ◌<◌, ◌≤◌, IfOk, length, map, take};
 ghost use Rattle.std.specs.List.{enumerate_from};
 ghost use Rattle.soc_schema.specs.declared.value.Value.TheVariants as Value;
-ghost use Rattle.soc_schema.specs.Fields.{product_field};
+ghost use Rattle.soc_schema.specs.Fields.{product_field, signature_field};
 ghost use Rattle.soc_store.specs.Stored.{rows_with, values_of};
-ghost use Rattle.soc_tops.specs.Tops.{signature_field, text_in, tops_of};
+ghost use Rattle.soc_tops.specs.Tops.{text_in, tops_of};
 ghost use Rattle.soc_tops.specs.inner.Ranks.{AreBelow, top_at};
 
 use crate::query::TopsQuery;

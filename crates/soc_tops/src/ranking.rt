@@ -5,7 +5,8 @@ ghost use Rattle.std.specs.List.Sorted.{IsNonDecreasing};
 ghost use Rattle.std.specs.Ordering.{nat_cmp};
 ghost use Rattle.soc_schema.specs.declared.value.Cell.{Cell};
 ghost use Rattle.soc_store.specs.Stored.{PlacesRise, rows_with, values_of};
-ghost use Rattle.soc_tops.specs.Tops.{in_order, signature_field};
+ghost use Rattle.soc_schema.specs.Fields.{signature_field};
+ghost use Rattle.soc_tops.specs.Tops.{in_order};
 ghost use Rattle.soc_tops.specs.inner.Ranks.{AreBelow, index_rank, numbered};
 
 use soc_raw::NoMemory;

@@ -2,6 +2,7 @@
 -- numbers stand there is this project's profile; where they stand is the layout of minidumps.
 use Rattle.std.specs.Prelude.{ℕ, ◌+◌, ◌-◌, List, [], ◌∷◌, ◌++◌, codes, flat_map, length, replicate}
 use Rattle.std.specs.Int.{to_le_bytes, w16, w32, w64}
+use Rattle.soc_text.specs.Digits.{zero}
 
 -- bytes at a place of the dump
 pub record Field : Type 0 where
@@ -99,7 +100,7 @@ wide text = flat_map (λ code. to_le_bytes w16 code) text
 
 -- `made0.dll` to `made4.dll`
 abbrev pub name_of_module : ℕ → List ℕ
-name_of_module digit = codes "made" ++ ((48 + digit) ∷ codes ".dll")
+name_of_module digit = codes "made" ++ ((zero + digit) ∷ codes ".dll")
 
 -- the name's length in bytes, and the name
 abbrev pub name_fields : ℕ → List Field

@@ -1,7 +1,7 @@
 -- What has come of a body behind a delimiter. Its last line alone may be a delimiter, or begin one.
 use Rattle.std.specs.Prelude.{◌≡◌, ◌≢◌, ℕ, ◌-◌, ◌<◌, ◌≤◌, Bool, true, false, ◌==◌, not, List, [], ◌∷◌, ◌++◌, length, take, drop, Option, None, Some}
 use Rattle.std.specs.List.{AllPass}
-use Rattle.soc_text.specs.Lines.{crlf}
+use Rattle.soc_text.specs.Lines.{carriage_return, line_feed, crlf}
 use Rattle.soc_multipart.specs.declared.delimiters.Ending.{Ending}
 use Rattle.soc_multipart.specs.declared.delimiters.Ending.TheVariants as end
 use Rattle.soc_multipart.specs.declared.tails.Kind.{Kind}
@@ -10,11 +10,11 @@ use Rattle.soc_multipart.specs.Delimiters.{Opens, Closes, IsAtDelimiter, Reaches
 
 -- a byte inside a line, which a line feed ends
 abbrev pub is_inline : ℕ → Bool
-is_inline byte = not (byte == 10)
+is_inline byte = not (byte == line_feed)
 
 -- the bytes are the rest of a line with its line feed, or hold none
 abbrev pub IsOfLine : List ℕ → Bool → Type 0
-IsOfLine bytes true = (body : List ℕ) × (bytes ≡ body ++ 10 ∷ []) × AllPass is_inline body
+IsOfLine bytes true = (body : List ℕ) × (bytes ≡ body ++ line_feed ∷ []) × AllPass is_inline body
 IsOfLine bytes false = AllPass is_inline bytes
 
 -- no delimiter stands before that place of the text, whatever follows the text
@@ -40,13 +40,13 @@ MayHoldLine mark before bytes (Some place) = HoldsLine mark before bytes place
 
 -- so much is known of the bytes, where these came before
 pub record Watches (mark before bytes : List ℕ) (line : Option ℕ) : Type 0 where
-  pub no_return : (front : List ℕ) → before ≢ front ++ 13 ∷ []
+  pub no_return : (front : List ℕ) → before ≢ front ++ carriage_return ∷ []
   pub holds : MayHoldLine mark before bytes line
 
 -- the same of the bytes before the line feed that they end with
 pub record EndsLineIn (mark before bytes : List ℕ) (line : Option ℕ) : Type 0 where
   pub body : List ℕ
-  pub whole : bytes ≡ body ++ 10 ∷ []
+  pub whole : bytes ≡ body ++ line_feed ∷ []
   pub watches : Watches mark before body line
 
 -- the same, and the line is no delimiter

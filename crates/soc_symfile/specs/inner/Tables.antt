@@ -8,7 +8,11 @@ use Rattle.soc_symfile.specs.declared.error.SymError.TheVariants.{BadLine, NoMem
 use Rattle.soc_symfile.specs.declared.tables.Tables.TheInside.{Inside}
 use Rattle.soc_symfile.specs.Line.{ExtentEntry, LabelEntry, FileEntry, LineEntry}
 use Rattle.soc_symfile.specs.Records.{Records, records_in, is_bad, first_bad, unless_bad}
-use Rattle.soc_symfile.specs.Views.{owner_entry, label_entry, file_entry}
+use Rattle.soc_symfile.specs.Views.{extent_entry, label_entry, file_entry}
+
+-- an owner with its part of the table of all parts
+abbrev pub owner_entry : {P Q : Type 0} → (P → Q) → List P → Owner → ExtentEntry × List Q
+owner_entry part parts owner = (extent_entry owner.extent, map part (slice_range parts owner.first owner.end))
 
 -- each owner's part of a table of n lies in it, and the last one's reaches to its end
 abbrev pub AreLaidOut : List Owner → ℕ → Type 0

@@ -2,7 +2,7 @@ use Rattle.std.proofs.Common.{◌≡◌, List, length}
 use Rattle.soc_edge.specs.DiskLog.{content_of, disk_told}
 use Rattle.soc_journal.specs.Entries.{Entry}
 use Rattle.soc_journal.specs.Text.{JournalText}
-use Rattle.soc_bench.specs.Journals.{HasFound}
+use Rattle.soc_bench.specs.inner.Journals.{HasFound}
 use Rattle.soc_bench.proofs.journal.found_on.Given as goal
 
 abbrev pub invariant-loop-found : goal.invariant-loop-found

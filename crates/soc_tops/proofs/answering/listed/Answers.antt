@@ -1,6 +1,6 @@
 use Rattle.std.proofs.lemmas.List.{get_or_default}
 use Rattle.soc_store.specs.Stored.{values_of}
-use Rattle.soc_tops.specs.Tops.{signature_field}
+use Rattle.soc_schema.specs.Fields.{signature_field}
 use Rattle.soc_tops.specs.inner.Ranks.{top_at}
 use Rattle.soc_tops.proofs.RankLemmas.{listed_more}
 use Rattle.soc_tops.proofs.answering.listed.Goals as goal

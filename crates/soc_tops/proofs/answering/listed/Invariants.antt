@@ -1,7 +1,7 @@
 use Rattle.std.proofs.Common.{◌≡◌, map, take}
 use Rattle.std.specs.List.{enumerate_from}
 use Rattle.soc_store.specs.Stored.{values_of}
-use Rattle.soc_tops.specs.Tops.{signature_field}
+use Rattle.soc_schema.specs.Fields.{signature_field}
 use Rattle.soc_tops.specs.inner.Ranks.{top_at}
 use Rattle.soc_tops.proofs.answering.listed.Given as goal
 

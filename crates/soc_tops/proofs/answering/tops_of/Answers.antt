@@ -6,7 +6,8 @@ use Rattle.soc_schema.specs.declared.value.Value.{Value}
 use Rattle.soc_schema.specs.declared.value.Cell.{Cell}
 use Rattle.soc_schema.specs.Permits.{shows}
 use Rattle.soc_store.specs.Stored.{product_of, rows_with, values_of}
-use Rattle.soc_tops.specs.Tops.{in_order, is_asked, ranking_of, rows_between, signature_field, top_of}
+use Rattle.soc_schema.specs.Fields.{signature_field}
+use Rattle.soc_tops.specs.Tops.{in_order, is_asked, ranking_of, rows_between, top_of}
 use Rattle.soc_tops.specs.inner.Ranks.{AreBelow, index_rank, numbered, top_at}
 use Rattle.soc_tops.proofs.RankLemmas.{by_count, first_below, ranking_below, ranking_is, same_tops, tops_are}
 use Rattle.soc_tops.proofs.answering.tops_of.Goals as goal

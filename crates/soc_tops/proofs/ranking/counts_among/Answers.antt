@@ -1,6 +1,6 @@
 use Rattle.std.proofs.Common.{◌∙◌, ap, arith, count_by}
 use Rattle.soc_store.specs.Stored.{places_of, values_of}
-use Rattle.soc_tops.specs.Tops.{signature_field}
+use Rattle.soc_schema.specs.Fields.{signature_field}
 use Rattle.soc_tops.proofs.RankLemmas.{mapped_at}
 use Rattle.soc_tops.proofs.RowLemmas.{counts_are, stands_in}
 use Rattle.soc_tops.proofs.ranking.counts_among.Goals as goal

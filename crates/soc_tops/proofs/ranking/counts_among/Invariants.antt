@@ -1,6 +1,6 @@
 use Rattle.std.proofs.Common.{◌≡◌, map, take, count_by}
 use Rattle.soc_store.specs.Stored.{places_of, values_of}
-use Rattle.soc_tops.specs.Tops.{signature_field}
+use Rattle.soc_schema.specs.Fields.{signature_field}
 use Rattle.soc_tops.proofs.RowLemmas.{stands_in}
 use Rattle.soc_tops.proofs.ranking.counts_among.Given as goal
 

@@ -3,11 +3,11 @@ use Rattle.std.specs.Prelude.{◌&&◌}
 use Rattle.std.specs.List.Sorted.{IsNonDecreasing}
 use Rattle.soc_raw.specs.declared.no_memory.NoMemory.{NoMemory}
 use Rattle.soc_schema.specs.declared.value.Value.TheVariants.{Text}
-use Rattle.soc_schema.specs.Fields.{product_field}
+use Rattle.soc_schema.specs.Fields.{product_field, version_field}
 use Rattle.soc_schema.specs.Permits.{shows}
 use Rattle.soc_store.specs.Stored.{places_of, product_of}
 use Rattle.soc_tops.specs.declared.rows.Found.{Found}
-use Rattle.soc_tops.specs.Tops.{is_asked, rows_between, version_field}
+use Rattle.soc_tops.specs.Tops.{is_asked, rows_between}
 use Rattle.soc_tops.proofs.RowLemmas.{asked_among, hidden_rows, places_rise}
 use Rattle.soc_tops.proofs.rows.rows_found.Goals as goal
 

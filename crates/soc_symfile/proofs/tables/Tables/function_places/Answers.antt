@@ -1,6 +1,5 @@
 use Rattle.std.proofs.lemmas.Simd.{map-map}
-use Rattle.soc_symfile.specs.inner.Tables.{same_line, owner_address}
-use Rattle.soc_symfile.specs.Views.{owner_entry}
+use Rattle.soc_symfile.specs.inner.Tables.{owner_entry, same_line, owner_address}
 use Rattle.soc_symfile.proofs.tables.Tables.function_places.Goals as goal
 
 pub returns : goal.returns

@@ -1,6 +1,6 @@
 use Rattle.std.proofs.lemmas.Simd.{map-map}
-use Rattle.soc_symfile.specs.inner.Tables.{owner_address}
-use Rattle.soc_symfile.specs.Views.{owner_entry, label_entry}
+use Rattle.soc_symfile.specs.inner.Tables.{owner_entry, owner_address}
+use Rattle.soc_symfile.specs.Views.{label_entry}
 use Rattle.soc_symfile.proofs.tables.Tables.init_places.Goals as goal
 
 pub returns : goal.returns
