@@ -6,10 +6,10 @@ use Rattle.soc_forms.specs.declared.reasons.Reason.{Reason}
 use Rattle.soc_forms.specs.declared.reasons.Reason.TheVariants.{ContentEncoding, NoContentType, WrongContentType, NoBoundary, NoFirst, BadPartHead, NoClose, TooManyParts, BadExtra, ExtraAndPlain, TooManyAnnotations, NoAnnotations}
 use Rattle.soc_multipart.specs.Delimiters.{IsBoundary}
 use Rattle.soc_text.specs.Blanks.{trimmed}
-use Rattle.soc_multipart.specs.Params.{ParamText, AreParams, lower, value_of}
+use Rattle.soc_multipart.specs.Params.{ParamText, AreParams, lower, semicolon, value_of}
 
 abbrev pub is_semicolon : ℕ → Bool
-is_semicolon byte = byte == 59
+is_semicolon byte = byte == semicolon
 
 -- what stands before the first semicolon, without the blanks around it
 abbrev pub media_of : List ℕ → List ℕ
