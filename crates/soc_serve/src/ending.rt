@@ -7,7 +7,7 @@ use soc_session::SessionEnd;
 
 /// What became of the reports that a run keeps for later ones.
 #[derive(Clone, Copy)]
-pub(crate) enum Keeping {
+pub enum Keeping {
     /// The session's end is one after which nothing is kept.
     Nothing,
     /// So many were kept.
@@ -20,7 +20,7 @@ pub(crate) enum Keeping {
 
 /// How a run ends.
 #[derive(Clone, Copy)]
-pub(crate) enum RunEnd {
+pub enum RunEnd {
     /// With the session, and the reports after it.
     Served(SessionEnd, Keeping),
     /// What the command writes was written.
@@ -45,7 +45,7 @@ pub(crate) enum RunEnd {
 
 impl RunEnd {
     /// The status that the process ends with.
-    pub(crate) fn status(self) -> u8
+    pub fn status(self) -> u8
         ensures { result ≡ status_of self }
     {
         match self {

@@ -14,6 +14,12 @@ mod texts;
 mod token_text;
 mod words;
 
+pub use ending::{Keeping, RunEnd};
+pub use opening::open;
+pub use refusal::{FileRefusal, FilesFault};
+pub use replay::refuse_text;
 pub use settings::{Settings, SettingsError};
+pub use setup::{Setup, set_up};
+pub use texts::{Texts, read_texts};
 pub use token_text::{TokensError, read_tokens};
-pub use words::run_words;
+pub use words::{run_words, tell_usage};

@@ -23,7 +23,7 @@ use std::alloc::Global;
 
 /// Reads the disk's journal, or ends the run, with a line that tells why where the journal is refused.
 #[tactic(auto, using(crate::proofs::OpeningLemmas::opens_not))]
-pub(crate) fn open<R: Reporter, K: Sink, D: Disk>(
+pub fn open<R: Reporter, K: Sink, D: Disk>(
     alloc: Global,
     reporter: &R,
     limits: Limits,

@@ -14,7 +14,7 @@ use std::alloc::Global;
 
 /// Which file is refused, or that the journal is, and why.
 #[derive(Drop)]
-pub(crate) enum FileRefusal {
+pub enum FileRefusal {
     SettingsNotToml,
     BadSetting { key: Text },
     BadRule { index: u32 },
@@ -34,7 +34,7 @@ pub(crate) enum FileRefusal {
 
 /// Why a run's files give nothing to go by.
 #[derive(Drop)]
-pub(crate) enum FilesFault {
+pub enum FilesFault {
     Refused(FileRefusal),
     /// The tree failed.
     Tree,

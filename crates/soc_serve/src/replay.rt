@@ -85,7 +85,7 @@ fn run<T: Tree, X: Source + Sink, D: Disk, C: Clock, W: Draws, P: Maker>(
 }
 
 /// Writes the line that tells which file is refused.
-fn refuse_text<K: Sink>(alloc: Global, output: &mut K, refusal: &FileRefusal) -> RunEnd
+pub fn refuse_text<K: Sink>(alloc: Global, output: &mut K, refusal: &FileRefusal) -> RunEnd
     ensures refuses { RefusesText (K.told output.old) (K.told output.new) refusal.now result }
     ensures cause { result ≡ RunEnd.LineFault → WriteFailed (K.told output.old) (K.told output.new) }
     ensures only { OnlyWrites (K.told output.old) (K.told output.new) }

@@ -12,13 +12,13 @@ use std::alloc::Global;
 
 /// What a run goes by.
 #[derive(Drop)]
-pub(crate) struct Setup {
-    pub(crate) rules: Rules,
-    pub(crate) limits: Limits,
+pub struct Setup {
+    pub rules: Rules,
+    pub limits: Limits,
 }
 
 /// What `settings.toml` and `tokens.toml` say, or the first of them that is refused.
-pub(crate) fn set_up(alloc: Global, settings: &[u8], tokens: &[u8]) -> Result<Setup, FilesFault>
+pub fn set_up(alloc: Global, settings: &[u8], tokens: &[u8]) -> Result<Setup, FilesFault>
     ensures { MatchResult result (λ setup. setup_of settings.now tokens.now ≡ Ok setup) (IsSetupFault (setup_of settings.now tokens.now)) }
 {
     let settings = Settings::read(alloc, settings)?;

@@ -12,15 +12,15 @@ use std::alloc::Global;
 
 /// The bytes of the files that a run goes by. One that is missing counts as empty, but for a symbol file.
 #[derive(Drop)]
-pub(crate) struct Texts {
-    pub(crate) settings: Bytes,
-    pub(crate) tokens: Bytes,
-    pub(crate) kit: KitText,
+pub struct Texts {
+    pub settings: Bytes,
+    pub tokens: Bytes,
+    pub kit: KitText,
 }
 
 /// Reads the files in order.
 #[tactic(auto, using(crate::proofs::TextLemmas::texts_are, crate::proofs::TextLemmas::read_fault))]
-pub(crate) fn read_texts<T: Tree>(alloc: Global, tree: &mut T) -> Result<Texts, FilesFault>
+pub fn read_texts<T: Tree>(alloc: Global, tree: &mut T) -> Result<Texts, FilesFault>
     ensures told { IfOk result (λ texts. IfSome (T.told tree.old).files (λ files. AreTexts files texts)) }
     ensures refused { IfErr result (λ fault. IfSome (T.told tree.old).files (λ files. IsReadFault files fault)) }
     ensures kinds { IfErr result IsOfReading }

@@ -130,7 +130,7 @@ fn made_end(end: MakeEnd) -> RunEnd
 }
 
 /// Writes how the program is used.
-fn tell_usage<K: Sink>(output: &mut K) -> RunEnd
+pub fn tell_usage<K: Sink>(output: &mut K) -> RunEnd
     ensures tells { TellsUsage (K.told output.old) (K.told output.new) result }
     ensures cause { status_of result ≡ 7 → WriteFailed (K.told output.old) (K.told output.new) }
     ensures only { OnlyWrites (K.told output.old) (K.told output.new) }
