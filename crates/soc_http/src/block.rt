@@ -2,7 +2,8 @@
 ghost use Rattle.std.specs.Prelude.{◌≡◌, ◌==◌, length, map, count_by, IfOk, IfErr, MatchOption, IsUtf8};
 ghost use Rattle.std.specs.List.{All, before_first, after_first};
 ghost use Rattle.httparse.specs.Spans.{IsRequestWithin, IsHeaderWithin, header_bytes};
-ghost use Rattle.soc_http.specs.Block.{HasFewLines, line_feed};
+ghost use Rattle.soc_text.specs.Lines.{line_feed};
+ghost use Rattle.soc_http.specs.Block.{HasFewLines};
 ghost use Rattle.soc_http.specs.Request.{verb_of, is_query_mark, lossy_line};
 ghost use Rattle.soc_http.specs.inner.Framing.{IsWholeRequest};
 ghost use Rattle.soc_http.specs.Message.{HeadOf, HasNoHead, RefusesBlock, OrNoMemory};
