@@ -1,0 +1,35 @@
+//! Where connections come from.
+ghost use Rattle.std.specs.Prelude.{OnErr, IfOk, MatchOption};
+ghost use Rattle.soc_listen.specs.Told.{ListenerTold, HandsOver, Ends, AcceptFailed};
+
+use crate::Conn;
+use soc_edge::Failed;
+
+/// Hands out connections, one after another.
+pub trait Listener: Send {
+    /// What it hands out.
+    type Conn: Conn;
+
+    /// How many connections it has handed out, whether it has ended, those that it has left where it tells them, and how
+    /// often a call has failed.
+    ghost told: { Self → ListenerTold };
+
+    /// The next connection. `None` means that no further one comes: it has ended then, and from then on only `None`
+    /// comes. After `Failed` it may be asked again.
+    fn accept(&mut self) -> Result<Option<Self::Conn>, Failed>
+        ensures gives { IfOk result (λ conn. MatchOption conn
+            (Ends (told self.old) (told self.new))
+            (λ c. HandsOver (told self.old) (told self.new) (Self.Conn.told c))) }
+        ensures fails { OnErr result (AcceptFailed (told self.old) (told self.new)) };
+}
+
+/// A listener that is lent hands out the same connections.
+impl<L: Listener> Listener for &mut L {
+    type Conn = L::Conn;
+
+    ghost told = { λ l. L.told l.now };
+
+    fn accept(&mut self) -> Result<Option<L::Conn>, Failed> {
+        (**self).accept()
+    }
+}
