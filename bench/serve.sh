@@ -163,7 +163,7 @@ kept() {
             count=$(part "$4")
             serving "$3" "$result"
             figures=$(loaded "$count" "$2" "$folder/$1.http")
-            line "$result $1, $2 connections" "$figures" two_syncs "$(of_disk "$count" "$count" "$result")"
+            line "$result $1, connections $2" "$figures" two_syncs "$(of_disk "$count" "$count" "$result")"
         done
     done
 }
@@ -175,7 +175,7 @@ of_antenna() {
         for kind in "1KB 8 4000" "100KB 4 1000" "1MB 4 200"; do
             set -- $kind
             antenna "$sync"
-            line "antenna.py ($sync) $1, $2 connections" "$(loaded "$(part "$3")" "$2" "$folder/$1.http")"
+            line "antenna.py ($sync) $1, connections $2" "$(loaded "$(part "$3")" "$2" "$folder/$1.http")"
         done
     done
 }
@@ -194,7 +194,7 @@ dropped() {
             nginx_reading
             other=$(loaded "$count" 8 -P /memory "$folder/$2.http")
         fi
-        line "$1, 8 connections" "$figures" nginx "$other"
+        line "$1, connections 8" "$figures" nginx "$other"
     done
 }
 
@@ -206,12 +206,12 @@ reads() {
     printf 'GET /api/ProcessedCrash/?crash_id=%s HTTP/1.1\r\n\r\n' "$id" >"$folder/report.http"
     curl -sS -f --retry 20 --retry-all-errors --retry-delay 1 -o "$folder/output" "http://127.0.0.1:$port/api/ProcessedCrash/?crash_id=$id"
     count=$(part 20000)
-    line "reports, 2 connections, alone" "$(loaded "$count" 2 -e '{' "$folder/report.http")"
+    line "reports alone, connections 2" "$(loaded "$count" 2 -e '{' "$folder/report.http")"
     loaded "$count" 6 "$folder/1KB.http" >"$folder/beside" &
     beside=$!
-    line "reports, 2 connections, beside" "$(loaded "$count" 2 -e '{' "$folder/report.http")"
+    line "reports beside, connections 2" "$(loaded "$count" 2 -e '{' "$folder/report.http")"
     wait "$beside"
-    line "1KB, 6 connections, beside those" "$(cat "$folder/beside")"
+    line "accept 1KB beside, connections 6" "$(cat "$folder/beside")"
 }
 
 # Memory, of which the index of crashes is a part.
