@@ -104,6 +104,11 @@ impl<'a, R: Net + Clock> Sink for SocketConn<'a, R> {
 }
 
 impl<'a, R: Net<Stream = TcpStream> + Clock + Sync> Conn for SocketConn<'a, R> {
+    ghost use Rattle.std.specs.Prelude.{◌≡◌};
+
+    ghost Pokes = { λ before after. after ≡ before };
+
+    /// Connects to the listener's address, and lets go of that at once. Whether it came about doesn't show here.
     fn poke(&mut self) {
         let _stream = TcpStream::connect_timeout(self.rt, &self.door, self.limits.poke);
     }
