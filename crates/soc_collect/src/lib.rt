@@ -1,0 +1,13 @@
+//! One connection served at a desk that may stop, and the count of what was served.
+#![tactic(auto)]
+
+mod desk;
+mod serving;
+mod shut;
+mod tally;
+mod watch;
+
+pub use desk::KeepingDesk;
+pub use serving::serve_one;
+pub use shut::Shut;
+pub use tally::Tally;

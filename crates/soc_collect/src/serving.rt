@@ -1,0 +1,146 @@
+//! One connection served.
+ghost use Rattle.std.specs.Prelude.{◌≡◌, ◌<◌, ◌≤◌, ◌+◌, ◌-◌, ◌^◌, [], Bool, false, Some, IfNone};
+ghost use Rattle.soc_edge.specs.Ahead.{outlook};
+ghost use Rattle.soc_edge.specs.Told.{HasCause, NeverFall};
+ghost use Rattle.soc_desk.specs.declared.desk.Command.TheVariants.{Fetch};
+ghost use Rattle.soc_desk.specs.declared.desk.Receipt.{Receipt};
+ghost use Rattle.soc_session.specs.Session.{around};
+ghost use Rattle.soc_collect.specs.Serving.{ServesOne, Tallied, PokedWhere, no_crash};
+
+use crate::desk::KeepingDesk;
+use crate::shut::Shut;
+use crate::tally::Tally;
+use crate::watch::Watched;
+use soc_desk::{Command, Desk};
+use soc_edge::{Clock, Draws, Sink, Source};
+use soc_http::{Buffer, Routes};
+use soc_listen::Conn;
+use soc_raw::CrashId;
+use soc_session::{Rules, SessionEnd, session};
+use std::alloc::Global;
+
+/// The id that no crash has: no draw gives version 0.
+const NO_CRASH: &str = "00000000-0000-0000-0000-000000000101";
+
+/// Serves one connection: looks in one turn whether the desk has stopped, and where it hasn't answers the connection's
+/// messages. Where a receipt said stopped the connection is poked, so that its listener's next wait ends.
+pub fn serve_one<K: KeepingDesk, X: Conn, C: Clock, W: Draws>(
+    alloc: Global,
+    desk: &mut K,
+    served: &mut Tally<X>,
+    conn: X,
+    rules: &Rules,
+    routes: &Routes,
+    buffer: &mut Buffer,
+    clock: &mut C,
+    draws: &mut W,
+) -> Shut<X>
+    requires connections { served.old.connections + 1 < 2 ^ 64 }
+    requires kept { served.old.kept < 2 ^ 63 }
+    ensures serves { (stopped : Bool) × (read : X)
+        × ServesOne K.Asks rules.now
+        (around (X.told conn) desk.old (outlook (C.told clock.old) (W.told draws.old)))
+        (around (X.told read) desk.new (outlook (C.told clock.new) (W.told draws.new)))
+        buffer.new result.end stopped
+        × PokedWhere X.Pokes stopped read result.conn
+        × Tallied served.old served.new (K.added desk.old) (K.added desk.new) stopped }
+    ensures never_fall { NeverFall (X.told conn) (X.told result.conn) }
+    ensures unread { IfNone result.end (X.told result.conn ≡ X.told conn) }
+    ensures cause { HasCause (result.end ≡ Some SessionEnd.ReadFault) (result.end ≡ Some SessionEnd.WriteFault) (X.told conn) (X.told result.conn) }
+{
+    let mut conn = conn;
+    buffer.clear();
+    let kept = desk.kept();
+    let (end, stopped) = attend(alloc, desk, &mut conn, rules, routes, buffer, clock, draws);
+    if stopped {
+        conn.poke();
+    }
+    served.count(desk.kept() - kept, stopped);
+    Shut { conn, end }
+}
+
+/// Looks in one turn whether the desk has stopped, and where it hasn't answers the connection's messages. Also answers
+/// whether a receipt said stopped.
+fn attend<K: KeepingDesk, X: Source + Sink, C: Clock, W: Draws>(
+    alloc: Global,
+    desk: &mut K,
+    conn: &mut X,
+    rules: &Rules,
+    routes: &Routes,
+    buffer: &mut Buffer,
+    clock: &mut C,
+    draws: &mut W,
+) -> (Option<SessionEnd>, bool)
+    requires { buffer.old ≡ [] }
+    ensures serves { ServesOne K.Asks rules.now
+        (around (X.told conn.old) desk.old (outlook (C.told clock.old) (W.told draws.old)))
+        (around (X.told conn.new) desk.new (outlook (C.told clock.new) (W.told draws.new)))
+        buffer.new result.0 result.1 }
+    ensures added { (K.added desk.old ≤ K.added desk.new) × (K.added desk.new < 2 ^ 63) }
+    ensures never_fall { NeverFall (X.told conn.old) (X.told conn.new) }
+    ensures unread { IfNone result.0 (X.told conn.new ≡ X.told conn.old) }
+    ensures cause { HasCause (result.0 ≡ Some SessionEnd.ReadFault) (result.0 ≡ Some SessionEnd.WriteFault) (X.told conn.old) (X.told conn.new) }
+{
+    let mut watched = Watched {
+        desk,
+        stopped: false,
+    };
+    let end = answer(
+        alloc,
+        &mut watched,
+        conn,
+        rules,
+        routes,
+        buffer,
+        clock,
+        draws,
+    );
+    (end, watched.stopped)
+}
+
+/// The same at a desk that is watched, which tells afterwards whether a receipt said stopped.
+fn answer<K: KeepingDesk, X: Source + Sink, C: Clock, W: Draws>(
+    alloc: Global,
+    watched: &mut Watched<'_, K>,
+    conn: &mut X,
+    rules: &Rules,
+    routes: &Routes,
+    buffer: &mut Buffer,
+    clock: &mut C,
+    draws: &mut W,
+) -> Option<SessionEnd>
+    requires window { buffer.old ≡ [] }
+    requires unstopped { watched.old.stopped ≡ false }
+    ensures same_desk { watched.new.desk.ghost_name ≡ watched.old.desk.ghost_name }
+    ensures serves { ServesOne K.Asks rules.now
+        (around (X.told conn.old) watched.old.desk.now (outlook (C.told clock.old) (W.told draws.old)))
+        (around (X.told conn.new) watched.new.desk.now (outlook (C.told clock.new) (W.told draws.new)))
+        buffer.new result watched.new.stopped }
+    ensures added { (K.added watched.old.desk.now ≤ K.added watched.new.desk.now) × (K.added watched.new.desk.now < 2 ^ 63) }
+    ensures never_fall { NeverFall (X.told conn.old) (X.told conn.new) }
+    ensures unread { IfNone result (X.told conn.new ≡ X.told conn.old) }
+    ensures cause { HasCause (result ≡ Some SessionEnd.ReadFault) (result ≡ Some SessionEnd.WriteFault) (X.told conn.old) (X.told conn.new) }
+{
+    if has_stopped(watched) {
+        return None;
+    }
+    let end = session(alloc, watched, conn, rules, routes, buffer, clock, draws);
+    Some(end)
+}
+
+/// Asks the desk for no crash, to see whether it has stopped.
+fn has_stopped<K: Desk>(desk: &mut K) -> bool
+    ensures { (receipt : Receipt) × K.Asks desk.old (Fetch no_crash) receipt desk.new × (result ≡ receipt.stopped) }
+{
+    desk.ask(Command::Fetch { id: no_crash() }).stopped
+}
+
+/// The id that no crash has.
+fn no_crash() -> CrashId
+    ensures { result ≡ no_crash }
+{
+    let Some(id) = CrashId::parse(NO_CRASH) else {
+        unreachable!()
+    };
+    id
+}
