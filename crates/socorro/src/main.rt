@@ -6,6 +6,7 @@ mod disk;
 mod draws;
 mod folder;
 mod journal_file;
+mod socket;
 mod streams;
 #[cfg(test)]
 mod tests;
