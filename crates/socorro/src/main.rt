@@ -1,4 +1,5 @@
-//! The program: it makes the real folder, input, output, journal's file, clock and draws, and leaves the rest to `soc_serve`.
+//! The program: it makes the real folder, input, output, address, journal's file, clock and draws, and leaves the rest to
+//! `soc_serve`, and over an address to `soc_host`.
 #![tactic(auto)]
 
 mod clock;
@@ -15,7 +16,9 @@ use clock::SystemClock;
 use draws::SystemDraws;
 use folder::Folder;
 use journal_file::JournalFile;
+use socket::{SocketLimits, SocketListener};
 use soc_edge::{Both, ReadAhead};
+use soc_host::run_listener;
 use soc_serve::run_words;
 use soc_siglists::RegexMaker;
 use soc_words::{Task, Words, WordsError};
@@ -48,21 +51,62 @@ fn main(rt: HostRuntime) -> ExitCode {
     ExitCode::from(status)
 }
 
-/// Runs the program over the files that its words name. Only `replay` needs a clock and random bytes.
+/// Runs the program over what its words name. Only `replay` and `serve` need a clock and random bytes.
 fn run_said(rt: &HostRuntime, words: &[String], said: &Words) -> u8 {
-    let draws = match said.command {
-        Task::Replay => {
-            if !clock::can_be_read(rt) {
-                return READ_FAULT;
-            }
-            let Ok(draws) = SystemDraws::new(rt) else {
-                return READ_FAULT;
-            };
-            draws
+    let (journal, tree) = (said.journal.as_str(), said.tree.as_str());
+    match said.command {
+        Task::Replay => match draws_of(rt) {
+            Some(draws) => run(rt, words, journal, tree, draws),
+            None => READ_FAULT,
+        },
+        Task::Serve => match draws_of(rt) {
+            Some(draws) => serve(rt, words, journal, tree, said.listen.as_str(), draws),
+            None => READ_FAULT,
+        },
+        Task::Check | Task::Make | Task::Storm => {
+            run(rt, words, journal, tree, SystemDraws::none())
         }
-        _ => SystemDraws::none(),
+    }
+}
+
+/// Random draws, where the system gives random bytes and its clock can be read.
+fn draws_of(rt: &HostRuntime) -> Option<SystemDraws> {
+    if !clock::can_be_read(rt) {
+        return None;
+    }
+    SystemDraws::new(rt).ok()
+}
+
+/// Runs the service over an address, a journal's file and a folder.
+fn serve(
+    rt: &HostRuntime,
+    words: &[String],
+    journal: &str,
+    tree: &str,
+    address: &str,
+    draws: SystemDraws,
+) -> u8 {
+    let Ok(mut disk) = ReadAhead::new(rt.alloc(), JournalFile::new(rt, journal)) else {
+        return NO_MEMORY;
     };
-    run(rt, words, said.journal.as_str(), said.tree.as_str(), draws)
+    let mut tree = Folder::new(rt, tree);
+    let mut listener = SocketListener::new(rt, address, SocketLimits::of_service());
+    let mut output = OutputStream::new(rt.stdout());
+    let mut clock = SystemClock::new(rt);
+    let mut draws = draws;
+    let mut maker = RegexMaker::new();
+    run_listener(
+        rt,
+        rt.alloc(),
+        words,
+        &mut tree,
+        &mut listener,
+        &mut output,
+        &mut disk,
+        &mut clock,
+        &mut draws,
+        &mut maker,
+    )
 }
 
 /// Runs the program over a journal's file and a folder.

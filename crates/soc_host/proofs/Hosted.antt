@@ -1,0 +1,80 @@
+-- The service by what its words and its files say.
+use Rattle.std.proofs.Common.{◌≡◌, ℕ, List, Option, Some, refl, sym, subst, inl, inr, arith}
+use Rattle.soc_raw.specs.Record.{Crash}
+use Rattle.soc_schema.specs.declared.value.Cell.{Cell}
+use Rattle.soc_report.specs.Texts.{KitTexts}
+use Rattle.soc_words.specs.declared.words.Task.{Task}
+use Rattle.soc_words.specs.declared.words.Task.TheVariants as T
+use Rattle.soc_words.specs.declared.words.Words.{Words}
+use Rattle.soc_serve.specs.declared.ending.RunEnd.{RunEnd}
+use Rattle.soc_serve.specs.declared.ending.RunEnd.TheVariants as R
+use Rattle.soc_serve.specs.declared.setup.Setup.{Setup}
+use Rattle.soc_serve.specs.Ends as run
+use Rattle.soc_serve.specs.Opening.{OpensNot}
+use Rattle.soc_serve.specs.Outside.{Outside, Surroundings}
+use Rattle.soc_serve.specs.Replay.{digest_of, rows_of}
+use Rattle.soc_host.specs.declared.ending.HostEnd.{HostEnd}
+use Rattle.soc_host.specs.declared.ending.HostEnd.TheVariants as H
+use Rattle.soc_host.specs.declared.lines.LinesFault.TheVariants as L
+use Rattle.soc_host.specs.declared.sweep.SweepFault.TheVariants as S
+use Rattle.soc_host.specs.Ends.{status_of}
+use Rattle.soc_host.specs.Hosts.{EndsEarly, Hosts, HostsSaid, HostsTask, HostsWords}
+use Rattle.soc_host.specs.inner.Hosting.{HostsFiles}
+use Rattle.soc_host.specs.inner.Serving.{ServesDesk}
+
+-- a kit is seen as its texts
+pub serves_with : (kit texts : KitTexts) (setup : Setup) (before after : Surroundings) (end : HostEnd) → kit ≡ texts
+    → ServesDesk (rows_of kit) (digest_of kit) setup before after end → ServesDesk (rows_of texts) (digest_of texts) setup before after end
+serves_with kit texts setup before after end same serves = subst (λ k. ServesDesk (rows_of k) (digest_of k) setup before after end) same serves
+
+early_of : (before after : Outside) (end : RunEnd) → HostsFiles before after (H.Before end) → EndsEarly before after end
+early_of before after R.JournalRefused files = record { said = files.said; says = files.says; runs = files.serves.not }
+early_of before after R.OpenFault files = (record { said = files.said; says = files.says; runs = files.serves.not }, files.serves.cause refl)
+early_of before after R.LineFault files = inr (record { said = files.said; says = files.says; runs = files.serves.not })
+early_of before after R.NoMemory files = files.serves.not
+early_of before after (R.Served _ _) files = absurd files.serves.not
+early_of before after R.TextRefused files = absurd files.serves.not
+early_of before after R.TreeFault files = absurd files.serves.not
+early_of before after R.MakerFault files = absurd files.serves.not
+early_of before after R.Written files = absurd files.serves.not
+early_of before after R.Usage files = absurd files.serves.not
+
+pub hosts_of : (before after : Outside) (end : HostEnd) → HostsFiles before after end → Hosts before after end
+hosts_of before after (H.Before end) files = early_of before after end files
+hosts_of before after (H.Swept fault) files = record { said = files.said; says = files.says; hosts = files.serves }
+hosts_of before after (H.Lines fault) files = record { said = files.said; says = files.says; hosts = files.serves }
+hosts_of before after H.Failed files = record { said = files.said; says = files.says; hosts = files.serves }
+hosts_of before after H.Done files = record { said = files.said; says = files.says; hosts = files.serves }
+
+-- neither the tree nor the maker of patterns is blamed once the files are read
+BlamesNeither : ℕ → Type 0
+BlamesNeither status = (status ≡ 8 → ⊥) × (status ≡ 11 → ⊥)
+
+early_blames : (before after : Surroundings) (end : RunEnd) → OpensNot before after end → BlamesNeither (run.status_of end)
+unfolding BlamesNeither
+early_blames before after R.JournalRefused not = ((λ is. omega (arith, is)), (λ is. omega (arith, is)))
+early_blames before after R.LineFault not = ((λ is. omega (arith, is)), (λ is. omega (arith, is)))
+early_blames before after R.OpenFault not = ((λ is. omega (arith, is)), (λ is. omega (arith, is)))
+early_blames before after R.NoMemory not = ((λ is. omega (arith, is)), (λ is. omega (arith, is)))
+early_blames before after (R.Served _ _) never = absurd never
+early_blames before after R.Written never = absurd never
+early_blames before after R.Usage never = absurd never
+early_blames before after R.TextRefused never = absurd never
+early_blames before after R.TreeFault never = absurd never
+early_blames before after R.MakerFault never = absurd never
+
+pub blames_neither : (row_of : Crash → List Cell) (digest : Option (List ℕ)) (setup : Setup) (before after : Surroundings) (end : HostEnd) → ServesDesk row_of digest setup before after end
+    → (status_of end ≡ 8 → ⊥) × (status_of end ≡ 11 → ⊥)
+unfolding BlamesNeither
+blames_neither row_of digest setup before after (H.Before end) serves = early_blames before after end serves.not
+blames_neither row_of digest setup before after (H.Swept S.Disk) serves = ((λ is. omega (arith, is)), (λ is. omega (arith, is)))
+blames_neither row_of digest setup before after (H.Swept S.NoMemory) serves = ((λ is. omega (arith, is)), (λ is. omega (arith, is)))
+blames_neither row_of digest setup before after (H.Lines L.Cut) serves = ((λ is. omega (arith, is)), (λ is. omega (arith, is)))
+blames_neither row_of digest setup before after (H.Lines L.NoMemory) serves = ((λ is. omega (arith, is)), (λ is. omega (arith, is)))
+blames_neither row_of digest setup before after H.Failed serves = ((λ is. omega (arith, is)), (λ is. omega (arith, is)))
+blames_neither row_of digest setup before after H.Done serves = ((λ is. omega (arith, is)), (λ is. omega (arith, is)))
+
+pub hosts_words : (said : Option Words) (words : Words) (before after : Outside) (end : HostEnd) → said ≡ Some words → words.command ≡ T.Serve → Hosts before after end
+    → HostsWords said before after end
+hosts_words said words before after end is serve hosts =
+    inl (subst (λ (s : Option Words). HostsSaid s before after end) (sym is) (subst (λ (task : Task). HostsTask task before after end) (sym serve) hosts))

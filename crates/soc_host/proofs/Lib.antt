@@ -1,0 +1,5 @@
+pub mod Askings
+pub mod Hosted
+pub mod Hostings
+pub mod Listeners
+pub mod Sweeps

@@ -1,0 +1,6 @@
+pub mod Asked
+pub mod Ends
+pub mod Hosts
+pub mod Lines
+pub mod Sweep
+pub mod inner

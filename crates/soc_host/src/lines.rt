@@ -1,0 +1,58 @@
+//! The lines that the service ends with.
+ghost use Rattle.std.specs.Prelude.{◌≡◌, ◌++◌, IfOk, IsErrOf};
+ghost use Rattle.soc_edge.specs.Told.{OnlyWrites, WriteFailed};
+ghost use Rattle.soc_serve.specs.Check.{count_line};
+ghost use Rattle.soc_host.specs.Lines.{Tells, lines_of};
+
+use soc_edge::{Sink, write_all};
+use soc_raw::{Bytes, NoMemory};
+use std::alloc::Global;
+
+/// What became of the lines.
+#[derive(Clone, Copy, Debug, PartialEq, Eq)]
+pub enum LinesFault {
+    /// The output failed.
+    Cut,
+    /// An allocation was refused, and nothing was written.
+    NoMemory,
+}
+
+/// Writes how many crashes are held and how many of them have a report.
+pub(crate) fn tell_counts<K: Sink>(
+    alloc: Global,
+    output: &mut K,
+    crashes: u32,
+    reports: u32,
+) -> Result<(), LinesFault>
+    ensures tells { Tells (K.told output.old) (K.told output.new) (lines_of crashes reports) result }
+    ensures cause { IsErrOf result LinesFault.Cut → WriteFailed (K.told output.old) (K.told output.new) }
+    ensures only { OnlyWrites (K.told output.old) (K.told output.new) }
+{
+    let Ok(text) = counts_text(alloc, crashes, reports) else {
+        return Err(LinesFault::NoMemory);
+    };
+    match write_all(output, text.as_slice()) {
+        Ok(()) => Ok(()),
+        Err(_) => Err(LinesFault::Cut),
+    }
+}
+
+fn counts_text(alloc: Global, crashes: u32, reports: u32) -> Result<Bytes, NoMemory>
+    ensures { IfOk result (λ text. text ≡ lines_of crashes reports) }
+{
+    let mut text = Vec::new(alloc);
+    push_line(&mut text, b"crashes ", crashes)?;
+    push_line(&mut text, b"reports ", reports)?;
+    Ok(Bytes::from(text))
+}
+
+/// Adds a line with a name and a number.
+fn push_line(text: &mut Vec<u8>, name: &[u8], count: u32) -> Result<(), NoMemory>
+    ensures { IfOk result (λ _. text.new.items ≡ text.old.items ++ count_line name.now count) }
+{
+    let mut digits = itoa::Buffer::new();
+    text.extend_from_slice(name)?;
+    text.extend_from_slice(digits.format(count).as_bytes())?;
+    text.push(b'\n')?;
+    Ok(())
+}

@@ -1,0 +1,12 @@
+//! What threads of the service share: a listener, a clock and draws that they take turns at, and how they are started.
+#![tactic(auto)]
+
+mod crew;
+mod door;
+mod shared;
+#[cfg(test)]
+mod tests;
+
+pub use crew::side_by_side;
+pub use door::Door;
+pub use shared::{SharedClock, SharedDraws};
