@@ -5,6 +5,8 @@ mod desk;
 mod serving;
 mod shut;
 mod tally;
+#[cfg(test)]
+mod tests;
 mod watch;
 
 pub use desk::KeepingDesk;
