@@ -1,0 +1,5 @@
+mod Answered
+mod Booked
+mod Counted
+mod Options
+mod Worked

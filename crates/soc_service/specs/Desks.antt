@@ -1,0 +1,31 @@
+-- What a desk in a hall does with its seat and its pass.
+use Rattle.std.specs.Prelude.{◌≡◌, ◌⊎◌, ℕ, ◌+◌, List, Option, None, Some, IsSomeAnd}
+use Rattle.soc_hall.specs.declared.seats.HallSeat.{HallSeat}
+use Rattle.soc_hall.specs.Seats.{known_of}
+use Rattle.soc_pool.specs.declared.jobs.Job.TheVariants as J
+use Rattle.soc_pool.specs.declared.jobs.TheConstants.{PLACES}
+use Rattle.soc_pool.specs.declared.pass.Pass.{Pass}
+use Rattle.soc_pool.specs.Passes.{seen_of, fulls_of, empties_of, once_more}
+use Rattle.soc_pool.specs.Ring.{Puts, WasHolding}
+use Rattle.soc_desk.specs.declared.desk.Command.{Command}
+use Rattle.soc_desk.specs.declared.desk.Receipt.{Receipt}
+use Rattle.soc_turns.specs.declared.change.Change.{Change}
+use Rattle.soc_turns.specs.Changes.{events_in, kept_in}
+use Rattle.soc_service.specs.Turns.{Turn}
+
+-- the job of the crash was put, or the ring was full, which the pass has counted
+abbrev pub PutsOrMissed : List ℕ → Pass → Pass → Type 0
+PutsOrMissed id before after =
+    (Puts (seen_of before) (J.Crash id) (seen_of after) × (fulls_of after ≡ fulls_of before))
+    ⊎ ((seen_of after ≡ seen_of before) × WasHolding PLACES (seen_of before) × (fulls_of after ≡ once_more (fulls_of before)))
+
+-- nothing was put, or the job of this crash, once
+abbrev pub PutsJob : Option (List ℕ) → Pass → Pass → Type 0
+PutsJob None before after = after ≡ before
+PutsJob (Some id) before after = PutsOrMissed id before after × (empties_of after ≡ empties_of before)
+
+module _ {T B S : Type 0} (log_of : T → List Change) (basis_of : T → B) (asks : T → Command → Receipt → T → Type 0) (answers : B → List Change → Command → Receipt → List Change → Type 0) where
+  -- The seat made one turn of the command. What the turn's piece keeps is counted.
+  abbrev pub TakesTurn : Option (HallSeat S B Change Command Receipt) → ℕ → Command → Receipt → Option (HallSeat S B Change Command Receipt) → ℕ → Type 0
+  TakesTurn before kept command receipt after kept' = IsSomeAnd before (λ s. IsSomeAnd after (λ t.
+      (turn : Turn log_of basis_of asks answers (known_of s) command receipt (known_of t)) × (kept' ≡ kept + kept_in (events_in turn.asked.piece))))

@@ -1,0 +1,5 @@
+pub mod Due
+pub mod Turns
+pub mod Desks
+pub mod Works
+pub mod inner

@@ -1,0 +1,157 @@
+//! A desk that asks its commands in a hall.
+ghost use Rattle.std.specs.Prelude.{◌≡◌, ◌≤◌, Some, false, IfSome, IsSomeAnd, length};
+ghost use Rattle.soc_hall.specs.Seats.{IsSeatOf, MayAsk, known_of, seen_of};
+ghost use Rattle.soc_pool.specs.Passes.{IsPassOf};
+ghost use Rattle.soc_service.specs.Desks.{PutsJob, TakesTurn};
+
+use crate::due::{asked_id, due_after, is_either, keeps_all, kept_between};
+use crate::gate::{Gate, Point};
+use crate::turn::take_turn;
+use soc_desk::{Command, Desk, Receipt};
+use soc_hall::{Hall, Logged, Seat};
+use soc_pool::{Job, Jobs, Pass};
+use soc_raw::CrashId;
+use soc_schema::Reporter;
+use soc_turns::{SharedBook, Telling};
+use std::alloc::Global;
+use std::sync::Wait;
+
+/// A desk that asks each command in a turn of its seat in a hall, and puts the job of a crash that becomes due into a ring.
+#[derive(Drop)]
+pub struct HallDesk<'h, 'a, D: Telling, R: Reporter, G: Gate, W: Wait> {
+    rt: &'h W,
+    alloc: Global,
+    hall: &'h Hall<SharedBook<'a, D, R>>,
+    jobs: &'h Jobs,
+    gate: &'h G,
+    // There, but for the middle of a turn.
+    seat: Option<Seat<SharedBook<'a, D, R>>>,
+    pass: Option<Pass>,
+    stopped: bool,
+    kept: u64,
+    ghost sits: { ∥ IsSomeAnd seat (λ s. IsSeatOf hall.now s × (kept ≤ length (seen_of (known_of s)))) ∥₁ },
+    ghost passes: { ∥ IsSomeAnd pass (λ p. IsPassOf jobs.now p) ∥₁ },
+}
+
+impl<'h, 'a, D: Telling, R: Reporter, G: Gate, W: Wait> HallDesk<'h, 'a, D, R, G, W> {
+    /// A desk that takes its turns by this seat, and puts jobs by this pass.
+    pub fn new(
+        rt: &'h W,
+        alloc: Global,
+        hall: &'h Hall<SharedBook<'a, D, R>>,
+        seat: Seat<SharedBook<'a, D, R>>,
+        jobs: &'h Jobs,
+        pass: Pass,
+        gate: &'h G,
+    ) -> HallDesk<'h, 'a, D, R, G, W>
+        requires seat { IsSeatOf hall.now seat }
+        requires pass { IsPassOf jobs.now pass }
+        ensures hall { result.hall.now ≡ hall.now }
+        ensures jobs { result.jobs.now ≡ jobs.now }
+        ensures seat { result.seat ≡ Some seat.entry }
+        ensures pass { result.pass ≡ Some pass }
+        ensures stopped { result.stopped ≡ false }
+        ensures kept { result.kept ≡ 0 }
+    {
+        HallDesk {
+            rt,
+            alloc,
+            hall,
+            jobs,
+            gate,
+            seat: Some(seat),
+            pass: Some(pass),
+            stopped: false,
+            kept: 0,
+        }
+    }
+
+    /// Whether a receipt that it gave said stopped.
+    pub fn stopped(&self) -> bool
+        ensures { result ≡ self.now.stopped }
+    {
+        self.stopped
+    }
+
+    /// How many changes its turns added that the journal keeps, and stops.
+    pub fn kept(&self) -> u64
+        ensures { result ≡ self.now.kept }
+    {
+        self.kept
+    }
+
+    /// Its seat and its pass.
+    pub fn end(self) -> (Seat<SharedBook<'a, D, R>>, Pass)
+        ensures seat { (self.entry.seat ≡ Some result.0) × IsSeatOf self.entry.hall.now result.0 }
+        ensures pass { (self.entry.pass ≡ Some result.1) × IsPassOf self.entry.jobs.now result.1 }
+    {
+        let (Some(seat), Some(pass)) = (self.seat, self.pass) else {
+            unreachable!()
+        };
+        (seat, pass)
+    }
+
+    // Asks the command in one turn.
+    fn turn(&mut self, command: Command) -> Receipt
+        requires { IfSome self.old.seat (λ s. MayAsk ⟦<SharedBook<'a, D, R> as Logged>⟧.may_ask (known_of s) command) }
+        ensures same { (self.new.hall ≡ self.old.hall) × (self.new.jobs ≡ self.old.jobs) × (self.new.pass ≡ self.old.pass) × (self.new.stopped ≡ self.old.stopped) }
+        ensures turn { TakesTurn ⟦<SharedBook<'a, D, R> as Logged>⟧.log_of ⟦<SharedBook<'a, D, R> as Logged>⟧.basis_of ⟦<SharedBook<'a, D, R> as Logged>⟧.asks ⟦<SharedBook<'a, D, R> as Logged>⟧.answers
+            self.old.seat self.old.kept command result self.new.seat self.new.kept }
+    {
+        let Some(seat) = self.seat.take() else {
+            unreachable!()
+        };
+        let keeps = keeps_all(&command);
+        let (seat, answer) = take_turn(self.rt, self.alloc, self.hall, seat, command);
+        let kept = kept_between(keeps, answer.start, answer.front);
+        self.seat = Some(seat);
+        self.kept += kept;
+        answer.reply
+    }
+
+    // Puts the job of a crash, where there is one, once. A full ring leaves it to a later sweep.
+    fn put(&mut self, due: Option<CrashId>)
+        ensures same { (self.new.hall ≡ self.old.hall) × (self.new.jobs ≡ self.old.jobs) × (self.new.seat ≡ self.old.seat) × (self.new.stopped ≡ self.old.stopped) × (self.new.kept ≡ self.old.kept) }
+        ensures put { IsSomeAnd self.old.pass (λ p. IsSomeAnd self.new.pass (λ q. PutsJob due p q)) }
+    {
+        let Some(id) = due else {
+            return;
+        };
+        let Some(pass) = self.pass.take() else {
+            unreachable!()
+        };
+        let pass = match self.jobs.put(self.rt, pass, Job::Crash(id)) {
+            Ok(pass) => pass,
+            Err((pass, _)) => pass,
+        };
+        self.pass = Some(pass);
+    }
+}
+
+impl<'h, 'a, D: Telling, R: Reporter, G: Gate, W: Wait> Desk for HallDesk<'h, 'a, D, R, G, W> {
+    ghost use Rattle.std.specs.Prelude.{◌≡◌, IsSomeAnd, IfSome, ◌||◌};
+    ghost use Rattle.soc_hall.specs.Seats.{MayAsk, known_of, seen_of};
+    ghost use Rattle.soc_turns.specs.inner.Stays.{may_others};
+    ghost use Rattle.soc_service.specs.Desks.{PutsJob, TakesTurn};
+    ghost use Rattle.soc_service.specs.Due.{asked_id, due_after};
+    ghost use Rattle.soc_service.specs.inner.Options.{for_some};
+
+    ghost Allows = { λ desk command. IfSome desk.seat (λ s. MayAsk ⟦<SharedBook<'a, D, R> as Logged>⟧.may_ask (known_of s) command) };
+
+    ghost Asks = { λ before command receipt after. (after.hall ≡ before.hall) × (after.jobs ≡ before.jobs)
+        × TakesTurn ⟦<SharedBook<'a, D, R> as Logged>⟧.log_of ⟦<SharedBook<'a, D, R> as Logged>⟧.basis_of ⟦<SharedBook<'a, D, R> as Logged>⟧.asks ⟦<SharedBook<'a, D, R> as Logged>⟧.answers
+        before.seat before.kept command receipt after.seat after.kept
+        × IsSomeAnd before.pass (λ p. IsSomeAnd after.pass (λ q. PutsJob (due_after (asked_id command) receipt.reply) p q))
+        × (after.stopped ≡ (before.stopped || receipt.stopped)) };
+
+    fn ask(&mut self, command: Command) -> Receipt {
+        let asked = asked_id(&command);
+        let receipt = self.turn(command);
+        self.put(due_after(asked, &receipt.reply));
+        self.stopped = is_either(self.stopped, receipt.stopped);
+        self.gate.at(Point::Asked);
+        receipt
+    }
+
+    ghost allows_others = { λ desk command needs_nothing. for_some desk.seat (λ s basis is. may_others (R.row_of basis.reporter) D.tells (seen_of (known_of s)) command needs_nothing) };
+}

@@ -1,0 +1,112 @@
+//! A processor: it takes the jobs of crashes out of a ring, and gives each crash its report.
+ghost use Rattle.std.specs.Prelude.{◌≡◌, ◌++◌, IfSome};
+ghost use Rattle.soc_hall.specs.Seats.{IsSeatOf, known_of};
+ghost use Rattle.soc_pool.specs.Passes.{IsPassOf, fulls_of, seen_of};
+ghost use Rattle.soc_service.specs.Works.{Worked, crash_jobs, last_job};
+
+use crate::gate::{Gate, Point};
+use crate::lists::Lists;
+use crate::process::process;
+use soc_hall::{Hall, Logged, Seat};
+use soc_pool::{Job, Jobs, Pass};
+use soc_raw::CrashId;
+use soc_schema::Reporter;
+use soc_turns::{SharedBook, Telling};
+use std::alloc::Global;
+use std::sync::Wait;
+
+/// Why a processor stopped.
+#[derive(Clone, Copy, Debug, PartialEq, Eq)]
+pub enum WorkerStop {
+    /// It took an `End`.
+    Ended,
+    /// An allocation failed.
+    NoMemory,
+}
+
+/// What a processor leaves.
+#[derive(Drop)]
+pub struct WorkerEnd<S> {
+    pub seat: S,
+    pub pass: Pass,
+    /// The crashes whose jobs it took, in order. One that was taken twice stands here twice.
+    pub taken: Vec<CrashId>,
+    /// Those that it gave a report.
+    pub made: Vec<CrashId>,
+    /// Those that weren't due, or not any longer. A crash that isn't held is one of these.
+    pub stale: Vec<CrashId>,
+    /// Those that couldn't be read.
+    pub missed: Vec<CrashId>,
+    pub stop: WorkerStop,
+}
+
+// The lists of a processor that stopped.
+fn end_of<S>(lists: Lists, seat: S, pass: Pass, stop: WorkerStop) -> WorkerEnd<S>
+    ensures given { (result.seat ≡ seat) × (result.pass ≡ pass) × (result.stop ≡ stop) }
+    ensures lists { (result.taken ≡ lists.taken) × (result.made ≡ lists.made) × (result.stale ≡ lists.stale) × (result.missed ≡ lists.missed) }
+{
+    let Lists {
+        taken,
+        made,
+        stale,
+        missed,
+    } = lists;
+    WorkerEnd {
+        seat,
+        pass,
+        taken,
+        made,
+        stale,
+        missed,
+        stop,
+    }
+}
+
+/// Makes the reports of the crashes whose jobs it takes, by the book's own reporter, until it takes an `End`. Where the
+/// ring is empty it sleeps. Where memory is wanting, it stops.
+pub fn worker<'a, D: Telling, R: Reporter, G: Gate, W: Wait>(
+    rt: &W,
+    alloc: Global,
+    hall: &Hall<SharedBook<'a, D, R>>,
+    mut seat: Seat<SharedBook<'a, D, R>>,
+    jobs: &Jobs,
+    mut pass: Pass,
+    reporter: &R,
+    gate: &G,
+) -> WorkerEnd<Seat<SharedBook<'a, D, R>>>
+    requires seat { IsSeatOf hall.now seat }
+    requires pass { IsPassOf jobs.now pass }
+    requires reporter { IfSome (known_of seat).basis (λ basis. basis.reporter ≡ reporter.now) }
+    ensures seat { IsSeatOf hall.now result.seat }
+    ensures pass { IsPassOf jobs.now result.pass }
+    ensures taken { (seen_of result.pass).takes ≡ (seen_of pass).takes ++ (crash_jobs result.taken.items ++ last_job result.stop) }
+    ensures puts_none { ((seen_of result.pass).number ≡ (seen_of pass).number) × ((seen_of result.pass).puts ≡ (seen_of pass).puts) × (fulls_of result.pass ≡ fulls_of pass) }
+    ensures worked { Worked ⟦<SharedBook<'a, D, R> as Logged>⟧.log_of ⟦<SharedBook<'a, D, R> as Logged>⟧.basis_of ⟦<SharedBook<'a, D, R> as Logged>⟧.asks ⟦<SharedBook<'a, D, R> as Logged>⟧.answers
+        (known_of seat.entry) result.taken.items result.made.items result.stale.items result.missed.items result.stop (known_of result.seat) }
+{
+    let mut lists = Lists::new(alloc);
+    for _ in rt.forever() {
+        if lists.taken.reserve(1).is_err() {
+            return end_of(lists, seat, pass, WorkerStop::NoMemory);
+        }
+        let (after, job) = jobs.next(rt, pass);
+        pass = after;
+        let id = match job {
+            Job::Crash(id) => id,
+            Job::End => return end_of(lists, seat, pass, WorkerStop::Ended),
+        };
+        lists.taken.push_reserved(id);
+        gate.at(Point::Taken);
+        let (after, outcome) = process(rt, alloc, hall, seat, reporter, gate, id);
+        seat = after;
+        let outcome = match outcome {
+            Some(outcome) => outcome,
+            None => return end_of(lists, seat, pass, WorkerStop::NoMemory),
+        };
+        match lists.note(id, outcome) {
+            Ok(()) => {}
+            Err(_) => return end_of(lists, seat, pass, WorkerStop::NoMemory),
+        }
+    }
+    unreachable!()
+}

@@ -1,0 +1,4 @@
+pub mod Codes
+pub mod Idle
+pub mod Logs
+pub mod Sharing

@@ -1,0 +1,4 @@
+pub mod Grounds
+pub mod Changes
+pub mod Turns
+pub mod inner

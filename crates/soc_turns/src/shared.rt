@@ -1,0 +1,122 @@
+//! A book as the state of a hall.
+ghost use Rattle.std.specs.Prelude.{◌≡◌, ◌≤◌, IfOk, IfSome};
+ghost use Rattle.soc_edge.specs.Disk.{GoesOn, LeavesOnly};
+ghost use Rattle.soc_vault.specs.Openings.{OpeningLeaves};
+ghost use Rattle.soc_desk.specs.Basis.{Basis};
+ghost use Rattle.soc_desk.specs.State.{State};
+ghost use Rattle.soc_book.specs.Openings.{IsBasisOf, OpensBook};
+ghost use Rattle.soc_book.specs.inner.Stands.{Stands};
+ghost use Rattle.soc_turns.specs.Grounds.{desk_basis};
+
+use crate::change::{Change, Grounds};
+use crate::telling::Telling;
+use soc_book::{Book, Prepared};
+use soc_desk::{Limits, Receipt};
+use soc_edge::Disk;
+use soc_hall::Logged;
+use soc_journal::OpenError;
+use soc_schema::Reporter;
+use std::alloc::Global;
+use std::snapshot::Snapshot;
+
+/// A book that stands for a state of the desk's log.
+#[derive(Drop)]
+pub struct SharedBook<'a, D: Telling, R: Reporter> {
+    pub(crate) book: Book<'a, D, R>,
+    // The disk as it was when the book was opened.
+    pub(crate) opened: Snapshot<D>,
+    ghost stands: { ∥ ((state : State) × Stands (desk_basis (R.row_of book.reporter.now) (R.digest_of book.reporter.now) book.limits D.tells) book.limits book.ledger book.store book.doubt book.vault.journal (D.state book.vault.disk.now) state) ∥₁ },
+    ghost no_fewer_faults: { (D.state opened.value).faults ≤ (D.state book.vault.disk.now).faults },
+}
+
+impl<'a, D: Telling, R: Reporter> SharedBook<'a, D, R> {
+    /// The book that a disk's journal keeps, as `Book::open` opens it.
+    pub fn open(
+        alloc: Global,
+        disk: &'a mut D,
+        reporter: &'a R,
+        limits: Limits,
+    ) -> Result<SharedBook<'a, D, R>, OpenError>
+        ensures same_disk { IfOk result (λ shared. shared.book.vault.disk.ghost_name ≡ disk.entry.ghost_name) }
+        ensures opened { IfOk result (λ shared. shared.opened.value ≡ disk.old) }
+        ensures limits { IfOk result (λ shared. shared.book.limits ≡ limits) }
+        ensures reporter { IfOk result (λ shared. shared.book.reporter.now ≡ reporter.now) }
+        ensures opens { IfOk result (λ shared. (basis : Basis) → IsBasisOf (R.row_of reporter.now) (R.digest_of reporter.now) limits (D.state disk.old).content basis
+            → OpensBook basis (D.state disk.old) (D.state shared.book.vault.disk.now)
+            (Stands basis shared.book.limits shared.book.ledger shared.book.store shared.book.doubt shared.book.vault.journal (D.state shared.book.vault.disk.now))) }
+        ensures any_moment { IfOk result (λ shared. IfSome (D.state disk.old).content (λ bytes.
+            LeavesOnly (D.state disk.old) (D.state shared.book.vault.disk.now) (OpeningLeaves (D.state disk.old).images bytes))) }
+        ensures goes_on { IfOk result (λ shared. GoesOn (D.state disk.old) (D.state shared.book.vault.disk.now)) }
+    {
+        let opened = Snapshot::of(&*disk);
+        let book = Book::open(alloc, disk, reporter, limits)?;
+        Ok(SharedBook::new(book, opened))
+    }
+
+    /// A book to be shared, over a disk that was so when the book was opened.
+    pub fn new(book: Book<'a, D, R>, opened: Snapshot<D>) -> SharedBook<'a, D, R>
+        requires stands { (state : State) × Stands (desk_basis (R.row_of book.reporter.now) (R.digest_of book.reporter.now) book.limits D.tells) book.limits book.ledger book.store book.doubt book.vault.journal (D.state book.vault.disk.now) state }
+        requires faults { (D.state opened.value).faults ≤ (D.state book.vault.disk.now).faults }
+        ensures book { result.book ≡ book.entry }
+        ensures opened { result.opened.value ≡ opened.value }
+    {
+        SharedBook { book, opened }
+    }
+
+    /// The book.
+    pub fn into_book(self) -> Book<'a, D, R>
+        ensures { result ≡ self.entry.book }
+    {
+        self.book
+    }
+}
+
+impl<'a, D: Telling, R: Reporter> Logged for SharedBook<'a, D, R> {
+    ghost use Rattle.soc_desk.specs.State.{State};
+    ghost use Rattle.soc_desk.specs.Kinds.{IsReplyTo};
+    ghost use Rattle.soc_book.specs.Books.{AsksBook};
+    ghost use Rattle.soc_book.specs.inner.Stands.{Stands};
+    ghost use Rattle.soc_turns.specs.Changes.{body_at, changes_at};
+    ghost use Rattle.soc_turns.specs.Turns.{Answers, MayAsk};
+    ghost use Rattle.soc_turns.specs.inner.Stays.{may_still};
+
+    type Command = Prepared;
+
+    type Reply = Receipt;
+
+    type Change = Change;
+
+    type Basis = Grounds<R>;
+
+    ghost log_of = { λ s. changes_at (body_at D.tells (D.state s.book.vault.disk.now).content) s.book.ledger.log s.book.ledger.crashes };
+
+    ghost basis_of = { λ s. record {
+      reporter = s.book.reporter.now;
+      limits = s.book.limits;
+      lent = s.book.vault.disk.ghost_name;
+      faults = (D.state s.opened.value).faults;
+    } };
+
+    ghost asks = { λ before command receipt after. (after.book.vault.disk.ghost_name ≡ before.book.vault.disk.ghost_name)
+        × (after.book.limits ≡ before.book.limits)
+        × (after.book.reporter.now ≡ before.book.reporter.now)
+        × IsReplyTo command receipt.reply
+        × AsksBook (R.row_of before.book.reporter.now) (λ basis state. Stands basis before.book.limits before.book.ledger before.book.store before.book.doubt before.book.vault.journal (D.state before.book.vault.disk.now) state)
+        (D.state before.book.vault.disk.now) command receipt
+        (λ basis state. Stands basis after.book.limits after.book.ledger after.book.store after.book.doubt after.book.vault.journal (D.state after.book.vault.disk.now) state)
+        (D.state after.book.vault.disk.now) };
+
+    ghost answers = { λ basis log command receipt log'. ∥ Answers (desk_basis (R.row_of basis.reporter) (R.digest_of basis.reporter) basis.limits D.tells) log command receipt log' ∥₁ };
+
+    ghost may_ask = { λ basis log command. MayAsk (R.row_of basis.reporter) D.tells log command };
+
+    fn turn(&mut self, command: Prepared) -> Receipt {
+        self.book.ask_prepared(command)
+    }
+
+    fn front(&self) -> u64 {
+        self.book.front()
+    }
+
+    ghost may_still = { λ basis log more command may. may_still (R.row_of basis.reporter) D.tells log more command may };
+}

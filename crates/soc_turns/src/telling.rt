@@ -1,0 +1,28 @@
+//! Kinds of disks that always tell their content, or never.
+ghost use Rattle.std.specs.Prelude.{◌≡◌, Bool, is_some};
+
+use soc_edge::{Disk, MemDisk};
+
+/// A kind of disks that always tell their content, or never.
+pub trait Telling: Disk {
+    // Whether disks of this kind tell their content.
+    ghost tells: { Bool };
+
+    ghost steady: { (disk : Self) → is_some (Self.state disk).content ≡ tells };
+}
+
+impl Telling for MemDisk {
+    ghost use Rattle.std.specs.Prelude.{true};
+    ghost use Rattle.std.proofs.Common.{refl};
+
+    ghost tells = { true };
+
+    ghost steady = { λ _. refl };
+}
+
+/// A disk that is lent tells what it told.
+impl<D: Telling> Telling for &mut D {
+    ghost tells = { D.tells };
+
+    ghost steady = { λ disk. D.steady disk.now };
+}
