@@ -1,5 +1,6 @@
 -- One connection served at a desk. This project's profile.
 use Rattle.std.specs.Prelude.{◌≡◌, ℕ, ◌+◌, Bool, true, false, ◌||◌, List, [], ◌∷◌, Option, None, Some, codes}
+use Rattle.soc_edge.specs.Told.{Told}
 use Rattle.soc_desk.specs.declared.desk.Command.{Command}
 use Rattle.soc_desk.specs.declared.desk.Command.TheVariants as C
 use Rattle.soc_desk.specs.declared.desk.Receipt.{Receipt}
@@ -40,7 +41,11 @@ pub record Tallied (before after : Counts) (added_before added_after : ℕ) (sai
   pub kept : after.kept + added_before ≡ before.kept + added_after
   pub stopped : after.stopped ≡ (before.stopped || said_stopped)
 
--- it was poked once where a receipt said stopped, and else not
-abbrev pub PokedWhere : {X : Type 0} → (X → X → Type 0) → Bool → X → X → Type 0
-PokedWhere pokes true before after = pokes before after
-PokedWhere pokes false before after = after ≡ before
+-- one poke where there is to be one
+abbrev pub PokesIf : {X : Type 0} → (X → X → Type 0) → Bool → X → X → Type 0
+PokesIf pokes true before after = pokes before after
+PokesIf pokes false before after = after ≡ before
+
+-- it was poked once where a receipt said stopped, and else not, and tells afterwards what it told before
+abbrev pub WasPokedWhere : {X : Type 0} → (X → Told) → (X → X → Type 0) → Bool → X → Type 0
+WasPokedWhere {X} told pokes stopped conn = (before : X) × (told conn ≡ told before) × PokesIf pokes stopped before conn

@@ -1,10 +1,14 @@
-//! One connection served at a desk that may stop, and the count of what was served.
+//! One connection served at a desk that may stop, and the count of what was served. The desk is any that counts what it
+//! keeps; a desk in a hall does.
 #![tactic(auto)]
 
 mod desk;
+mod hall;
 mod serving;
 mod shut;
 mod tally;
+#[cfg(test)]
+mod tests;
 mod watch;
 
 pub use desk::KeepingDesk;

@@ -5,7 +5,7 @@ ghost use Rattle.soc_edge.specs.Told.{HasCause, NeverFall};
 ghost use Rattle.soc_desk.specs.declared.desk.Command.TheVariants.{Fetch};
 ghost use Rattle.soc_desk.specs.declared.desk.Receipt.{Receipt};
 ghost use Rattle.soc_session.specs.Session.{around};
-ghost use Rattle.soc_collect.specs.Serving.{ServesOne, Tallied, PokedWhere, no_crash};
+ghost use Rattle.soc_collect.specs.Serving.{ServesOne, Tallied, WasPokedWhere, no_crash};
 
 use crate::desk::KeepingDesk;
 use crate::shut::Shut;
@@ -37,13 +37,13 @@ pub fn serve_one<K: KeepingDesk, X: Conn, C: Clock, W: Draws>(
 ) -> Shut<X>
     requires connections { served.old.connections + 1 < 2 ^ 64 }
     requires kept { served.old.kept < 2 ^ 63 }
-    ensures serves { (stopped : Bool) × (read : X)
+    ensures serves { (stopped : Bool)
         × ServesOne K.Asks rules.now
         (around (X.told conn) desk.old (outlook (C.told clock.old) (W.told draws.old)))
-        (around (X.told read) desk.new (outlook (C.told clock.new) (W.told draws.new)))
+        (around (X.told result.conn) desk.new (outlook (C.told clock.new) (W.told draws.new)))
         buffer.new result.end stopped
-        × PokedWhere X.Pokes stopped read result.conn
-        × Tallied served.old served.new (K.added desk.old) (K.added desk.new) stopped }
+        × Tallied served.old served.new (K.added desk.old) (K.added desk.new) stopped
+        × WasPokedWhere X.told X.Pokes stopped result.conn }
     ensures never_fall { NeverFall (X.told conn) (X.told result.conn) }
     ensures unread { IfNone result.end (X.told result.conn ≡ X.told conn) }
     ensures cause { HasCause (result.end ≡ Some SessionEnd.ReadFault) (result.end ≡ Some SessionEnd.WriteFault) (X.told conn) (X.told result.conn) }
