@@ -42,7 +42,8 @@ use Rattle.soc_book.specs.Openings.{IsBasisOf, OpensBook}
 use Rattle.soc_book.specs.inner.Stands.{Stands}
 use Rattle.soc_book.proofs.Listings.{sound_accepted}
 use Rattle.soc_turns.specs.declared.change.Change.{Change}
-use Rattle.soc_turns.specs.Changes.{body_at, change_of, changes_at, changes_of, events_in, text_in}
+use Rattle.soc_turns.specs.Changes.{body_at, changes_at, events_in, text_in}
+use Rattle.soc_turns.specs.inner.Logs.{change_of, changes_of}
 use Rattle.soc_turns.specs.Grounds.{desk_basis}
 use Rattle.soc_turns.specs.Turns.{Answers, FetchesText, MayAsk, TellsIdle}
 use Rattle.soc_turns.proofs.Idle.{doubt_counts, tells_idle}

@@ -3,13 +3,10 @@
 use Rattle.std.specs.Prelude.{ℕ, suc, Bool, true, false, List, [], ◌∷◌, take, drop, map, Option, None, bytes_eq, if◌then◌else◌}
 use Rattle.std.specs.Int.{from_le_bytes, w32}
 use Rattle.std.specs.Option.{option_map}
-use Rattle.soc_raw.specs.Record.{record_of}
 use Rattle.soc_journal.specs.Entries.{head_size}
 use Rattle.soc_ledger.specs.declared.crash.Filed.{Filed}
 use Rattle.soc_ledger.specs.declared.event.Event.{Event}
 use Rattle.soc_ledger.specs.declared.event.Event.TheVariants as E
-use Rattle.soc_desk.specs.Basis.{Basis}
-use Rattle.soc_desk.specs.Log.{Change as Logged, accept, ask, withdraw, report, keep, done, stop, event_of}
 use Rattle.soc_turns.specs.declared.change.Change.{Change}
 
 abbrev pub events_in : List Change → List Event
@@ -57,19 +54,3 @@ changes_at text_at [] filed = []
 changes_at text_at (E.Accepted id ∷ events) [] = plain (E.Accepted id) ∷ changes_at text_at events []
 changes_at text_at (E.Accepted id ∷ events) (crash ∷ filed) = record { event = E.Accepted id; text = text_at crash.place } ∷ changes_at text_at events filed
 changes_at text_at (event ∷ events) filed = plain event ∷ changes_at text_at events filed
-
--- ---- the same of a desk's log
-
-abbrev pub text_of : Bool → Logged → Option (List ℕ)
-text_of told (keep (accept crash)) = if told then option_map record_of crash.raw else None
-text_of told (keep (ask id)) = None
-text_of told (keep (withdraw id)) = None
-text_of told (keep (report made)) = None
-text_of told (done id) = None
-text_of told stop = None
-
-abbrev pub change_of : Basis → Logged → Change
-change_of basis change = record { event = event_of basis change; text = text_of basis.is_told change }
-
-abbrev pub changes_of : Basis → List Logged → List Change
-changes_of basis log = map (change_of basis) log
