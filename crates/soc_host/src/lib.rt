@@ -7,6 +7,8 @@ mod lines;
 mod listening;
 mod serving;
 mod sweep;
+#[cfg(test)]
+mod tests;
 
 pub use ending::HostEnd;
 pub use hosting::run_listener;
