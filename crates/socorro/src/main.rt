@@ -16,15 +16,20 @@ use clock::SystemClock;
 use draws::SystemDraws;
 use folder::Folder;
 use journal_file::JournalFile;
-use soc_edge::{Both, ReadAhead};
+use soc_edge::{Both, ReadAhead, Sink};
 use soc_host::run_listener;
 use soc_serve::run_words;
 use soc_siglists::RegexMaker;
 use soc_words::{Task, Words, WordsError};
 use socket::{SocketLimits, SocketListener};
 use std::env;
+use std::fs::File;
 use std::io::{self, ErrorKind};
+use std::net::{Net, TcpListener, TcpStream};
 use std::process::ExitCode;
+use std::rt::Files;
+use std::sync::Wait;
+use std::time::Clock;
 use streams::{InputStream, OutputStream};
 
 /// The journal's file and the folder of other words' runs.
@@ -44,29 +49,32 @@ fn main(rt: HostRuntime) -> ExitCode {
         Err(error) => return ExitCode::from(status_of(&error)),
     };
     let status = match Words::read(rt.alloc(), words.as_slice()) {
-        Ok(said) => run_said(&rt, words.as_slice(), &said),
+        Ok(said) => match said.command {
+            Task::Serve => match draws_of(&rt) {
+                Some(draws) => {
+                    let mut output = OutputStream::new(rt.stdout());
+                    serve(&rt, words.as_slice(), &said, &mut output, draws)
+                }
+                None => READ_FAULT,
+            },
+            _ => run_said(&rt, words.as_slice(), &said),
+        },
         Err(WordsError::NotOurs) => run(&rt, words.as_slice(), JOURNAL, TREE, SystemDraws::none()),
         Err(WordsError::NoMemory) => NO_MEMORY,
     };
     ExitCode::from(status)
 }
 
-/// Runs the program over what its words name. Only `replay` and `serve` need a clock and random bytes.
+/// Runs a command that waits for nobody. Only `replay` needs a clock and random bytes.
 fn run_said(rt: &HostRuntime, words: &[String], said: &Words) -> u8 {
-    let (journal, tree) = (said.journal.as_str(), said.tree.as_str());
-    match said.command {
+    let draws = match said.command {
         Task::Replay => match draws_of(rt) {
-            Some(draws) => run(rt, words, journal, tree, draws),
-            None => READ_FAULT,
+            Some(draws) => draws,
+            None => return READ_FAULT,
         },
-        Task::Serve => match draws_of(rt) {
-            Some(draws) => serve(rt, words, journal, tree, said.listen.as_str(), draws),
-            None => READ_FAULT,
-        },
-        Task::Check | Task::Make | Task::Storm => {
-            run(rt, words, journal, tree, SystemDraws::none())
-        }
-    }
+        _ => SystemDraws::none(),
+    };
+    run(rt, words, said.journal.as_str(), said.tree.as_str(), draws)
 }
 
 /// Random draws, where the system gives random bytes and its clock can be read.
@@ -78,22 +86,23 @@ fn draws_of(rt: &HostRuntime) -> Option<SystemDraws> {
 }
 
 /// Runs the service over an address, a journal's file and a folder.
-fn serve(
-    rt: &HostRuntime,
-    words: &[String],
-    journal: &str,
-    tree: &str,
-    address: &str,
-    draws: SystemDraws,
-) -> u8 {
-    let Ok(mut disk) = ReadAhead::new(rt.alloc(), JournalFile::new(rt, journal)) else {
+fn serve<
+    R: Wait
+        + Net<Listener = TcpListener, Stream = TcpStream>
+        + Clock
+        + Files<File = File>
+        + AllocGlobal
+        + Sync,
+    K: Sink,
+>(rt: &R, words: &[String], said: &Words, output: &mut K, mut draws: SystemDraws) -> u8 {
+    let Ok(mut disk) = ReadAhead::new(rt.alloc(), JournalFile::new(rt, said.journal.as_str()))
+    else {
         return NO_MEMORY;
     };
-    let mut tree = Folder::new(rt, tree);
-    let mut listener = SocketListener::new(rt, address, SocketLimits::of_service());
-    let mut output = OutputStream::new(rt.stdout());
+    let mut tree = Folder::new(rt, said.tree.as_str());
+    let limits = SocketLimits::of_service();
+    let mut listener = SocketListener::new(rt, said.listen.as_str(), limits);
     let mut clock = SystemClock::new(rt);
-    let mut draws = draws;
     let mut maker = RegexMaker::new();
     run_listener(
         rt,
@@ -101,7 +110,7 @@ fn serve(
         words,
         &mut tree,
         &mut listener,
-        &mut output,
+        output,
         &mut disk,
         &mut clock,
         &mut draws,
