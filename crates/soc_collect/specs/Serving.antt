@@ -10,7 +10,7 @@ use Rattle.soc_session.specs.Desk.{says_stopped}
 use Rattle.soc_session.specs.Session.{Around, Response, met, refused, Serves}
 use Rattle.soc_collect.specs.Tallies.{Counts}
 
--- the id of no crash: a turn that asks for it looks whether the desk has stopped
+-- an id that is never drawn: a turn that asks for it looks whether the desk has stopped
 abbrev pub no_crash : List ℕ
 no_crash = codes "00000000-0000-0000-0000-000000000101"
 

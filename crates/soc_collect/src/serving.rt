@@ -19,7 +19,7 @@ use soc_raw::CrashId;
 use soc_session::{Rules, SessionEnd, session};
 use std::alloc::Global;
 
-/// The id that no crash has: no draw gives version 0.
+/// The id by which a turn looks whether the desk has stopped. No drawn id is this one, since a draw gives version 4.
 const NO_CRASH: &str = "00000000-0000-0000-0000-000000000101";
 
 /// Serves one connection: looks in one turn whether the desk has stopped, and where it hasn't answers the connection's
@@ -128,14 +128,14 @@ fn answer<K: KeepingDesk, X: Source + Sink, C: Clock, W: Draws>(
     Some(end)
 }
 
-/// Asks the desk for no crash, to see whether it has stopped.
+/// Asks the desk for an id that is never drawn, to see whether it has stopped.
 fn has_stopped<K: Desk>(desk: &mut K) -> bool
     ensures { (receipt : Receipt) × K.Asks desk.old (Fetch no_crash) receipt desk.new × (result ≡ receipt.stopped) }
 {
     desk.ask(Command::Fetch { id: no_crash() }).stopped
 }
 
-/// The id that no crash has.
+/// The id that is never drawn.
 fn no_crash() -> CrashId
     ensures { result ≡ no_crash }
 {
