@@ -1,6 +1,7 @@
 //! A listener that threads take turns at.
-ghost use Rattle.std.specs.Prelude.{◌≡◌, ◌≤◌, true, false};
+ghost use Rattle.std.specs.Prelude.{◌≡◌, ◌≤◌, true, false, MatchOption};
 ghost use Rattle.soc_edge.specs.Faults.{Rose};
+ghost use Rattle.soc_shared.specs.Doors.{GivesConn, GivesNone};
 ghost use Rattle.soc_shared.specs.inner.Rises.{has_risen};
 
 use soc_edge::Failed;
@@ -35,7 +36,10 @@ impl<L: Listener> Door<L> {
     /// The next connection. `None` where no further one comes, and where the listener fails.
     #[tactic(auto, using(crate::proofs::Rises::risen))]
     pub fn accept(&mut self) -> Option<L::Conn>
-        ensures { self.new.opened ≡ self.old.opened }
+        ensures opened { self.new.opened ≡ self.old.opened }
+        ensures gives { MatchOption result
+            (GivesNone (L.told self.old.listener) (L.told self.new.listener) self.old.failed self.new.failed)
+            (λ conn. GivesConn (L.told self.old.listener) (L.told self.new.listener) self.old.failed self.new.failed (L.Conn.told conn)) }
     {
         match self.listener.accept() {
             Ok(conn) => conn,
@@ -49,6 +53,8 @@ impl<L: Listener> Door<L> {
     /// Gives the listener back, and says whether it has failed since the door was made.
     #[tactic(auto, using(crate::proofs::Rises::rose_of))]
     pub fn close(self) -> (L, bool)
+        ensures listener { result.0 ≡ self.listener }
+        ensures failed { result.1 ≡ self.failed }
         ensures no_fewer { (L.told self.opened.value).faults ≤ (L.told result.0).faults }
         ensures rose { result.1 ≡ true → Rose (L.told self.opened.value).faults (L.told result.0).faults }
     {
