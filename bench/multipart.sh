@@ -1,5 +1,6 @@
 #!/usr/bin/env bash
-# Times the cutting of a body with one large dump, beside a C program that finds the same delimiters by memmem.
+# Times the cutting of a body with one large dump, whole and in pieces of 32 KiB, beside a C program that finds the same
+# delimiters by memmem. bench/peak.py tells the memory that a body takes.
 # usage: bench/multipart.sh [MEGABYTES]     (crates/soc_bench must be built: `cd crates/soc_bench && rt run`)
 set -eu
 cd "$(dirname "$0")/.."
@@ -14,5 +15,6 @@ gcc -O2 -Wall -Wextra -o "$folder/memmem" bench/memmem.c
 
 for dump in plain near; do
     "$program" multipart "$megabytes" "$dump"
+    "$program" feed "$megabytes" "$dump"
     "$folder/memmem" "$megabytes" "$dump"
 done

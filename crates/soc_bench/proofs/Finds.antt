@@ -1,5 +1,5 @@
 -- One more entry of a journal is found, or all of them were.
-use Rattle.std.proofs.Common.{◌≡◌, ℕ, ◌+◌, Bool, true, false, Option, Some, None, is_some, unwrap_or, Ok, List, [], ◌∷◌, ◌++◌, length, sym, ◌∙◌, ap, subst}
+use Rattle.std.proofs.Common.{◌≡◌, ℕ, ◌+◌, true, false, Option, Some, None, is_some, unwrap_or, Ok, List, [], ◌∷◌, ◌++◌, length, sym, ◌∙◌, ap, subst}
 use Rattle.std.proofs.lemmas.List.{length_push}
 use Rattle.soc_journal.specs.Entries.{Entry}
 use Rattle.soc_journal.specs.Text.{JournalText, IsOneText}

@@ -5,8 +5,10 @@
 mod bodies;
 mod counts;
 mod crashes;
+mod desk;
 mod dumps;
 mod fault;
+mod feed;
 mod files;
 mod hall;
 mod journal;
@@ -58,6 +60,7 @@ fn run<R: Env + Files + Clock + CpuClock + Print + Eprint + AllocGlobal + Thread
     };
     match workload.as_str() {
         "multipart" => multipart::run(rt, words),
+        "feed" => feed::run(rt, words),
         "journal" => journal::run(rt, words),
         "symbols" => symbols::run(rt, words),
         "hall" => hall::run(rt, words),
@@ -78,6 +81,7 @@ fn make_report<R: Files + CpuClock + Print + Eprint + AllocGlobal>(
         "report" => reports::run(rt, words),
         "signature" => signature::run(rt, words),
         "search" => search::run(rt, words),
+        "desk" => desk::run(rt, words),
         _ => Err(Fault::Words),
     }
 }

@@ -1,5 +1,5 @@
 //! A body with one dump, cut into its parts a hundred times.
-ghost use Rattle.std.specs.Prelude.{IfOk};
+ghost use Rattle.std.specs.Prelude.{◌≤◌, IfOk};
 ghost use Rattle.soc_bench.specs.Counts.{CountsCuts};
 
 use crate::bodies::{BOUNDARY, Dump, body_with};
@@ -36,7 +36,8 @@ pub fn run(
     }
 }
 
-fn dump_named(word: &str) -> Result<Dump, Fault> {
+/// The dump of a name.
+pub fn dump_named(word: &str) -> Result<Dump, Fault> {
     match word {
         "plain" => Ok(Dump::Plain),
         "near" => Ok(Dump::Near),
@@ -49,11 +50,7 @@ fn cut_dump(
     dump: Dump,
     size: &String,
 ) -> Result<(), Fault> {
-    let megabytes = match number(size.as_bytes(), MOST_DIGITS) {
-        Some(megabytes) if megabytes <= MOST_MEGABYTES => megabytes as usize,
-        _ => return Err(Fault::Words),
-    };
-    let body = body_with(rt.alloc(), dump, megabytes)?;
+    let body = body_with(rt.alloc(), dump, megabytes_of(size)?)?;
     let start = Instant::now(rt)?;
     let counts = cut_often(rt.alloc(), BOUNDARY, body.as_slice())?;
     let rate = megabytes_a_second(counts.bytes, start.elapsed(rt)?);
@@ -63,6 +60,16 @@ fn cut_dump(
     )?;
     eprintln!(rt; "multipart {dump}: {rate} MB/s")?;
     Ok(())
+}
+
+/// How many megabytes a word says, at most 4,096.
+pub fn megabytes_of(size: &String) -> Result<usize, Fault>
+    ensures { IfOk result (λ megabytes. megabytes ≤ 4096) }
+{
+    match number(size.as_bytes(), MOST_DIGITS) {
+        Some(megabytes) if megabytes <= MOST_MEGABYTES => Ok(megabytes as usize),
+        _ => Err(Fault::Words),
+    }
 }
 
 /// Cuts a body a hundred times, and counts what it cuts.

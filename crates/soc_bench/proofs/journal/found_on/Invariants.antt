@@ -1,4 +1,4 @@
-use Rattle.std.proofs.Common.{◌≡◌, List, length}
+use Rattle.std.proofs.Common.{List}
 use Rattle.soc_edge.specs.DiskLog.{content_of, disk_told}
 use Rattle.soc_journal.specs.Entries.{Entry}
 use Rattle.soc_journal.specs.Text.{JournalText}

@@ -1,0 +1,13 @@
+#!/usr/bin/env bash
+# Times a desk over a disk in memory: submissions of small crashes and of large ones, their processing and searches, and
+# the desk's opening beside decoding and digesting the same records alone. All figures are processor time; it wants a quiet machine.
+# usage: bench/desk.sh [CRASHES]     (crates/soc_bench must be built: `cd crates/soc_bench && rt run`)
+set -eu
+cd "$(dirname "$0")/.."
+
+crashes=${1:-20000}
+program=crates/soc_bench/out/soc_bench
+[ -x "$program" ] || { echo "build $program first: cd crates/soc_bench && rt run" >&2; exit 1; }
+
+"$program" desk "$crashes" 300
+"$program" desk 100 1000000
