@@ -1,5 +1,6 @@
 // Finds the delimiters of a multipart body by the C library's memmem, a hundred times: what a program without a
-// parser of its own would do. The body is the one that `soc_bench multipart` makes.
+// parser of its own would do. The body is the one that `soc_bench multipart` makes. With `copy` it also copies what stands
+// between them into memory of its own, as a reader must that is fed in pieces.
 #define _GNU_SOURCE
 #include <stdint.h>
 #include <stdio.h>
@@ -38,23 +39,41 @@ static int is_delimiter(const unsigned char *at, const unsigned char *end) {
     return end - at >= 2 && at[0] == '\r' && at[1] == '\n';
 }
 
+// Copies bytes into memory of their own, which is freed at once.
+static void copy_out(const unsigned char *from, size_t length) {
+    unsigned char *copy = malloc(length + 1);
+    if (copy == NULL)
+        exit(1);
+    memcpy(copy, from, length);
+    // What was copied counts as used, so that the copy is made.
+    __asm__ volatile("" : : "r"(copy) : "memory");
+    free(copy);
+}
+
 // How many delimiters stand in the body, which is looked at as if a line end stood before it.
-static size_t delimiters(const unsigned char *body, size_t length) {
-    const unsigned char *end = body + length, *at = body;
+static size_t delimiters(const unsigned char *body, size_t length, int copies) {
+    const unsigned char *end = body + length, *at = body, *last = body;
     size_t found = 0, first = sizeof MARK - 1 - 2;
     if (length >= first && memcmp(body, &MARK[2], first) == 0) {
         at += first;
         found += (size_t)is_delimiter(at, end);
     }
     while ((at = memmem(at, (size_t)(end - at), MARK, sizeof MARK - 1)) != NULL) {
-        at += sizeof MARK - 1;
-        found += (size_t)is_delimiter(at, end);
+        const unsigned char *behind = at + (sizeof MARK - 1);
+        if (is_delimiter(behind, end)) {
+            found++;
+            if (copies)
+                copy_out(last, (size_t)(at - last));
+            last = behind;
+        }
+        at = behind;
     }
     return found;
 }
 
 int main(int argc, char **argv) {
-    if (argc != 3)
+    int copies = argc == 4 && strcmp(argv[3], "copy") == 0;
+    if (argc != 3 && !copies)
         return 2;
     size_t content = strtoul(argv[1], NULL, 10) * MEGABYTE;
     size_t length = (sizeof FRONT - 1) + content + (sizeof BACK - 1);
@@ -69,10 +88,11 @@ int main(int argc, char **argv) {
     size_t found = 0;
     clock_gettime(CLOCK_MONOTONIC, &start);
     for (int i = 0; i < TIMES; i++)
-        found += delimiters(body, length);
+        found += delimiters(body, length, copies);
     clock_gettime(CLOCK_MONOTONIC, &stop);
     double micros = (double)(stop.tv_sec - start.tv_sec) * 1e6 + (double)(stop.tv_nsec - start.tv_nsec) / 1e3;
-    printf("memmem %s: %zu delimiters, %.0f MB/s\n", argv[2], found, (double)content * TIMES / micros);
+    printf("memmem %s%s: %zu delimiters, %.0f MB/s\n", argv[2], copies ? ", copied" : "", found,
+           (double)content * TIMES / micros);
     free(body);
     return 0;
 }

@@ -1,6 +1,7 @@
 #!/usr/bin/env bash
 # Times the cutting of a body with one large dump, whole and in pieces of 32 KiB, beside a C program that finds the same
-# delimiters by memmem. bench/peak.py tells the memory that a body takes.
+# delimiters by memmem, and copies what stands between them, as a reader of pieces must. bench/peak.py tells the memory
+# that a body takes.
 # usage: bench/multipart.sh [MEGABYTES]     (crates/soc_bench must be built: `cd crates/soc_bench && rt run`)
 set -eu
 cd "$(dirname "$0")/.."
@@ -17,4 +18,5 @@ for dump in plain near; do
     "$program" multipart "$megabytes" "$dump"
     "$program" feed "$megabytes" "$dump"
     "$folder/memmem" "$megabytes" "$dump"
+    "$folder/memmem" "$megabytes" "$dump" copy
 done
