@@ -1,0 +1,184 @@
+//! One run of the program over objects in memory.
+ghost use Rattle.std.specs.Prelude.{[], ◌∷◌, ◌≡◌, IfOk};
+
+use crate::case::{calls_of, files_of, flag_of, ids_of, joined, number_of, words_of};
+use crate::fault::Fault;
+use soc_edge::{
+    Both, Disk, Ids16, MemClock, MemDisk, MemDraws, MemSink, MemSource, MemTree, Numbers,
+};
+use soc_raw::Bytes;
+use soc_siglists::FailingMaker;
+use soc_tests::run_in_memory;
+use soc_toml::{text_at, value_at};
+use std::alloc::{AllocError, Global};
+use toml::Table;
+
+/// The first second of 18 September 2016.
+const MOMENT: u64 = 1_474_156_800;
+
+/// The moments of the years 2000 to 2099.
+const FIRST_MOMENT: u64 = 946_684_800;
+
+const LAST_MOMENT: u64 = 4_102_444_799;
+
+/// The most bytes that a run may write on its output.
+const OUTPUT: usize = 65_536;
+
+/// The bytes of a disk, and its writes and syncs.
+const ROOM: u64 = 33_554_432;
+
+const WRITES: u32 = 65_536;
+
+/// What a run leaves.
+#[derive(Drop)]
+pub struct Left {
+    pub status: u8,
+    pub output: MemSink,
+    pub disk: MemDisk,
+}
+
+/// The objects that a run meets besides its disk.
+#[derive(Drop)]
+struct Objects {
+    tree: MemTree,
+    streams: Both<MemSource, MemSink>,
+    clock: MemClock,
+    draws: MemDraws,
+    maker: FailingMaker,
+}
+
+/// Plays a case behind the one before.
+pub fn play(
+    alloc: Global,
+    document: &Table,
+    case: &Table,
+    before: Option<Left>,
+) -> Result<Left, Fault> {
+    let words = words_of(alloc, case)?;
+    let input = input_of(alloc, document, case, &before)?;
+    let disk = disk_of(alloc, case, before)?;
+    run(alloc, &words, case, input, disk)
+}
+
+/// Plays a case over an empty disk whose calls with these numbers fail.
+pub fn play_over(
+    alloc: Global,
+    document: &Table,
+    case: &Table,
+    fails: Numbers,
+) -> Result<Left, Fault> {
+    let words = words_of(alloc, case)?;
+    let input = Bytes::from(joined(alloc, document, case, "input")?);
+    let disk = MemDisk::new(alloc, ROOM, WRITES, fails)?;
+    run(alloc, &words, case, input, disk)
+}
+
+/// Runs the program with the files and the faults of a case.
+pub fn run(
+    alloc: Global,
+    words: &[String],
+    case: &Table,
+    input: Bytes,
+    disk: MemDisk,
+) -> Result<Left, Fault> {
+    let mut objects = objects_of(alloc, case, input)?;
+    let mut disk = disk;
+    let status = run_with(alloc, words, &mut objects, &mut disk);
+    let streams = objects.streams;
+    Ok(Left {
+        status,
+        output: streams.sink,
+        disk,
+    })
+}
+
+/// Runs the program.
+fn run_with(alloc: Global, words: &[String], objects: &mut Objects, disk: &mut MemDisk) -> u8 {
+    run_in_memory(
+        alloc,
+        words,
+        &mut objects.tree,
+        &mut objects.streams,
+        disk,
+        &mut objects.clock,
+        &mut objects.draws,
+        &mut objects.maker,
+    )
+}
+
+/// What a case says of the objects besides the disk.
+fn objects_of(alloc: Global, case: &Table, input: Bytes) -> Result<Objects, Fault> {
+    Ok(Objects {
+        tree: MemTree::new(files_of(alloc, case)?, calls_of(alloc, case, "tree_fails")?),
+        streams: streams_of(alloc, case, input)?,
+        clock: clock_at(alloc, number_of(case, "moment", MOMENT)?)?,
+        draws: draws_of(alloc, number_of(case, "draw", 0)?, ids_of(alloc, case)?)?,
+        maker: FailingMaker::new(calls_of(alloc, case, "maker_fails")?),
+    })
+}
+
+fn streams_of(
+    alloc: Global,
+    case: &Table,
+    input: Bytes,
+) -> Result<Both<MemSource, MemSink>, Fault> {
+    Ok(Both {
+        source: MemSource::new(input, calls_of(alloc, case, "input_fails")?),
+        sink: MemSink::new(alloc, OUTPUT, calls_of(alloc, case, "output_fails")?)?,
+    })
+}
+
+/// The input of a case: the texts that it names, or what the run before wrote.
+fn input_of(
+    alloc: Global,
+    document: &Table,
+    case: &Table,
+    before: &Option<Left>,
+) -> Result<Bytes, Fault> {
+    if !flag_of(case, "takes_output")? {
+        return Ok(Bytes::from(joined(alloc, document, case, "input")?));
+    }
+    match before {
+        Some(left) => Ok(Bytes::of(alloc, left.output.bytes())?),
+        None => Err(Fault::Wrong("takes_output")),
+    }
+}
+
+/// The disk of a case: what a stop leaves of the one before, or one with the bytes of a text.
+fn disk_of(alloc: Global, case: &Table, before: Option<Left>) -> Result<MemDisk, Fault> {
+    if value_at(case, "stop").is_some() {
+        let choice = number_of(case, "stop", 0)?;
+        return match before {
+            Some(left) => Ok(left.disk.stop(choice)),
+            None => Err(Fault::Wrong("stop")),
+        };
+    }
+    let fails = calls_of(alloc, case, "disk_fails")?;
+    let mut disk = MemDisk::new(alloc, ROOM, WRITES, fails)?;
+    if let Some(text) = text_at(case, "disk") {
+        if disk.write_at(0, text.as_bytes()).is_err() {
+            return Err(Fault::Wrong("disk"));
+        }
+    }
+    Ok(disk)
+}
+
+fn numbers(alloc: Global, item: u64) -> Result<Numbers, AllocError>
+    ensures { IfOk result (λ n. n ≡ item ∷ []) }
+{
+    Ok(Numbers::new(vec![in alloc; item; 1]?))
+}
+
+fn clock_at(alloc: Global, moment: u64) -> Result<MemClock, Fault> {
+    if moment < FIRST_MOMENT || LAST_MOMENT < moment {
+        return Err(Fault::Wrong("moment"));
+    }
+    Ok(MemClock::new(numbers(alloc, moment)?))
+}
+
+fn draws_of(alloc: Global, throttle: u64, ids: Vec<[u8; 16]>) -> Result<MemDraws, Fault> {
+    if ids.is_empty() {
+        return Err(Fault::Wrong("ids"));
+    }
+    Ok(MemDraws::new(numbers(alloc, throttle)?, Ids16::new(ids)))
+}
