@@ -84,13 +84,16 @@ pub fn files_of(alloc: Global, case: &Table) -> Result<Blobs, Fault> {
     if value_at(case, "files").is_some() {
         for (name, text) in table_at(case, "files")?.iter() {
             let text = text.as_str().ok_or(Fault::Wrong("files"))?;
-            files.set(
-                Text::of(alloc, name.as_str())?,
-                Bytes::of(alloc, text.as_bytes())?,
-            )?;
+            set_file(alloc, &mut files, name.as_str(), text)?;
         }
     }
     Ok(files)
+}
+
+fn set_file(alloc: Global, files: &mut Blobs, name: &str, text: &str) -> Result<(), Fault> {
+    let name = Text::of(alloc, name)?;
+    files.set(name, Bytes::of(alloc, text.as_bytes())?)?;
+    Ok(())
 }
 
 /// What is drawn for the ids.

@@ -10,7 +10,7 @@ mod tell;
 
 use case::array_of;
 use fault::Fault;
-use play::play;
+use play::{Left, play};
 use soc_toml::value_at;
 use std::alloc::Global;
 use std::fs;
@@ -34,29 +34,42 @@ fn main(rt: HostRuntime) -> ExitCode {
 
 /// Plays the cases in order.
 fn play_all<R: Files + Print + AllocGlobal>(rt: &R) -> Result<(), Fault> {
-    let alloc = rt.alloc();
-    let bytes = fs::read(rt, CASES)?;
-    let document = read_document(alloc, &bytes)?;
+    let document = read_document(rt)?;
     let mut before = None;
     for value in array_of(&document, "case")? {
         let Some(case) = value.as_table() else {
             return Err(Fault::Wrong("case"));
         };
-        if value_at(case, "calls").is_some() {
-            sweep(rt, &document, case)?;
-            continue;
-        }
-        let left = play(alloc, &document, case, before.take())?;
-        tell(rt, &document, case, &left)?;
-        before = Some(left);
+        before = play_next(rt, &document, case, before)?;
     }
     Ok(())
 }
 
-fn read_document(alloc: Global, bytes: &[u8]) -> Result<Table, Fault> {
-    let Ok(text) = str::from_utf8(bytes) else {
-        return Err(Fault::Wrong("UTF-8"));
-    };
+/// Plays a case behind the one before, tells how it went, and gives what is left for the next.
+fn play_next<R: Print + AllocGlobal>(
+    rt: &R,
+    document: &Table,
+    case: &Table,
+    before: Option<Left>,
+) -> Result<Option<Left>, Fault> {
+    if value_at(case, "calls").is_some() {
+        sweep(rt, document, case)?;
+        return Ok(None);
+    }
+    let left = play(rt.alloc(), document, case, before)?;
+    tell(rt, document, case, &left)?;
+    Ok(Some(left))
+}
+
+fn read_document<R: Files + AllocGlobal>(rt: &R) -> Result<Table, Fault> {
+    let bytes = fs::read(rt, CASES)?;
+    match str::from_utf8(&bytes) {
+        Ok(text) => parse(rt.alloc(), text),
+        Err(_) => Err(Fault::Wrong("UTF-8")),
+    }
+}
+
+fn parse(alloc: Global, text: &str) -> Result<Table, Fault> {
     match toml::table_from_str(alloc, text) {
         Ok(table) => Ok(table),
         Err(error) if error.is_memory() => Err(Fault::NoMemory),

@@ -60,16 +60,11 @@ pub fn play(
     run(alloc, &words, case, input, disk)
 }
 
-/// Plays a case over an empty disk whose calls with these numbers fail.
-pub fn play_over(
-    alloc: Global,
-    document: &Table,
-    case: &Table,
-    fails: Numbers,
-) -> Result<Left, Fault> {
+/// Plays a case over an empty disk whose call with this number fails.
+pub fn play_over(alloc: Global, document: &Table, case: &Table, call: u64) -> Result<Left, Fault> {
     let words = words_of(alloc, case)?;
     let input = Bytes::from(joined(alloc, document, case, "input")?);
-    let disk = MemDisk::new(alloc, ROOM, WRITES, fails)?;
+    let disk = MemDisk::new(alloc, ROOM, WRITES, numbers(alloc, call)?)?;
     run(alloc, &words, case, input, disk)
 }
 
@@ -108,12 +103,17 @@ fn run_with(alloc: Global, words: &[String], objects: &mut Objects, disk: &mut M
 
 /// What a case says of the objects besides the disk.
 fn objects_of(alloc: Global, case: &Table, input: Bytes) -> Result<Objects, Fault> {
+    let streams = streams_of(alloc, case, input)?;
+    let tree = tree_of(alloc, case)?;
+    let clock = clock_of(alloc, case)?;
+    let draws = draws_of(alloc, case)?;
+    let maker = maker_of(alloc, case)?;
     Ok(Objects {
-        tree: MemTree::new(files_of(alloc, case)?, calls_of(alloc, case, "tree_fails")?),
-        streams: streams_of(alloc, case, input)?,
-        clock: clock_at(alloc, number_of(case, "moment", MOMENT)?)?,
-        draws: draws_of(alloc, number_of(case, "draw", 0)?, ids_of(alloc, case)?)?,
-        maker: FailingMaker::new(calls_of(alloc, case, "maker_fails")?),
+        tree,
+        streams,
+        clock,
+        draws,
+        maker,
     })
 }
 
@@ -122,10 +122,23 @@ fn streams_of(
     case: &Table,
     input: Bytes,
 ) -> Result<Both<MemSource, MemSink>, Fault> {
-    Ok(Both {
-        source: MemSource::new(input, calls_of(alloc, case, "input_fails")?),
-        sink: MemSink::new(alloc, OUTPUT, calls_of(alloc, case, "output_fails")?)?,
-    })
+    let source = MemSource::new(input, calls_of(alloc, case, "input_fails")?);
+    let sink = sink_of(alloc, case)?;
+    Ok(Both { source, sink })
+}
+
+fn sink_of(alloc: Global, case: &Table) -> Result<MemSink, Fault> {
+    let fails = calls_of(alloc, case, "output_fails")?;
+    Ok(MemSink::new(alloc, OUTPUT, fails)?)
+}
+
+fn tree_of(alloc: Global, case: &Table) -> Result<MemTree, Fault> {
+    let fails = calls_of(alloc, case, "tree_fails")?;
+    Ok(MemTree::new(files_of(alloc, case)?, fails))
+}
+
+fn maker_of(alloc: Global, case: &Table) -> Result<FailingMaker, Fault> {
+    Ok(FailingMaker::new(calls_of(alloc, case, "maker_fails")?))
 }
 
 /// The input of a case: the texts that it names, or what the run before wrote.
@@ -147,12 +160,21 @@ fn input_of(
 /// The disk of a case: what a stop leaves of the one before, or one with the bytes of a text.
 fn disk_of(alloc: Global, case: &Table, before: Option<Left>) -> Result<MemDisk, Fault> {
     if value_at(case, "stop").is_some() {
-        let choice = number_of(case, "stop", 0)?;
-        return match before {
-            Some(left) => Ok(left.disk.stop(choice)),
-            None => Err(Fault::Wrong("stop")),
-        };
+        stopped(case, before)
+    } else {
+        new_disk(alloc, case)
     }
+}
+
+fn stopped(case: &Table, before: Option<Left>) -> Result<MemDisk, Fault> {
+    let choice = number_of(case, "stop", 0)?;
+    match before {
+        Some(left) => Ok(left.disk.stop(choice)),
+        None => Err(Fault::Wrong("stop")),
+    }
+}
+
+fn new_disk(alloc: Global, case: &Table) -> Result<MemDisk, Fault> {
     let fails = calls_of(alloc, case, "disk_fails")?;
     let mut disk = MemDisk::new(alloc, ROOM, WRITES, fails)?;
     if let Some(text) = text_at(case, "disk") {
@@ -169,16 +191,19 @@ fn numbers(alloc: Global, item: u64) -> Result<Numbers, AllocError>
     Ok(Numbers::new(vec![in alloc; item; 1]?))
 }
 
-fn clock_at(alloc: Global, moment: u64) -> Result<MemClock, Fault> {
+fn clock_of(alloc: Global, case: &Table) -> Result<MemClock, Fault> {
+    let moment = number_of(case, "moment", MOMENT)?;
     if moment < FIRST_MOMENT || LAST_MOMENT < moment {
         return Err(Fault::Wrong("moment"));
     }
     Ok(MemClock::new(numbers(alloc, moment)?))
 }
 
-fn draws_of(alloc: Global, throttle: u64, ids: Vec<[u8; 16]>) -> Result<MemDraws, Fault> {
+fn draws_of(alloc: Global, case: &Table) -> Result<MemDraws, Fault> {
+    let ids = ids_of(alloc, case)?;
     if ids.is_empty() {
         return Err(Fault::Wrong("ids"));
     }
-    Ok(MemDraws::new(numbers(alloc, throttle)?, Ids16::new(ids)))
+    let draw = number_of(case, "draw", 0)?;
+    Ok(MemDraws::new(numbers(alloc, draw)?, Ids16::new(ids)))
 }

@@ -1,8 +1,8 @@
 //! A run whose disk fails at each call in turn and is stopped then, and what is kept of the crashes that were acknowledged.
 use crate::case::{number_of, text_of};
 use crate::fault::Fault;
-use crate::play::{Left, play_over, run};
-use soc_edge::{MemSink, Numbers};
+use crate::play::{play_over, run};
+use soc_edge::{MemDisk, MemSink};
 use soc_raw::Bytes;
 use std::alloc::Global;
 use toml::Table;
@@ -35,22 +35,23 @@ fn keeps_all(
     call: u64,
     choice: u64,
 ) -> Result<bool, Fault> {
-    let fails = Numbers::new(vec![in alloc; call; 1]?);
-    let left = play_over(alloc, document, case, fails)?;
+    let left = play_over(alloc, document, case, call)?;
     let acknowledged = count_of(text_in(&left.output)?, "CrashID=");
     if acknowledged == 0 {
         return Ok(true);
     }
-    let words = vec![in alloc; String::from_str(alloc, "check")?]?;
-    let checked = run(
-        alloc,
-        &words,
-        case,
-        Bytes::of(alloc, b"")?,
-        left.disk.stop(choice),
-    )?;
-    let held = number_behind(text_in(&checked.output)?, "crashes ").ok_or(Fault::Wrong("check"))?;
-    Ok(acknowledged <= held)
+    Ok(acknowledged <= held(alloc, case, left.disk.stop(choice))?)
+}
+
+/// How many crashes a disk holds.
+fn held(alloc: Global, case: &Table, disk: MemDisk) -> Result<u64, Fault> {
+    let words = check_words(alloc)?;
+    let checked = run(alloc, &words, case, Bytes::of(alloc, b"")?, disk)?;
+    number_behind(text_in(&checked.output)?, "crashes ").ok_or(Fault::Wrong("check"))
+}
+
+fn check_words(alloc: Global) -> Result<Vec<String>, Fault> {
+    Ok(vec![in alloc; String::from_str(alloc, "check")?]?)
 }
 
 fn text_in(output: &MemSink) -> Result<&str, Fault> {
