@@ -18,7 +18,7 @@ use std::process::ExitCode;
 use std::rt::Files;
 use sweep::sweep;
 use tell::tell;
-use toml::Table;
+use toml::{Table, Value};
 
 const CASES: &str = "cases.toml";
 
@@ -32,30 +32,41 @@ fn main(rt: HostRuntime) -> ExitCode {
     }
 }
 
-/// Plays the cases in order.
 fn play_all<R: Files + Print + AllocGlobal>(rt: &R) -> Result<(), Fault> {
     let document = read_document(rt)?;
+    play_cases(rt, &document)
+}
+
+/// Plays the cases in order.
+fn play_cases<R: Print + AllocGlobal>(rt: &R, document: &Table) -> Result<(), Fault> {
     let mut before = None;
-    for value in array_of(&document, "case")? {
-        let Some(case) = value.as_table() else {
-            return Err(Fault::Wrong("case"));
-        };
-        before = play_next(rt, &document, case, before)?;
+    for case in array_of(document, "case")? {
+        before = play_next(rt, document, case, before)?;
     }
     Ok(())
 }
 
-/// Plays a case behind the one before, tells how it went, and gives what is left for the next.
+/// Plays a case behind the one before, and gives what it leaves for the next.
 fn play_next<R: Print + AllocGlobal>(
+    rt: &R,
+    document: &Table,
+    case: &Value,
+    before: Option<Left>,
+) -> Result<Option<Left>, Fault> {
+    match case.as_table() {
+        None => Err(Fault::Wrong("case")),
+        Some(case) if value_at(case, "calls").is_some() => sweep(rt, document, case).map(|_| None),
+        Some(case) => play_and_tell(rt, document, case, before),
+    }
+}
+
+/// Plays a case and tells whether it left what it says.
+fn play_and_tell<R: Print + AllocGlobal>(
     rt: &R,
     document: &Table,
     case: &Table,
     before: Option<Left>,
 ) -> Result<Option<Left>, Fault> {
-    if value_at(case, "calls").is_some() {
-        sweep(rt, document, case)?;
-        return Ok(None);
-    }
     let left = play(rt.alloc(), document, case, before)?;
     tell(rt, document, case, &left)?;
     Ok(Some(left))

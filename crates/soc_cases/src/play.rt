@@ -37,14 +37,18 @@ pub struct Left {
     pub disk: MemDisk,
 }
 
-/// The objects that a run meets besides its disk.
+/// The files of a run, and what makes the patterns in them.
 #[derive(Drop)]
-struct Objects {
+struct Documents {
     tree: MemTree,
-    streams: Both<MemSource, MemSink>,
+    maker: FailingMaker,
+}
+
+/// What a run is told of the time, and its draws.
+#[derive(Drop)]
+struct Chance {
     clock: MemClock,
     draws: MemDraws,
-    maker: FailingMaker,
 }
 
 /// Plays a case behind the one before.
@@ -76,10 +80,9 @@ pub fn run(
     input: Bytes,
     disk: MemDisk,
 ) -> Result<Left, Fault> {
-    let mut objects = objects_of(alloc, case, input)?;
     let mut disk = disk;
-    let status = run_with(alloc, words, &mut objects, &mut disk);
-    let streams = objects.streams;
+    let mut streams = streams_of(alloc, case, input)?;
+    let status = run_over(alloc, words, case, &mut streams, &mut disk)?;
     Ok(Left {
         status,
         output: streams.sink,
@@ -87,34 +90,37 @@ pub fn run(
     })
 }
 
-/// Runs the program.
-fn run_with(alloc: Global, words: &[String], objects: &mut Objects, disk: &mut MemDisk) -> u8 {
-    run_in_memory(
+fn run_over(
+    alloc: Global,
+    words: &[String],
+    case: &Table,
+    streams: &mut Both<MemSource, MemSink>,
+    disk: &mut MemDisk,
+) -> Result<u8, Fault> {
+    let mut documents = documents_of(alloc, case)?;
+    let mut chance = chance_of(alloc, case)?;
+    Ok(run_in_memory(
         alloc,
         words,
-        &mut objects.tree,
-        &mut objects.streams,
+        &mut documents.tree,
+        streams,
         disk,
-        &mut objects.clock,
-        &mut objects.draws,
-        &mut objects.maker,
-    )
+        &mut chance.clock,
+        &mut chance.draws,
+        &mut documents.maker,
+    ))
 }
 
-/// What a case says of the objects besides the disk.
-fn objects_of(alloc: Global, case: &Table, input: Bytes) -> Result<Objects, Fault> {
-    let streams = streams_of(alloc, case, input)?;
+fn documents_of(alloc: Global, case: &Table) -> Result<Documents, Fault> {
+    let maker = maker_of(alloc, case)?;
     let tree = tree_of(alloc, case)?;
+    Ok(Documents { tree, maker })
+}
+
+fn chance_of(alloc: Global, case: &Table) -> Result<Chance, Fault> {
     let clock = clock_of(alloc, case)?;
     let draws = draws_of(alloc, case)?;
-    let maker = maker_of(alloc, case)?;
-    Ok(Objects {
-        tree,
-        streams,
-        clock,
-        draws,
-        maker,
-    })
+    Ok(Chance { clock, draws })
 }
 
 fn streams_of(
