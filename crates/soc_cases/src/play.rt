@@ -1,0 +1,215 @@
+//! One run of the program over objects in memory.
+ghost use Rattle.std.specs.Prelude.{[], ◌∷◌, ◌≡◌, IfOk};
+
+use crate::case::{calls_of, files_of, flag_of, ids_of, joined, number_of, words_of};
+use crate::fault::Fault;
+use soc_edge::{
+    Both, Disk, Ids16, MemClock, MemDisk, MemDraws, MemSink, MemSource, MemTree, Numbers,
+};
+use soc_raw::Bytes;
+use soc_siglists::FailingMaker;
+use soc_tests::run_in_memory;
+use soc_toml::{text_at, value_at};
+use std::alloc::{AllocError, Global};
+use toml::Table;
+
+/// The first second of 18 September 2016.
+const MOMENT: u64 = 1_474_156_800;
+
+/// The moments of the years 2000 to 2099.
+const FIRST_MOMENT: u64 = 946_684_800;
+
+const LAST_MOMENT: u64 = 4_102_444_799;
+
+/// The most bytes that a run may write on its output.
+const OUTPUT: usize = 65_536;
+
+/// The bytes of a disk, and its writes and syncs.
+const ROOM: u64 = 33_554_432;
+
+const WRITES: u32 = 65_536;
+
+/// What a run leaves.
+#[derive(Drop)]
+pub struct Left {
+    pub status: u8,
+    pub output: MemSink,
+    pub disk: MemDisk,
+}
+
+/// The files of a run, and what makes the patterns in them.
+#[derive(Drop)]
+struct Documents {
+    tree: MemTree,
+    maker: FailingMaker,
+}
+
+/// What a run is told of the time, and its draws.
+#[derive(Drop)]
+struct Chance {
+    clock: MemClock,
+    draws: MemDraws,
+}
+
+/// Plays a case behind the one before.
+pub fn play(
+    alloc: Global,
+    document: &Table,
+    case: &Table,
+    before: Option<Left>,
+) -> Result<Left, Fault> {
+    let words = words_of(alloc, case)?;
+    let input = input_of(alloc, document, case, &before)?;
+    let disk = disk_of(alloc, case, before)?;
+    run(alloc, &words, case, input, disk)
+}
+
+/// Plays a case over an empty disk whose call with this number fails.
+pub fn play_over(alloc: Global, document: &Table, case: &Table, call: u64) -> Result<Left, Fault> {
+    let words = words_of(alloc, case)?;
+    let input = Bytes::from(joined(alloc, document, case, "input")?);
+    let disk = MemDisk::new(alloc, ROOM, WRITES, numbers(alloc, call)?)?;
+    run(alloc, &words, case, input, disk)
+}
+
+/// Runs the program with the files and the faults of a case.
+pub fn run(
+    alloc: Global,
+    words: &[String],
+    case: &Table,
+    input: Bytes,
+    disk: MemDisk,
+) -> Result<Left, Fault> {
+    let mut disk = disk;
+    let mut streams = streams_of(alloc, case, input)?;
+    let status = run_over(alloc, words, case, &mut streams, &mut disk)?;
+    Ok(Left {
+        status,
+        output: streams.sink,
+        disk,
+    })
+}
+
+fn run_over(
+    alloc: Global,
+    words: &[String],
+    case: &Table,
+    streams: &mut Both<MemSource, MemSink>,
+    disk: &mut MemDisk,
+) -> Result<u8, Fault> {
+    let mut documents = documents_of(alloc, case)?;
+    let mut chance = chance_of(alloc, case)?;
+    Ok(run_in_memory(
+        alloc,
+        words,
+        &mut documents.tree,
+        streams,
+        disk,
+        &mut chance.clock,
+        &mut chance.draws,
+        &mut documents.maker,
+    ))
+}
+
+fn documents_of(alloc: Global, case: &Table) -> Result<Documents, Fault> {
+    let maker = maker_of(alloc, case)?;
+    let tree = tree_of(alloc, case)?;
+    Ok(Documents { tree, maker })
+}
+
+fn chance_of(alloc: Global, case: &Table) -> Result<Chance, Fault> {
+    let clock = clock_of(alloc, case)?;
+    let draws = draws_of(alloc, case)?;
+    Ok(Chance { clock, draws })
+}
+
+fn streams_of(
+    alloc: Global,
+    case: &Table,
+    input: Bytes,
+) -> Result<Both<MemSource, MemSink>, Fault> {
+    let source = MemSource::new(input, calls_of(alloc, case, "input_fails")?);
+    let sink = sink_of(alloc, case)?;
+    Ok(Both { source, sink })
+}
+
+fn sink_of(alloc: Global, case: &Table) -> Result<MemSink, Fault> {
+    let fails = calls_of(alloc, case, "output_fails")?;
+    Ok(MemSink::new(alloc, OUTPUT, fails)?)
+}
+
+fn tree_of(alloc: Global, case: &Table) -> Result<MemTree, Fault> {
+    let fails = calls_of(alloc, case, "tree_fails")?;
+    Ok(MemTree::new(files_of(alloc, case)?, fails))
+}
+
+fn maker_of(alloc: Global, case: &Table) -> Result<FailingMaker, Fault> {
+    Ok(FailingMaker::new(calls_of(alloc, case, "maker_fails")?))
+}
+
+/// The input of a case: the texts that it names, or what the run before wrote.
+fn input_of(
+    alloc: Global,
+    document: &Table,
+    case: &Table,
+    before: &Option<Left>,
+) -> Result<Bytes, Fault> {
+    if !flag_of(case, "takes_output")? {
+        return Ok(Bytes::from(joined(alloc, document, case, "input")?));
+    }
+    match before {
+        Some(left) => Ok(Bytes::of(alloc, left.output.bytes())?),
+        None => Err(Fault::Wrong("takes_output")),
+    }
+}
+
+/// The disk of a case: what a stop leaves of the one before, or one with the bytes of a text.
+fn disk_of(alloc: Global, case: &Table, before: Option<Left>) -> Result<MemDisk, Fault> {
+    if value_at(case, "stop").is_some() {
+        stopped(case, before)
+    } else {
+        new_disk(alloc, case)
+    }
+}
+
+fn stopped(case: &Table, before: Option<Left>) -> Result<MemDisk, Fault> {
+    let choice = number_of(case, "stop", 0)?;
+    match before {
+        Some(left) => Ok(left.disk.stop(choice)),
+        None => Err(Fault::Wrong("stop")),
+    }
+}
+
+fn new_disk(alloc: Global, case: &Table) -> Result<MemDisk, Fault> {
+    let fails = calls_of(alloc, case, "disk_fails")?;
+    let mut disk = MemDisk::new(alloc, ROOM, WRITES, fails)?;
+    if let Some(text) = text_at(case, "disk") {
+        if disk.write_at(0, text.as_bytes()).is_err() {
+            return Err(Fault::Wrong("disk"));
+        }
+    }
+    Ok(disk)
+}
+
+fn numbers(alloc: Global, item: u64) -> Result<Numbers, AllocError>
+    ensures { IfOk result (λ n. n ≡ item ∷ []) }
+{
+    Ok(Numbers::new(vec![in alloc; item; 1]?))
+}
+
+fn clock_of(alloc: Global, case: &Table) -> Result<MemClock, Fault> {
+    let moment = number_of(case, "moment", MOMENT)?;
+    if moment < FIRST_MOMENT || LAST_MOMENT < moment {
+        return Err(Fault::Wrong("moment"));
+    }
+    Ok(MemClock::new(numbers(alloc, moment)?))
+}
+
+fn draws_of(alloc: Global, case: &Table) -> Result<MemDraws, Fault> {
+    let ids = ids_of(alloc, case)?;
+    if ids.is_empty() {
+        return Err(Fault::Wrong("ids"));
+    }
+    let draw = number_of(case, "draw", 0)?;
+    Ok(MemDraws::new(numbers(alloc, draw)?, Ids16::new(ids)))
+}
