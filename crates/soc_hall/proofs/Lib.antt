@@ -7,3 +7,4 @@ pub mod News
 pub mod Meets
 pub mod Closes
 pub mod Taken
+pub mod Totals

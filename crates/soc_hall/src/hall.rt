@@ -1,11 +1,11 @@
 //! The hall.
-ghost use Rattle.std.specs.Prelude.{◌≡◌, ◌+◌, ◌<◌, ◌≤◌, [], length, All, IfOk, vec_capacity};
+ghost use Rattle.std.specs.Prelude.{◌≡◌, ◌+◌, ◌<◌, ◌≤◌, [], ◌∷◌, length, All, IfErr, IfOk, vec_capacity};
 
 use crate::logged::Logged;
 use crate::plays::{Number, Part};
 use crate::seats::{Chair, HallSeat, Seat, Seats};
 use crate::view::{Law, Place, Start, View};
-use atomic_table::{Table, TableRule};
+use atomic_table::{Refused, Table, TableRule};
 use soc_raw::NoMemory;
 use std::alloc::Global;
 use std::snapshot::Snapshot;
@@ -45,26 +45,64 @@ impl<T: Logged + Drop> Hall<T> {
         ensures count { IfOk result (λ made. (length (seats_in made.1) ≡ seats) × (seats ≤ room_of made.1)) }
         ensures each { IfOk result (λ made. All (λ seat. IsSeatOf made.0 seat × IsNew (T.basis_of state) (T.log_of state) (known_of seat)) (seats_in made.1)) }
     {
-        let list = Vec::with_capacity(alloc, seats as usize)?;
-        let mut slots = Vec::with_capacity(alloc, 1)?;
+        Self::over(alloc, state, seats).map_err(|_| NoMemory)
+    }
+}
+
+impl<T: Logged> Hall<T> {
+    ghost use Rattle.soc_hall.specs.Seats.{known_of, seats_in, room_of, seats_of, IsSeatOf, IsNew};
+    ghost use Rattle.soc_hall.specs.inner.Chairs.{IsNewChair};
+    ghost use Rattle.soc_hall.specs.declared.view.Place.TheVariants.{Rest};
+
+    /// A hall over this state, and its seats. Where memory is wanting, the state comes back.
+    pub fn over(alloc: Global, state: T, seats: u32) -> Result<(Hall<T>, Seats<T>), T>
+        requires { (0 < seats) × (seats ≤ 64) }
+        ensures hall { IfOk result (λ made. seats_of made.0 ≡ seats) }
+        ensures count { IfOk result (λ made. (length (seats_in made.1) ≡ seats) × (seats ≤ room_of made.1)) }
+        ensures each { IfOk result (λ made. All (λ seat. IsSeatOf made.0 seat × IsNew (T.basis_of state) (T.log_of state) (known_of seat)) (seats_in made.1)) }
+        ensures back { IfErr result (λ back. back ≡ state) }
+    {
+        let Ok(list) = Vec::with_capacity(alloc, seats as usize) else {
+            return Err(state);
+        };
+        let Ok(mut slots) = Vec::with_capacity(alloc, 1) else {
+            list.destroy_empty();
+            return Err(state);
+        };
         let words = [state.front(), 0, 0];
         let start = Start {
             state: Snapshot::of(&state),
             seats,
         };
         slots.push_reserved(Place::Rest(state));
-        let Ok((table, chair)) = Table::new(alloc, &words, slots, &start) else {
-            return Err(NoMemory);
-        };
-        let hall = Room { table };
-        let seats = hall.fill(list, chair, seats);
-        Ok((hall, seats))
+        match Table::new(alloc, &words, slots, &start) {
+            Ok((table, chair)) => {
+                let hall = Room { table };
+                let seats = hall.fill(list, chair, seats);
+                Ok((hall, seats))
+            }
+            Err(Refused { slots }) => {
+                list.destroy_empty();
+                Err(Self::taken_back(slots))
+            }
+        }
     }
-}
 
-impl<T: Logged> Hall<T> {
-    ghost use Rattle.soc_hall.specs.Seats.{known_of, seats_in, room_of, IsSeatOf, IsNew};
-    ghost use Rattle.soc_hall.specs.inner.Chairs.{IsNewChair};
+    // The state that lies in the one slot of a table that wasn't made.
+    fn taken_back(mut slots: Vec<Place<T, T::Command, T::Reply>>) -> T
+        requires { (state : T) × (slots.items ≡ Rest state ∷ []) }
+        ensures { slots.items ≡ Rest result ∷ [] }
+    {
+        let Some(place) = slots.pop() else {
+            unreachable!()
+        };
+        slots.destroy_empty();
+        match place {
+            Place::Empty => unreachable!(),
+            Place::Rest(state) => state,
+            Place::Done(state, _, _) => state,
+        }
+    }
 
     // All seats, of which this is the first.
     fn fill(&self, mut list: Vec<Seat<T>>, mut chair: Chair<T>, seats: u32) -> Seats<T>

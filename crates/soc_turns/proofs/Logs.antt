@@ -29,7 +29,7 @@ use Rattle.soc_book.specs.declared.book.Change.{Change as Pending}
 use Rattle.soc_book.specs.inner.Stands.{AreFiled, IsFiled, IsFiledOf, Stands}
 use Rattle.soc_turns.specs.declared.change.Change.{Change}
 use Rattle.soc_turns.specs.Changes.{body_at, changes_at, events_in, first_body, text_in}
-use Rattle.soc_turns.specs.inner.Logs.{change_of, changes_of, text_of}
+use Rattle.soc_turns.specs.Logs.{change_of, changes_of, text_of}
 
 -- ---- the body of an entry
 

@@ -4,7 +4,7 @@ use Rattle.std.specs.Prelude.{bytes_eq, is_some, if◌then◌else◌}
 use Rattle.std.specs.Coded.{le_prop}
 use Rattle.std.specs.List.{AllByRecursion, find}
 use Rattle.std.specs.Option.{option_map, option_and_then}
-use Rattle.std.proofs.Math.Logic.{∥∥₁_elim, ∥∥₁_map}
+use Rattle.std.proofs.Math.Logic.{∥∥₁_elim, ∥∥₁_map, ∥∥₁_map₂}
 use Rattle.std.proofs.Math.Seq.{take-append_seam}
 use Rattle.std.proofs.lemmas.List.{length-map, map-append, take-append-drop}
 use mathlib.Core.List.{IsPrefix}
@@ -13,7 +13,8 @@ use Rattle.soc_raw.specs.Record.{Crash, IsCrash, record_of}
 use Rattle.soc_raw.specs.declared.raw_crash.RawCrash.{RawCrash}
 use Rattle.soc_raw.proofs.Records.{same_crash}
 use Rattle.soc_schema.specs.declared.value.Cell.{Cell}
-use Rattle.soc_edge.specs.Disk.{DiskTold}
+use Rattle.soc_edge.specs.Disk.{DiskTold, GoesOn}
+use Rattle.soc_edge.proofs.Disks.{GoesOn-append}
 use Rattle.soc_journal.specs.Entries.{Entry}
 use Rattle.soc_journal.specs.States.{JournalState}
 use Rattle.soc_ledger.specs.Due.{is_due}
@@ -43,7 +44,7 @@ use Rattle.soc_book.specs.inner.Stands.{Stands}
 use Rattle.soc_book.proofs.Listings.{sound_accepted}
 use Rattle.soc_turns.specs.declared.change.Change.{Change}
 use Rattle.soc_turns.specs.Changes.{body_at, changes_at, events_in, text_in}
-use Rattle.soc_turns.specs.inner.Logs.{change_of, changes_of}
+use Rattle.soc_turns.specs.Logs.{change_of, changes_of}
 use Rattle.soc_turns.specs.Grounds.{desk_basis}
 use Rattle.soc_turns.specs.Turns.{Answers, FetchesText, MayAsk, TellsIdle}
 use Rattle.soc_turns.proofs.Idle.{doubt_counts, tells_idle}
@@ -218,8 +219,8 @@ module _ (row_of row_of' : Crash → List Cell) (digest digest' : Option (List �
       subst (λ (b : Basis). ∥ ((state : State) × Stands b limits' ledger' rows' pending' journal' disk' state) ∥₁) (sym (same_basis row_of row_of' digest digest' told limits limits' same_rows same_digest same_limits))
       (∥∥₁_map known (λ (s : Now). let a = asks basis s.0 refl s.1 in (a.0, a.1)))
 
-  pub faults_stay : (faults : ℕ) → faults ≤ disk.faults → faults ≤ disk'.faults
-  faults_stay faults few = ∥∥₁_elim known le_prop (λ (s : Now). let a = asks basis s.0 refl s.1 in let more = a.2.goes_on.faults_never_fall in omega arith)
+  pub disk_goes_on : (opened : DiskTold) → ∥ GoesOn opened disk ∥₁ → ∥ GoesOn opened disk' ∥₁
+  disk_goes_on opened on = ∥∥₁_map₂ known on (λ (s : Now) (first : GoesOn opened disk). GoesOn-append opened disk disk' first (asks basis s.0 refl s.1).2.goes_on)
 
   answers_at : Now → Answers basis log command receipt log'
   answers_at s =

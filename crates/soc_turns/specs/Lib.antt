@@ -1,4 +1,5 @@
 pub mod Grounds
 pub mod Changes
+pub mod Logs
 pub mod Turns
 pub mod inner

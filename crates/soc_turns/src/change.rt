@@ -10,11 +10,11 @@ pub struct Change {
 }
 
 /// What no turn changes. No value of it is made.
-pub struct Grounds<R> {
+pub struct Grounds<R, D> {
     pub reporter: R,
     pub limits: Limits,
     /// Which lent disk the book holds.
     pub lent: u64,
-    /// How many calls of the disk had failed when the book was opened.
-    pub faults: u64,
+    /// The disk as it was when the book was opened.
+    pub opened: D,
 }

@@ -1,7 +1,8 @@
 //! A book as the state of a hall.
-ghost use Rattle.std.specs.Prelude.{◌≡◌, ◌≤◌, IfOk, IfSome};
+ghost use Rattle.std.specs.Prelude.{◌≡◌, IfOk, IfSome, slice_get};
 ghost use Rattle.soc_edge.specs.Disk.{GoesOn, LeavesOnly};
 ghost use Rattle.soc_vault.specs.Openings.{OpeningLeaves};
+ghost use Rattle.soc_ledger.specs.Due.{due_ids};
 ghost use Rattle.soc_desk.specs.Basis.{Basis};
 ghost use Rattle.soc_desk.specs.State.{State};
 ghost use Rattle.soc_book.specs.Openings.{IsBasisOf, OpensBook};
@@ -15,6 +16,7 @@ use soc_desk::{Limits, Receipt};
 use soc_edge::Disk;
 use soc_hall::Logged;
 use soc_journal::OpenError;
+use soc_raw::CrashId;
 use soc_schema::Reporter;
 use std::alloc::Global;
 use std::snapshot::Snapshot;
@@ -26,7 +28,7 @@ pub struct SharedBook<'a, D: Telling, R: Reporter> {
     // The disk as it was when the book was opened.
     pub(crate) opened: Snapshot<D>,
     ghost stands: { ∥ ((state : State) × Stands (desk_basis (R.row_of book.reporter.now) (R.digest_of book.reporter.now) book.limits D.tells) book.limits book.ledger book.store book.doubt book.vault.journal (D.state book.vault.disk.now) state) ∥₁ },
-    ghost no_fewer_faults: { (D.state opened.value).faults ≤ (D.state book.vault.disk.now).faults },
+    ghost goes_on: { ∥ GoesOn (D.state opened.value) (D.state book.vault.disk.now) ∥₁ },
 }
 
 impl<'a, D: Telling, R: Reporter> SharedBook<'a, D, R> {
@@ -56,11 +58,22 @@ impl<'a, D: Telling, R: Reporter> SharedBook<'a, D, R> {
     /// A book to be shared, over a disk that was so when the book was opened.
     pub fn new(book: Book<'a, D, R>, opened: Snapshot<D>) -> SharedBook<'a, D, R>
         requires stands { (state : State) × Stands (desk_basis (R.row_of book.reporter.now) (R.digest_of book.reporter.now) book.limits D.tells) book.limits book.ledger book.store book.doubt book.vault.journal (D.state book.vault.disk.now) state }
-        requires faults { (D.state opened.value).faults ≤ (D.state book.vault.disk.now).faults }
+        requires goes_on { GoesOn (D.state opened.value) (D.state book.vault.disk.now) }
         ensures book { result.book ≡ book.entry }
         ensures opened { result.opened.value ≡ opened.value }
     {
         SharedBook { book, opened }
+    }
+
+    /// The crash that is due at this place, from 0.
+    pub fn due_at(&self, place: u32) -> Option<CrashId>
+        ensures { result ≡ slice_get (due_ids self.now.book.ledger.log) place }
+    {
+        if place < self.book.due() {
+            Some(self.book.due_at(place))
+        } else {
+            None
+        }
     }
 
     /// The book.
@@ -86,7 +99,7 @@ impl<'a, D: Telling, R: Reporter> Logged for SharedBook<'a, D, R> {
 
     type Change = Change;
 
-    type Basis = Grounds<R>;
+    type Basis = Grounds<R, D>;
 
     ghost log_of = { λ s. changes_at (body_at D.tells (D.state s.book.vault.disk.now).content) s.book.ledger.log s.book.ledger.crashes };
 
@@ -94,7 +107,7 @@ impl<'a, D: Telling, R: Reporter> Logged for SharedBook<'a, D, R> {
       reporter = s.book.reporter.now;
       limits = s.book.limits;
       lent = s.book.vault.disk.ghost_name;
-      faults = (D.state s.opened.value).faults;
+      opened = s.opened.value;
     } };
 
     ghost asks = { λ before command receipt after. (after.book.vault.disk.ghost_name ≡ before.book.vault.disk.ghost_name)

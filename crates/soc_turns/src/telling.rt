@@ -1,7 +1,7 @@
 //! Kinds of disks that always tell their content, or never.
 ghost use Rattle.std.specs.Prelude.{◌≡◌, Bool, is_some};
 
-use soc_edge::{Disk, MemDisk};
+use soc_edge::{Disk, MemDisk, ReadAhead};
 
 /// A kind of disks that always tell their content, or never.
 pub trait Telling: Disk {
@@ -25,4 +25,11 @@ impl<D: Telling> Telling for &mut D {
     ghost tells = { D.tells };
 
     ghost steady = { λ disk. D.steady disk.now };
+}
+
+/// A disk that reads ahead tells what the disk below tells.
+impl<D: Telling> Telling for ReadAhead<D> {
+    ghost tells = { D.tells };
+
+    ghost steady = { λ ahead. D.steady ahead.disk };
 }

@@ -1,4 +1,5 @@
--- The log of a shared book, made of the desk's log.
+-- What a shared book's log tells of the desk's log: the events, and of each accepted crash its record, where the disk tells its
+-- content.
 use Rattle.std.specs.Prelude.{ℕ, Bool, List, map, Option, None, if◌then◌else◌}
 use Rattle.std.specs.Option.{option_map}
 use Rattle.soc_raw.specs.Record.{record_of}
