@@ -18,7 +18,7 @@ use Rattle.soc_service.specs.Desks.{PutsJob, TakesTurn}
 use Rattle.soc_service.specs.Turns.{Turn}
 
 -- the desk's basis by what no turn of a book changes
-abbrev pub book_desk : {R : Type 0} → (R → Crash → List Cell) → (R → Option (List ℕ)) → Bool → Grounds R → Basis
+abbrev pub book_desk : {R D : Type 0} → (R → Crash → List Cell) → (R → Option (List ℕ)) → Bool → Grounds R D → Basis
 book_desk row_of digest_of told grounds = desk_basis (row_of grounds.reporter) (digest_of grounds.reporter) grounds.limits told
 
 pub same_command : {T B X C P : Type 0} (log_of : T → List X) (basis_of : T → B) (asks : T → C → P → T → Type 0) (answers : B → List X → C → P → List X → Type 0) (v : Known B X C P) (command other : C) (receipt : HallReceipt P) (w : Known B X C P)

@@ -1,5 +1,6 @@
-mod Answered
-mod Booked
+pub mod Answered
+pub mod Booked
 mod Counted
 mod Options
+pub mod Turned
 mod Worked

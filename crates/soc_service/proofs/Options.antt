@@ -6,6 +6,9 @@ use Rattle.std.proofs.Math.Logic.{∥∥₁_elim}
 pub known_some : {A : Type 0} (Q : A → Type 0) (o : Option A) (x : A) → IsProp (Q x) → o ≡ Some x → ∥ IsSomeAnd o Q ∥₁ → Q x
 known_some Q o x prop is known = ∥∥₁_elim known prop (λ h. subst (λ p. IsSomeAnd p Q) is h)
 
+pub at_some : {A : Type 0} (Q : A → Type 0) (o : Option A) (x : A) → o ≡ Some x → IsSomeAnd o Q → Q x
+at_some Q o x is known = subst (λ p. IsSomeAnd p Q) is known
+
 pub of_some : {A : Type 0} (Q : A → Type 0) (o : Option A) (x : A) → o ≡ Some x → IfSome o Q → Q x
 of_some Q o x is known = subst (λ p. IfSome p Q) is known
 

@@ -62,7 +62,7 @@ module _ {T B : Type 0} (log_of : T → List Change) (basis_of : T → B) (asks 
 
   module _ (id : List ℕ) {v w : Knows B} where
     -- a fetch adds nothing
-    fetch_adds_none : {reply : Reply} (fetch : Fetches log_of basis_of asks Gives v id reply w) → fetch.turn.asked.piece ≡ []
+    pub fetch_adds_none : {reply : Reply} (fetch : Fetches log_of basis_of asks Gives v id reply w) → fetch.turn.asked.piece ≡ []
     fetch_adds_none fetch = told log_of basis_of asks desk fetch.turn (λ piece. piece ≡ []) (one_log _ []) (λ basis is a. map_nil (λ change. change.event) a.piece a.grows.1.0)
 
     fetch_idle : {reply : Reply} (fetch : Fetches log_of basis_of asks Gives v id reply w) → GaveNone reply → WasIdle log_of basis_of asks Gives id fetch.turn
@@ -137,7 +137,7 @@ module _ {T B : Type 0} (log_of : T → List Change) (basis_of : T → B) (asks 
       by_outcome outcome (record { between = u; reply = R.Fetched (Some raw); fetch = fetch'; goes_on = inr (crash_of raw, reply, finish') })
       (λ o there. record { between = u; reply = R.Fetched (Some raw); fetch = fetch'; goes_on = (reply, finish', finished (crash_of raw) reply finish' o (sym ended ∙ there)) })
 
-  behind_fetch : (id : List ℕ) (outcome : Outcome) {v : Knows B} (reply : Reply) (u : Knows B) (fetch : Fetches log_of basis_of asks Gives v id reply u) (w : Knows B) → GoesOn log_of basis_of asks Gives id outcome reply u fetch w
+  pub behind_fetch : (id : List ℕ) (outcome : Outcome) {v : Knows B} (reply : Reply) (u : Knows B) (fetch : Fetches log_of basis_of asks Gives v id reply u) (w : Knows B) → GoesOn log_of basis_of asks Gives id outcome reply u fetch w
       → (w ≡ u) ⊎ ((crash : Crash) × (answer : Reply) × Finishes log_of basis_of asks Gives u crash answer w)
   behind_fetch id outcome (R.Fetched (Some raw)) u fetch w goes = inr (crash_of raw, goes.0, goes.1)
   behind_fetch id outcome (R.Fetched None) u fetch w goes = inl goes.0

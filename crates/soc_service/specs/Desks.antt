@@ -1,6 +1,8 @@
 -- What a desk in a hall does with its seat and its pass.
-use Rattle.std.specs.Prelude.{◌≡◌, ◌⊎◌, ℕ, ◌+◌, List, Option, None, Some, IsSomeAnd}
+use Rattle.std.specs.Prelude.{◌≡◌, ◌⊎◌, ℕ, ◌+◌, List, ◌++◌, Option, None, Some, IsSomeAnd}
 use Rattle.soc_hall.specs.declared.seats.HallSeat.{HallSeat}
+use Rattle.soc_hall.specs.declared.view.Turn.{Turn as HallTurn}
+use Rattle.soc_hall.specs.Log.{pieces}
 use Rattle.soc_hall.specs.Seats.{known_of}
 use Rattle.soc_pool.specs.declared.jobs.Job.TheVariants as J
 use Rattle.soc_pool.specs.declared.jobs.TheConstants.{PLACES}
@@ -11,7 +13,7 @@ use Rattle.soc_desk.specs.declared.desk.Command.{Command}
 use Rattle.soc_desk.specs.declared.desk.Receipt.{Receipt}
 use Rattle.soc_turns.specs.declared.change.Change.{Change}
 use Rattle.soc_turns.specs.Changes.{events_in, kept_in}
-use Rattle.soc_service.specs.Turns.{Turn}
+use Rattle.soc_service.specs.Turns.{Knows, Turn}
 
 -- the job of the crash was put, or the ring was full, which the pass has counted
 abbrev pub PutsOrMissed : List ℕ → Pass → Pass → Type 0
@@ -29,3 +31,12 @@ module _ {T B S : Type 0} (log_of : T → List Change) (basis_of : T → B) (ask
   abbrev pub TakesTurn : Option (HallSeat S B Change Command Receipt) → ℕ → Command → Receipt → Option (HallSeat S B Change Command Receipt) → ℕ → Type 0
   TakesTurn before kept command receipt after kept' = IsSomeAnd before (λ s. IsSomeAnd after (λ t.
       (turn : Turn log_of basis_of asks answers (known_of s) command receipt (known_of t)) × (kept' ≡ kept + kept_in (events_in turn.asked.piece))))
+
+-- the seat has had more turns, whose pieces keep so many changes and stops
+pub record HasTurned {B : Type 0} (before after : Knows B) (kept : ℕ) : Type 0 where
+  pub number : after.number ≡ before.number
+  pub basis : after.basis ≡ before.basis
+  pub opening : after.opening ≡ before.opening
+  pub more : List (HallTurn Change Command Receipt)
+  pub turns : after.turns ≡ before.turns ++ more
+  pub kept_are : kept_in (events_in (pieces more)) ≡ kept

@@ -2,7 +2,7 @@
 ghost use Rattle.std.specs.Prelude.{◌≡◌, ◌≤◌, Some, false, IfSome, IsSomeAnd, length};
 ghost use Rattle.soc_hall.specs.Seats.{IsSeatOf, MayAsk, known_of, seen_of};
 ghost use Rattle.soc_pool.specs.Passes.{IsPassOf};
-ghost use Rattle.soc_service.specs.Desks.{PutsJob, TakesTurn};
+ghost use Rattle.soc_service.specs.Desks.{HasTurned, PutsJob, TakesTurn};
 
 use crate::due::{asked_id, due_after, is_either, keeps_all, kept_between};
 use crate::gate::{Gate, Point};
@@ -14,6 +14,8 @@ use soc_raw::CrashId;
 use soc_schema::Reporter;
 use soc_turns::{SharedBook, Telling};
 use std::alloc::Global;
+use std::marker::PhantomData;
+use std::snapshot::Snapshot;
 use std::sync::Wait;
 
 /// A desk that asks each command in a turn of its seat in a hall, and puts the job of a crash that becomes due into a ring.
@@ -27,9 +29,14 @@ pub struct HallDesk<'h, 'a, D: Telling, R: Reporter, G: Gate, W: Wait> {
     // There, but for the middle of a turn.
     seat: Option<Seat<SharedBook<'a, D, R>>>,
     pass: Option<Pass>,
+    // The seat as it was when the desk was made.
+    began: Snapshot<Seat<SharedBook<'a, D, R>>>,
     stopped: bool,
     kept: u64,
+    // The book in the hall has them lent, which its type in the hall doesn't tell of this one.
+    lent: PhantomData<(&'a mut D, &'a R)>,
     ghost sits: { ∥ IsSomeAnd seat (λ s. IsSeatOf hall.now s × (kept ≤ length (seen_of (known_of s)))) ∥₁ },
+    ghost turned: { ∥ IsSomeAnd seat (λ s. HasTurned (known_of began.value) (known_of s) kept) ∥₁ },
     ghost passes: { ∥ IsSomeAnd pass (λ p. IsPassOf jobs.now p) ∥₁ },
 }
 
@@ -50,9 +57,11 @@ impl<'h, 'a, D: Telling, R: Reporter, G: Gate, W: Wait> HallDesk<'h, 'a, D, R, G
         ensures jobs { result.jobs.now ≡ jobs.now }
         ensures seat { result.seat ≡ Some seat.entry }
         ensures pass { result.pass ≡ Some pass }
+        ensures began { result.began.value ≡ seat.entry }
         ensures stopped { result.stopped ≡ false }
         ensures kept { result.kept ≡ 0 }
     {
+        let began = Snapshot::of(&seat);
         HallDesk {
             rt,
             alloc,
@@ -61,8 +70,10 @@ impl<'h, 'a, D: Telling, R: Reporter, G: Gate, W: Wait> HallDesk<'h, 'a, D, R, G
             gate,
             seat: Some(seat),
             pass: Some(pass),
+            began,
             stopped: false,
             kept: 0,
+            lent: PhantomData,
         }
     }
 
@@ -83,6 +94,7 @@ impl<'h, 'a, D: Telling, R: Reporter, G: Gate, W: Wait> HallDesk<'h, 'a, D, R, G
     /// Its seat and its pass.
     pub fn end(self) -> (Seat<SharedBook<'a, D, R>>, Pass)
         ensures seat { (self.entry.seat ≡ Some result.0) × IsSeatOf self.entry.hall.now result.0 }
+        ensures turned { ∥ HasTurned (known_of self.entry.began.value) (known_of result.0) self.entry.kept ∥₁ }
         ensures pass { (self.entry.pass ≡ Some result.1) × IsPassOf self.entry.jobs.now result.1 }
     {
         let (Some(seat), Some(pass)) = (self.seat, self.pass) else {
@@ -94,7 +106,7 @@ impl<'h, 'a, D: Telling, R: Reporter, G: Gate, W: Wait> HallDesk<'h, 'a, D, R, G
     // Asks the command in one turn.
     fn turn(&mut self, command: Command) -> Receipt
         requires { IfSome self.old.seat (λ s. MayAsk ⟦<SharedBook<'a, D, R> as Logged>⟧.may_ask (known_of s) command) }
-        ensures same { (self.new.hall ≡ self.old.hall) × (self.new.jobs ≡ self.old.jobs) × (self.new.pass ≡ self.old.pass) × (self.new.stopped ≡ self.old.stopped) }
+        ensures same { (self.new.hall ≡ self.old.hall) × (self.new.jobs ≡ self.old.jobs) × (self.new.pass ≡ self.old.pass) × (self.new.stopped ≡ self.old.stopped) × (self.new.began ≡ self.old.began) }
         ensures turn { TakesTurn ⟦<SharedBook<'a, D, R> as Logged>⟧.log_of ⟦<SharedBook<'a, D, R> as Logged>⟧.basis_of ⟦<SharedBook<'a, D, R> as Logged>⟧.asks ⟦<SharedBook<'a, D, R> as Logged>⟧.answers
             self.old.seat self.old.kept command result self.new.seat self.new.kept }
     {
@@ -111,7 +123,7 @@ impl<'h, 'a, D: Telling, R: Reporter, G: Gate, W: Wait> HallDesk<'h, 'a, D, R, G
 
     // Puts the job of a crash, where there is one, once. A full ring leaves it to a later sweep.
     fn put(&mut self, due: Option<CrashId>)
-        ensures same { (self.new.hall ≡ self.old.hall) × (self.new.jobs ≡ self.old.jobs) × (self.new.seat ≡ self.old.seat) × (self.new.stopped ≡ self.old.stopped) × (self.new.kept ≡ self.old.kept) }
+        ensures same { (self.new.hall ≡ self.old.hall) × (self.new.jobs ≡ self.old.jobs) × (self.new.seat ≡ self.old.seat) × (self.new.stopped ≡ self.old.stopped) × (self.new.kept ≡ self.old.kept) × (self.new.began ≡ self.old.began) }
         ensures put { IsSomeAnd self.old.pass (λ p. IsSomeAnd self.new.pass (λ q. PutsJob due p q)) }
     {
         let Some(id) = due else {
@@ -142,7 +154,8 @@ impl<'h, 'a, D: Telling, R: Reporter, G: Gate, W: Wait> Desk for HallDesk<'h, 'a
         × TakesTurn ⟦<SharedBook<'a, D, R> as Logged>⟧.log_of ⟦<SharedBook<'a, D, R> as Logged>⟧.basis_of ⟦<SharedBook<'a, D, R> as Logged>⟧.asks ⟦<SharedBook<'a, D, R> as Logged>⟧.answers
         before.seat before.kept command receipt after.seat after.kept
         × IsSomeAnd before.pass (λ p. IsSomeAnd after.pass (λ q. PutsJob (due_after (asked_id command) receipt.reply) p q))
-        × (after.stopped ≡ (before.stopped || receipt.stopped)) };
+        × (after.stopped ≡ (before.stopped || receipt.stopped))
+        × (after.began ≡ before.began) };
 
     fn ask(&mut self, command: Command) -> Receipt {
         let asked = asked_id(&command);

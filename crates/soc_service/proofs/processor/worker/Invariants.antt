@@ -20,7 +20,7 @@ invariant-loop g l = record {
   puts_none : ((seen_of l.pass).number ≡ (seen_of l.initial.pass).number) × ((seen_of l.pass).puts ≡ (seen_of l.initial.pass).puts) × (fulls_of l.pass ≡ fulls_of l.initial.pass);
   worked : HasWorked {T = SharedBook g.row.D.Denot g.row.R.Denot g.D.Telling g.D.Disk g.R.Reporter}
       (λ s. changes_at (body_at g.D.Telling.tells (g.D.Disk.state s.book.vault.disk.now).content) s.book.ledger.log s.book.ledger.crashes)
-      (λ s. record { reporter = s.book.reporter.now; limits = s.book.limits; lent = s.book.vault.disk.ghost_name; faults = (g.D.Disk.state s.opened.value).faults })
+      (λ s. record { reporter = s.book.reporter.now; limits = s.book.limits; lent = s.book.vault.disk.ghost_name; opened = s.opened.value })
       (λ before command receipt after. (after.book.vault.disk.ghost_name ≡ before.book.vault.disk.ghost_name)
       × (after.book.limits ≡ before.book.limits)
       × (after.book.reporter.now ≡ before.book.reporter.now)

@@ -1,10 +1,13 @@
 use Rattle.std.proofs.Common.{◌+◌, ◌≤◌, length, sym, ap, ◌∙◌, arith}
 use Rattle.std.specs.Coded.{Coded-set, le_prop, ×_prop}
+use Rattle.std.proofs.Math.Logic.{∥∥₁_map}
 use Rattle.atomic_table.specs.Seated.{table_id_coded}
 use Rattle.soc_hall.specs.Seats.{IsSeatOf, known_of, seen_of}
 use Rattle.soc_service.proofs.Booked.{book_desk, turn_of}
 use Rattle.soc_service.proofs.Counted.{added_is, by_keeps, fits, rises, stays_below}
-use Rattle.soc_service.proofs.Options.{is_some_and, known_some}
+use Rattle.soc_service.specs.Desks.{HasTurned}
+use Rattle.soc_service.proofs.Options.{at_some, is_some_and, known_some}
+use Rattle.soc_service.proofs.Turned.{by_turn, turned_more}
 use Rattle.soc_service.proofs.desk.HallDesk.turn.Goals as goal
 
 pub take_turn-seat-requires-clause-seat : goal.take_turn-seat-requires-clause-seat
@@ -35,6 +38,15 @@ invariant_of-self-clause-sits g c =
       stays_below _ _ _ (book_desk g.R.Reporter.row_of g.R.Reporter.digest_of g.D.Telling.tells) (turn_of _ _ _ _ _ _ _ _ c.take_turn-seat.ensures.turn) c.args.self.now.kept c.kept_between-kept.result few
           (by_keeps _ _ _ _ c.keeps_all-keeps.ensures c.kept_between-kept.ensures),
     ) ∣₁
+
+pub invariant_of-self-clause-turned : goal.invariant_of-self-clause-turned
+invariant_of-self-clause-turned g c =
+    let turn = turn_of _ _ _ _ _ _ _ _ c.take_turn-seat.ensures.turn in
+    let before = c.args.self.now in
+    ∥∥₁_map before.turned
+    (λ h. turned_more _ _ _ _ _ (at_some (λ s. HasTurned (known_of before.began.value) (known_of s) before.kept) before.seat c.in-Some.seat (sym c.take.ensures.value ∙ c.in-Some.is) h)
+    (by_turn _ _ _ _ _ _ _ _ turn c.kept_between-kept.result
+    (sym (added_is _ _ _ (book_desk g.R.Reporter.row_of g.R.Reporter.digest_of g.D.Telling.tells) turn c.kept_between-kept.result (by_keeps _ _ _ _ c.keeps_all-keeps.ensures c.kept_between-kept.ensures)))))
 
 pub returns-clause-turn : goal.returns-clause-turn
 returns-clause-turn g c =

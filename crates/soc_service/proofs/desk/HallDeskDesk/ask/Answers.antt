@@ -10,4 +10,5 @@ returns-clause-asks g c = (
   takes_on _ _ _ _ _ _ _ _ _ _ _ _ c.put.ensures.same.2 c.put.ensures.same.4 c.turn-receipt.ensures.turn,
   puts_on _ _ _ _ _ c.turn-receipt.ensures.same.2 (c.due_after.ensures ∙ ap (λ id. due_after id c.turn-receipt.result.reply) c.asked_id-asked.ensures) c.put.ensures.put,
   c.is_either-self.ensures ∙ ap (λ b. b || c.turn-receipt.result.stopped) (c.put.ensures.same.3 ∙ c.turn-receipt.ensures.same.3),
+  c.put.ensures.same.5 ∙ c.turn-receipt.ensures.same.4,
 )
