@@ -1,3 +1,4 @@
+pub mod Asked
 pub mod Serving
 pub mod Tallies
 pub mod inner

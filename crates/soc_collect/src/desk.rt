@@ -18,5 +18,5 @@ pub trait KeepingDesk: Desk {
 
     // The count never falls, and a log is short.
     ghost added_grows: { (before : Self) (command : Command) (receipt : Receipt) (after : Self) → Self.Asks before command receipt after
-        → (added before ≤ added after) × (added after < 2 ^ 63) };
+        → (added before ≤ added after) × (added after < 2 ^ 60) };
 }

@@ -76,7 +76,7 @@ fn attend<K: KeepingDesk, X: Source + Sink, C: Clock, W: Draws>(
         (around (X.told conn.old) desk.old (outlook (C.told clock.old) (W.told draws.old)))
         (around (X.told conn.new) desk.new (outlook (C.told clock.new) (W.told draws.new)))
         buffer.new result.0 result.1 }
-    ensures added { (K.added desk.old ≤ K.added desk.new) × (K.added desk.new < 2 ^ 63) }
+    ensures added { (K.added desk.old ≤ K.added desk.new) × (K.added desk.new < 2 ^ 60) }
     ensures never_fall { NeverFall (X.told conn.old) (X.told conn.new) }
     ensures unread { IfNone result.0 (X.told conn.new ≡ X.told conn.old) }
     ensures cause { HasCause (result.0 ≡ Some SessionEnd.ReadFault) (result.0 ≡ Some SessionEnd.WriteFault) (X.told conn.old) (X.told conn.new) }
@@ -116,7 +116,7 @@ fn answer<K: KeepingDesk, X: Source + Sink, C: Clock, W: Draws>(
         (around (X.told conn.old) watched.old.desk.now (outlook (C.told clock.old) (W.told draws.old)))
         (around (X.told conn.new) watched.new.desk.now (outlook (C.told clock.new) (W.told draws.new)))
         buffer.new result watched.new.stopped }
-    ensures added { (K.added watched.old.desk.now ≤ K.added watched.new.desk.now) × (K.added watched.new.desk.now < 2 ^ 63) }
+    ensures added { (K.added watched.old.desk.now ≤ K.added watched.new.desk.now) × (K.added watched.new.desk.now < 2 ^ 60) }
     ensures never_fall { NeverFall (X.told conn.old) (X.told conn.new) }
     ensures unread { IfNone result (X.told conn.new ≡ X.told conn.old) }
     ensures cause { HasCause (result ≡ Some SessionEnd.ReadFault) (result ≡ Some SessionEnd.WriteFault) (X.told conn.old) (X.told conn.new) }

@@ -1,4 +1,6 @@
 //! Worked rows: connections served one after another, at a desk that keeps nothing.
+ghost use Rattle.std.specs.Prelude.{◌≡◌};
+
 mod booth;
 
 use self::booth::Booth;
@@ -9,8 +11,12 @@ use soc_listen::{Listener, MemConn, MemListener};
 use soc_raw::Bytes;
 use soc_schema::{Products, Tokens};
 use soc_session::{Rules, SessionEnd};
+use soc_shared::{Door, Naming, Ticket};
 use soc_throttle::RuleSet;
 use std::alloc::Global;
+use std::marker::Brand;
+use std::sync::ledger::{Blank, Ledger};
+use std::sync::{Mutex, Wait};
 use std::test::Fail;
 
 const TOKENS: &str = r#"
@@ -35,6 +41,21 @@ fn rules(alloc: Global) -> Result<Rules, Fail> {
     })
 }
 
+// A listener of these scripts, each connection with so much room, whose calls with these numbers fail.
+fn listener(
+    alloc: Global,
+    scripts: &[&[u8]],
+    room: usize,
+    fails: &[u64],
+) -> Result<MemListener, Fail> {
+    let mut list = Vec::new(alloc);
+    for script in scripts {
+        list.push(Bytes::of(alloc, script)?)?;
+    }
+    let fails = Numbers::new(fails.to_vec(alloc)?);
+    Ok(MemListener::new(alloc, BytesList::new(list), room, fails)?)
+}
+
 // How connections of these scripts end, each with so much room, and what is left of the listener.
 #[derive(Drop)]
 struct Served {
@@ -44,12 +65,7 @@ struct Served {
 }
 
 fn serve_all(alloc: Global, scripts: &[&[u8]], room: usize) -> Result<Served, Fail> {
-    let mut list = Vec::new(alloc);
-    for script in scripts {
-        list.push(Bytes::of(alloc, script)?)?;
-    }
-    let none = Numbers::new(Vec::new(alloc));
-    let mut listener = MemListener::new(alloc, BytesList::new(list), room, none)?;
+    let mut listener = listener(alloc, scripts, room, &[])?;
     let mut desk = Booth::new();
     let mut served = Tally::new();
     let mut ends = Vec::new(alloc);
@@ -169,5 +185,94 @@ fn counts_are_put_together(rt: HostRuntime) -> Result<(), Fail> {
     assert_eq!(rt; all.connections(), 3);
     assert_eq!(rt; all.kept(), 4);
     assert!(rt; all.stopped());
+    Ok(())
+}
+
+// What one collector served, and whether the listener failed.
+#[derive(Drop)]
+struct Collected {
+    served: Tally<MemConn>,
+    failed: bool,
+}
+
+fn collect_alone<N: Ledger, M: Ledger, J: Naming, R: Wait>(
+    rt: &R,
+    alloc: Global,
+    listener: MemListener,
+    handed: Blank,
+    refused: Blank,
+) -> Result<Collected, Fail>
+    requires listener { ⟦<MemListener as Listener>⟧.told listener ≡ J.opened }
+    requires names { (handed.name ≡ N.name) × (refused.name ≡ M.name) }
+    requires parts { (handed.parts ≡ N.parts) × (refused.parts ≡ M.parts) }
+    requires one { (handed.parts ≡ 1) × (refused.parts ≡ 1) }
+{
+    let (door, mut ticket): (Door<MemListener, N, M, J>, Ticket<N, M>) = Door::open(
+        listener, handed, refused,
+    );
+    let door = Mutex::new(door);
+    let clock = Mutex::new(MemClock::new(Numbers::new(vec![in alloc; 1_474_156_800]?)));
+    let draws = Mutex::new(MemDraws::new(
+        Numbers::new(vec![in alloc; 0]?),
+        Ids16::new(vec![in alloc; [0; 16]]?),
+    ));
+    let mut desk = Booth::new();
+    let mut served = Tally::new();
+    let rules = rules(alloc)?;
+    let routes = Routes::new(alloc)?;
+    let mut buffer = Buffer::new(alloc)?;
+    collect(
+        rt,
+        alloc,
+        &mut desk,
+        &mut served,
+        &mut ticket,
+        &door,
+        &rules,
+        &routes,
+        &mut buffer,
+        &clock,
+        &draws,
+    );
+    let (_listener, failed) = door.into_inner().close(&mut ticket);
+    Ok(Collected { served, failed })
+}
+
+// The same over ledgers of this call.
+fn collected_alone<R: Wait>(
+    rt: &R,
+    alloc: Global,
+    listener: MemListener,
+) -> Result<Collected, Fail> {
+    collect_alone::<Brand, Brand, Brand, R>(rt, alloc, listener, Blank::new(1), Blank::new(1))
+}
+
+#[test]
+fn a_collector_goes_on_until_the_stop(rt: HostRuntime) -> Result<(), Fail> {
+    let alloc = rt.alloc();
+    let two = listener(alloc, &[NO_ROUTE, STOP], 4_096, &[])?;
+    let Collected { served, failed } = collected_alone(&rt, alloc, two)?;
+    assert_eq!(rt; served.connections(), 2);
+    assert_eq!(rt; served.kept(), 3);
+    assert!(rt; served.stopped());
+    assert!(rt; !failed);
+    let two = listener(alloc, &[STOP, NO_ROUTE], 4_096, &[])?;
+    let Collected { served, failed: _ } = collected_alone(&rt, alloc, two)?;
+    assert_eq!(rt; served.connections(), 1);
+    Ok(())
+}
+
+#[test]
+fn a_collector_goes_on_until_no_connection_comes(rt: HostRuntime) -> Result<(), Fail> {
+    let alloc = rt.alloc();
+    let two = listener(alloc, &[NO_ROUTE, b""], 4_096, &[])?;
+    let Collected { served, failed } = collected_alone(&rt, alloc, two)?;
+    assert_eq!(rt; served.connections(), 2);
+    assert!(rt; !served.stopped());
+    assert!(rt; !failed);
+    let failing = listener(alloc, &[NO_ROUTE, NO_ROUTE], 4_096, &[1])?;
+    let Collected { served, failed } = collected_alone(&rt, alloc, failing)?;
+    assert_eq!(rt; served.connections(), 1);
+    assert!(rt; failed);
     Ok(())
 }

@@ -1,5 +1,5 @@
 -- A vector that is worked on as a slice.
-use Rattle.std.proofs.Common.{◌≡◌, ℕ, List, ◌++◌, length, take, drop, sym, subst}
+use Rattle.std.proofs.Common.{◌≡◌, ℕ, List, ◌++◌, length, take, drop, subst}
 use Rattle.std.proofs.Math.Seq.{take-append_seam}
 
 -- all items are replaced

@@ -6,7 +6,9 @@ mod door;
 mod shared;
 #[cfg(test)]
 mod tests;
+mod ticket;
 
 pub use crew::side_by_side;
-pub use door::Door;
+pub use door::{Door, Naming};
 pub use shared::{SharedClock, SharedDraws};
+pub use ticket::Ticket;

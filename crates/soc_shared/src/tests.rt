@@ -1,9 +1,13 @@
 //! Threads beside each other, over what they share.
+ghost use Rattle.std.specs.Prelude.{◌≡◌, ◌+◌, vec_len};
+
 use super::*;
 use soc_edge::{BytesList, Clock, Draws, Ids16, MemClock, MemDraws, Numbers};
 use soc_listen::{Listener, MemListener};
 use soc_raw::{Bytes, NoMemory};
 use std::alloc::Global;
+use std::marker::Brand;
+use std::sync::ledger::{Blank, Ledger};
 use std::sync::{Mutex, Wait};
 use std::test::Fail;
 use std::thread::Threads;
@@ -37,38 +41,97 @@ fn each_is_worked_on_and_then_the_end_comes(rt: HostRuntime) -> Result<(), Fail>
     Ok(())
 }
 
+// A thread that takes connections: its ticket, and how many it took.
+#[derive(Drop)]
+struct Taker<N: Ledger, M: Ledger> {
+    ticket: Ticket<N, M>,
+    taken: u64,
+    ghost parts: { (ticket.handed.parts ≡ 1) × (ticket.refused.parts ≡ 1) },
+    ghost counted: { ticket.handed.amount ≡ taken },
+}
+
+impl<N: Ledger, M: Ledger> Taker<N, M> {
+    // Takes connections until none comes.
+    fn take<R: Wait, L: Listener, J: Naming>(&mut self, rt: &R, door: &Mutex<Door<L, N, M, J>>) {
+        for _ in rt.forever() {
+            let Taker { ticket, taken } = self;
+            let Some(_conn) = door.lock(rt).accept(ticket) else {
+                break;
+            };
+            *taken += 1;
+        }
+    }
+}
+
+// Has each take connections in a thread of its own.
+fn take_all<
+    N: Ledger + Send + Sync,
+    M: Ledger + Send + Sync,
+    J: Naming + Send + Sync,
+    R: Threads + Wait + Sync,
+    L: Listener,
+>(
+    rt: &R,
+    alloc: Global,
+    takers: Vec<Taker<N, M>>,
+    door: &Mutex<Door<L, N, M, J>>,
+) -> Vec<Taker<N, M>>
+    ensures { vec_len result ≡ vec_len takers }
+{
+    let (takers, _, _) = side_by_side(
+        rt,
+        takers,
+        Vec::<u64>::new(alloc),
+        &|_place: usize, taker: &mut Taker<N, M>| taker.take(rt, door),
+        &|_place: usize, _count: &mut u64| {},
+        || (),
+    );
+    takers
+}
+
 // How many connections two threads take, and whether the listener has failed.
-fn taken_by_two<R: Threads + Wait + Sync, L: Listener + Drop>(
+fn taken_by_two<
+    N: Ledger + Send + Sync,
+    M: Ledger + Send + Sync,
+    J: Naming + Send + Sync,
+    R: Threads + Wait + Sync,
+    L: Listener + Drop,
+>(
+    rt: &R,
+    alloc: Global,
+    listener: L,
+    handed: Blank,
+    refused: Blank,
+) -> Result<(u64, bool), NoMemory>
+    requires listener { L.told listener ≡ J.opened }
+    requires names { (handed.name ≡ N.name) × (refused.name ≡ M.name) }
+    requires parts { (handed.parts ≡ N.parts) × (refused.parts ≡ M.parts) }
+    requires two { (handed.parts ≡ 2) × (refused.parts ≡ 2) }
+{
+    let (door, mut all): (Door<L, N, M, J>, Ticket<N, M>) = Door::open(listener, handed, refused);
+    let mut takers = Vec::new(alloc);
+    for _i in 0..2usize {
+        let ticket = all.split_off();
+        takers.push(Taker { ticket, taken: 0 })?;
+    }
+    let door = Mutex::new(door);
+    let mut takers = take_all(rt, alloc, takers, &door);
+    let mut total = 0u64;
+    while let Some(taker) = takers.pop() {
+        let Taker { ticket, taken } = taker;
+        all.merge(ticket);
+        total = total.wrapping_add(taken);
+    }
+    Ok((total, door.into_inner().close(&mut all).1))
+}
+
+// The same over ledgers of this call.
+fn by_two<R: Threads + Wait + Sync, L: Listener + Drop>(
     rt: &R,
     alloc: Global,
     listener: L,
 ) -> Result<(u64, bool), NoMemory> {
-    let door = Mutex::new(Door::new(listener));
-    let counts = [0u64, 0].to_vec(alloc)?;
-    let (counts, _, _) = side_by_side(
-        rt,
-        counts,
-        Vec::<u64>::new(alloc),
-        &|_place: usize, count: &mut u64| *count = taken(rt, &door),
-        &|_place: usize, _count: &mut u64| {},
-        || (),
-    );
-    let total = counts
-        .iter()
-        .fold(0u64, |total, count| total.wrapping_add(*count));
-    Ok((total, door.into_inner().close().1))
-}
-
-// Takes connections until none comes.
-fn taken<R: Wait, L: Listener>(rt: &R, door: &Mutex<Door<L>>) -> u64 {
-    let mut count = 0u64;
-    for _ in rt.forever() {
-        let Some(_conn) = door.lock(rt).accept() else {
-            break;
-        };
-        count = count.wrapping_add(1);
-    }
-    count
+    taken_by_two::<Brand, Brand, Brand, R, L>(rt, alloc, listener, Blank::new(2), Blank::new(2))
 }
 
 // A listener of so many scripts, whose calls with these numbers fail.
@@ -84,9 +147,9 @@ fn listener(alloc: Global, scripts: usize, fails: &[u64]) -> Result<MemListener,
 #[test]
 fn each_connection_goes_to_one_thread(rt: HostRuntime) -> Result<(), Fail> {
     let plain = listener(rt.alloc(), 100, &[])?;
-    assert_eq!(rt; taken_by_two(&rt, rt.alloc(), plain)?, (100, false));
+    assert_eq!(rt; by_two(&rt, rt.alloc(), plain)?, (100, false));
     let failing = listener(rt.alloc(), 0, &[0, 1])?;
-    assert_eq!(rt; taken_by_two(&rt, rt.alloc(), failing)?, (0, true));
+    assert_eq!(rt; by_two(&rt, rt.alloc(), failing)?, (0, true));
     Ok(())
 }
 

@@ -20,7 +20,7 @@ module _ {T B S : Type 0} (log_of : T → List Change) (basis_of : T → B) (ask
   pub counted_grows : (before after : Option (HallSeat S B Change Command Receipt)) (kept kept' : ℕ) (command : Command) (receipt : Receipt) (Sits : HallSeat S B Change Command Receipt → Type 0)
       → TakesTurn log_of basis_of asks (Tells desk) before kept command receipt after kept'
       → ∥ IsSomeAnd after (λ t. Sits t × (kept' ≤ length (seen_of (known_of t)))) ∥₁
-      → (kept ≤ kept') × (kept' < 2 ^ 63)
+      → (kept ≤ kept') × (kept' < 2 ^ 60)
   counted_grows None after kept kept' command receipt Sits takes sits = absurd takes
   counted_grows (Some s) None kept kept' command receipt Sits takes sits = absurd takes
   counted_grows (Some s) (Some t) kept kept' command receipt Sits takes sits =

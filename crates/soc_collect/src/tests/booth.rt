@@ -18,7 +18,9 @@ pub(crate) struct Booth {
 }
 
 impl Booth {
-    pub(crate) fn new() -> Booth {
+    pub(crate) fn new() -> Booth
+        ensures { result.asked ≡ 0 }
+    {
         Booth {
             asked: 0,
             stopped: false,
@@ -31,7 +33,7 @@ impl Desk for Booth {
 
     ghost Allows = { λ _ _. ⊤ };
 
-    ghost Asks = { λ before _ _ after. (before.asked ≤ after.asked) × (after.asked < 2 ^ 63) };
+    ghost Asks = { λ before _ _ after. (before.asked ≤ after.asked) × (after.asked < 2 ^ 60) };
 
     fn ask(&mut self, command: Command) -> Receipt {
         let reply = reply_to(&command);

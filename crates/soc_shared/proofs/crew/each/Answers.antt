@@ -1,4 +1,4 @@
-use Rattle.std.proofs.Common.{◌≡◌, length, sym, ap, ◌∙◌}
+use Rattle.std.proofs.Common.{◌≡◌, length, ◌∙◌}
 use Rattle.soc_shared.proofs.Crews.{replaced}
 use Rattle.soc_shared.proofs.crew.each.Goals as goal
 
