@@ -1,5 +1,6 @@
 -- The service by what its words and its files say.
-use Rattle.std.proofs.Common.{◌≡◌, ℕ, List, Option, Some, refl, sym, subst, inl, inr, arith}
+use Rattle.std.proofs.Common.{◌≡◌, ℕ, List, Option, Some, Result, Ok, refl, sym, subst, inl, inr, arith}
+use Rattle.std.specs.Prelude.{IfOk}
 use Rattle.soc_raw.specs.Record.{Crash}
 use Rattle.soc_schema.specs.declared.value.Cell.{Cell}
 use Rattle.soc_report.specs.Texts.{KitTexts}
@@ -23,28 +24,28 @@ use Rattle.soc_host.specs.inner.Hosting.{HostsFiles}
 use Rattle.soc_host.specs.inner.Serving.{ServesDesk}
 
 -- a kit is seen as its texts
-pub serves_with : (kit texts : KitTexts) (setup : Setup) (before after : Surroundings) (end : HostEnd) → kit ≡ texts
-    → ServesDesk (rows_of kit) (digest_of kit) setup before after end → ServesDesk (rows_of texts) (digest_of texts) setup before after end
-serves_with kit texts setup before after end same serves = subst (λ k. ServesDesk (rows_of k) (digest_of k) setup before after end) same serves
+pub serves_with : (kit texts : KitTexts) (setup : Setup) (kept : ℕ) (before after : Surroundings) (end : HostEnd) → kit ≡ texts
+    → ServesDesk (rows_of kit) (digest_of kit) setup kept before after end → ServesDesk (rows_of texts) (digest_of texts) setup kept before after end
+serves_with kit texts setup kept before after end same serves = subst (λ k. ServesDesk (rows_of k) (digest_of k) setup kept before after end) same serves
 
-early_of : (before after : Outside) (end : RunEnd) → HostsFiles before after (H.Before end) → EndsEarly before after end
-early_of before after R.JournalRefused files = record { said = files.said; says = files.says; runs = files.serves.not }
-early_of before after R.OpenFault files = (record { said = files.said; says = files.says; runs = files.serves.not }, files.serves.cause refl)
-early_of before after R.LineFault files = inr (record { said = files.said; says = files.says; runs = files.serves.not })
-early_of before after R.NoMemory files = files.serves.not
-early_of before after (R.Served _ _) files = absurd files.serves.not
-early_of before after R.TextRefused files = absurd files.serves.not
-early_of before after R.TreeFault files = absurd files.serves.not
-early_of before after R.MakerFault files = absurd files.serves.not
-early_of before after R.Written files = absurd files.serves.not
-early_of before after R.Usage files = absurd files.serves.not
+early_of : (kept : ℕ) (before after : Outside) (end : RunEnd) → HostsFiles kept before after (H.Before end) → EndsEarly before after end
+early_of kept before after R.JournalRefused files = record { said = files.said; says = files.says; runs = files.serves.not }
+early_of kept before after R.OpenFault files = (record { said = files.said; says = files.says; runs = files.serves.not }, files.serves.cause refl)
+early_of kept before after R.LineFault files = inr (record { said = files.said; says = files.says; runs = files.serves.not })
+early_of kept before after R.NoMemory files = files.serves.not
+early_of kept before after (R.Served _ _) files = absurd files.serves.not
+early_of kept before after R.TextRefused files = absurd files.serves.not
+early_of kept before after R.TreeFault files = absurd files.serves.not
+early_of kept before after R.MakerFault files = absurd files.serves.not
+early_of kept before after R.Written files = absurd files.serves.not
+early_of kept before after R.Usage files = absurd files.serves.not
 
-pub hosts_of : (before after : Outside) (end : HostEnd) → HostsFiles before after end → Hosts before after end
-hosts_of before after (H.Before end) files = early_of before after end files
-hosts_of before after (H.Swept fault) files = record { said = files.said; says = files.says; hosts = files.serves }
-hosts_of before after (H.Lines fault) files = record { said = files.said; says = files.says; hosts = files.serves }
-hosts_of before after H.Failed files = record { said = files.said; says = files.says; hosts = files.serves }
-hosts_of before after H.Done files = record { said = files.said; says = files.says; hosts = files.serves }
+pub hosts_of : (kept : ℕ) (before after : Outside) (end : HostEnd) → HostsFiles kept before after end → Hosts kept before after end
+hosts_of kept before after (H.Before end) files = early_of kept before after end files
+hosts_of kept before after (H.Swept fault) files = record { said = files.said; says = files.says; hosts = files.serves }
+hosts_of kept before after (H.Lines fault) files = record { said = files.said; says = files.says; hosts = files.serves }
+hosts_of kept before after H.Failed files = record { said = files.said; says = files.says; hosts = files.serves }
+hosts_of kept before after H.Done files = record { said = files.said; says = files.says; hosts = files.serves }
 
 -- neither the tree nor the maker of patterns is blamed once the files are read
 BlamesNeither : ℕ → Type 0
@@ -63,18 +64,22 @@ early_blames before after R.TextRefused never = absurd never
 early_blames before after R.TreeFault never = absurd never
 early_blames before after R.MakerFault never = absurd never
 
-pub blames_neither : (row_of : Crash → List Cell) (digest : Option (List ℕ)) (setup : Setup) (before after : Surroundings) (end : HostEnd) → ServesDesk row_of digest setup before after end
+pub blames_neither : (row_of : Crash → List Cell) (digest : Option (List ℕ)) (setup : Setup) (kept : ℕ) (before after : Surroundings) (end : HostEnd) → ServesDesk row_of digest setup kept before after end
     → (status_of end ≡ 8 → ⊥) × (status_of end ≡ 11 → ⊥)
 unfolding BlamesNeither
-blames_neither row_of digest setup before after (H.Before end) serves = early_blames before after end serves.not
-blames_neither row_of digest setup before after (H.Swept S.Disk) serves = ((λ is. omega (arith, is)), (λ is. omega (arith, is)))
-blames_neither row_of digest setup before after (H.Swept S.NoMemory) serves = ((λ is. omega (arith, is)), (λ is. omega (arith, is)))
-blames_neither row_of digest setup before after (H.Lines L.Cut) serves = ((λ is. omega (arith, is)), (λ is. omega (arith, is)))
-blames_neither row_of digest setup before after (H.Lines L.NoMemory) serves = ((λ is. omega (arith, is)), (λ is. omega (arith, is)))
-blames_neither row_of digest setup before after H.Failed serves = ((λ is. omega (arith, is)), (λ is. omega (arith, is)))
-blames_neither row_of digest setup before after H.Done serves = ((λ is. omega (arith, is)), (λ is. omega (arith, is)))
+blames_neither row_of digest setup kept before after (H.Before end) serves = early_blames before after end serves.not
+blames_neither row_of digest setup kept before after (H.Swept S.Disk) serves = ((λ is. omega (arith, is)), (λ is. omega (arith, is)))
+blames_neither row_of digest setup kept before after (H.Swept S.NoMemory) serves = ((λ is. omega (arith, is)), (λ is. omega (arith, is)))
+blames_neither row_of digest setup kept before after (H.Lines L.Cut) serves = ((λ is. omega (arith, is)), (λ is. omega (arith, is)))
+blames_neither row_of digest setup kept before after (H.Lines L.NoMemory) serves = ((λ is. omega (arith, is)), (λ is. omega (arith, is)))
+blames_neither row_of digest setup kept before after H.Failed serves = ((λ is. omega (arith, is)), (λ is. omega (arith, is)))
+blames_neither row_of digest setup kept before after H.Done serves = ((λ is. omega (arith, is)), (λ is. omega (arith, is)))
 
-pub hosts_words : (said : Option Words) (words : Words) (before after : Outside) (end : HostEnd) → said ≡ Some words → words.command ≡ T.Serve → Hosts before after end
-    → HostsWords said before after end
-hosts_words said words before after end is serve hosts =
-    inl (subst (λ (s : Option Words). HostsSaid s before after end) (sym is) (subst (λ (task : Task). HostsTask task before after end) (sym serve) hosts))
+pub hosts_words : (said : Option Words) (words : Words) (kept : ℕ) (before after : Outside) (end : HostEnd) → said ≡ Some words → words.command ≡ T.Serve → Hosts kept before after end
+    → HostsWords said kept before after end
+hosts_words said words kept before after end is serve hosts =
+    inl (subst (λ (s : Option Words). HostsSaid s kept before after end) (sym is) (subst (λ (task : Task). HostsTask task kept before after end) (sym serve) hosts))
+
+-- what an `Ok` is said of
+pub ok_of : {A E : Type 0} (P : A → Type 0) (result : Result A E) (value : A) → result ≡ Ok value → IfOk result P → P value
+ok_of P result value is ok = subst (λ r. IfOk r P) is ok

@@ -1,5 +1,4 @@
-pub mod Askings
+pub mod Crossing
 pub mod Hosted
 pub mod Hostings
-pub mod Listeners
 pub mod Sweeps

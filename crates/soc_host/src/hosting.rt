@@ -1,11 +1,14 @@
 //! What the program does with its words over a listener.
-ghost use Rattle.std.specs.Prelude.{◌≡◌, ◌≤◌, IfErr, IfOk, IfSome, IsErrOf, OnErr, map, string_bytes};
+ghost use Rattle.std.specs.Prelude.{◌≡◌, ◌⊎◌, ◌+◌, ◌≤◌, ◌<◌, IfErr, IfOk, IfSome, IsErrOf, Ok, OnErr, map, string_bytes, true};
+ghost use Rattle.soc_collect.specs.Tallies.{nothing_served};
 ghost use Rattle.soc_edge.specs.Ahead.{Outlook};
 ghost use Rattle.soc_edge.specs.Faults.{Rose};
 ghost use Rattle.soc_edge.specs.Told.{OnlyWrites, WriteFailed};
 ghost use Rattle.soc_edge.specs.Tree.{OnlyLooks, TreeFailed};
 ghost use Rattle.soc_serve.specs.Files.{files_say};
+ghost use Rattle.soc_serve.specs.Setup.{setup_of};
 ghost use Rattle.soc_serve.specs.inner.Replay.{IsFilesFault};
+ghost use Rattle.soc_serve.specs.inner.Texts.{AreTexts};
 ghost use Rattle.soc_words.specs.Words.{words_of};
 ghost use Rattle.soc_host.specs.Ends.{status_of};
 ghost use Rattle.soc_host.specs.Hosts.{Hosts, HostsWords, hosted};
@@ -14,164 +17,273 @@ ghost use Rattle.soc_host.specs.inner.Hosting.{HostsFiles, StaysAway};
 
 use crate::ending::HostEnd;
 use crate::serving::serve;
-use soc_edge::{Clock, Disk, Draws, Sink, Tree};
+use soc_collect::Tally;
+use soc_crew::Crew;
+use soc_edge::{Clock, Draws, Sink, Tree};
 use soc_listen::Listener;
 use soc_report::Kit;
-use soc_serve::{FilesFault, RunEnd, read_texts, refuse_text, set_up, tell_usage};
+use soc_serve::{FilesFault, RunEnd, Setup, Texts, read_texts, refuse_text, set_up, tell_usage};
+use soc_service::Gate;
 use soc_siglists::Maker;
+use soc_turns::Telling;
 use soc_words::{Task, Words, WordsError};
 use std::alloc::Global;
 use std::sync::Wait;
+use std::thread::Threads;
 
 /// Runs the service over a listener.
 ///
-/// `serve` reads the tree's files, opens the disk's journal, and answers the messages of the listener's connections, one
-/// connection after another; what each made due is processed after it. Once a message has asked for the stop, the listener
-/// has no further connection, or it fails, what is due is processed, the reports are kept, and two lines tell how many
-/// crashes are held and how many of them have a report. With any other words, also those of commands that another call
-/// carries, the usage line is written.
+/// `serve` reads the tree's files, opens the disk's journal, and answers the messages of the listener's connections by
+/// collectors, beside processors that make the reports; `served` counts what came of them. Once a message has asked for the
+/// stop, the listener has no further connection, or it fails, what is due is processed, the reports are kept, and two lines
+/// tell how many crashes are held and how many of them have a report. With any other words, also those of commands that
+/// another call carries, the usage line is written.
 ///
-/// The answer is the status that the process ends with: 0 after a stop or the listener's end, 2 for other words, 3 where a
-/// file was refused and its line was written, 4 where the disk failed while the journal was opened or in the last sweep, or
-/// gave back there other bytes than it was given, 5 where the journal was refused and its line was written, 6 where the
-/// listener failed, 7 where the output failed, 8 where the tree failed, 10 where an allocation failed, 11 where the maker of
-/// patterns failed.
-pub fn run_listener<R: Wait, T: Tree, L: Listener, K: Sink, D: Disk, C: Clock, W: Draws, P: Maker>(
+/// The answer is the status that the process ends with, and the listener: 0 after a stop or the listener's end, 2 for other
+/// words, 3 where a file was refused and its line was written, 4 where the disk failed while the journal was opened or in the
+/// last sweep, or gave back there other bytes than it was given, 5 where the journal was refused and its line was written, 6
+/// where the listener failed, 7 where the output failed, 8 where the tree failed, 10 where an allocation failed, 11 where the
+/// maker of patterns failed.
+pub fn run_hall<
+    R: Threads + Wait + Sync,
+    T: Tree,
+    L: Listener,
+    K: Sink,
+    D: Telling + Send,
+    C: Clock + Send,
+    W: Draws + Send,
+    P: Maker,
+    G: Gate + Sync,
+>(
     rt: &R,
     alloc: Global,
     words: &[String],
     tree: &mut T,
-    listener: &mut L,
+    listener: L,
     output: &mut K,
     disk: &mut D,
     clock: &mut C,
     draws: &mut W,
     maker: &mut P,
-) -> u8
-    ensures hosts { (end : End) × (result ≡ status_of end) × ((outlook : Outlook) → HostsWords (words_of (map string_bytes words.now))
+    gate: &G,
+    served: &mut Tally<L::Conn>,
+) -> (u8, L)
+    requires served { served.old ≡ nothing_served }
+    ensures hosts { (end : End) × (result.0 ≡ status_of end) × ((outlook : Outlook) → HostsWords (words_of (map string_bytes words.now)) served.new.kept
         (hosted (T.told tree.old) (P.faults maker.old) (K.told output.old) (D.state disk.old) outlook)
         (hosted (T.told tree.new) (P.faults maker.new) (K.told output.new) (D.state disk.new) outlook)
         end) }
+    ensures handed { (L.told result.1).handed ≡ (L.told listener).handed + served.new.connections }
+    ensures over { result.0 ≡ 0 → (served.new.stopped ≡ true) ⊎ ((L.told result.1).ended ≡ true) }
     ensures looks { OnlyLooks (T.told tree.old) (T.told tree.new) }
     ensures makes_on { P.faults maker.old ≤ P.faults maker.new }
     ensures only { OnlyWrites (K.told output.old) (K.told output.new) }
-    ensures no_fewer { (L.told listener.old).faults ≤ (L.told listener.new).faults }
-    ensures listener_cause { result ≡ 6 → Rose (L.told listener.old).faults (L.told listener.new).faults }
-    ensures cause { result ≡ 7 → WriteFailed (K.told output.old) (K.told output.new) }
-    ensures tree_cause { result ≡ 8 → TreeFailed (T.told tree.old) (T.told tree.new) }
-    ensures maker_cause { result ≡ 11 → Rose (P.faults maker.old) (P.faults maker.new) }
+    ensures no_fewer { (L.told listener).faults ≤ (L.told result.1).faults }
+    ensures listener_cause { result.0 ≡ 6 → Rose (L.told listener).faults (L.told result.1).faults }
+    ensures cause { result.0 ≡ 7 → WriteFailed (K.told output.old) (K.told output.new) }
+    ensures tree_cause { result.0 ≡ 8 → TreeFailed (T.told tree.old) (T.told tree.new) }
+    ensures maker_cause { result.0 ≡ 11 → Rose (P.faults maker.old) (P.faults maker.new) }
 {
-    run(
-        rt, alloc, words, tree, listener, output, disk, clock, draws, maker,
-    )
-    .status()
+    let (end, listener) = run(
+        rt, alloc, words, tree, listener, output, disk, clock, draws, maker, gate, served,
+    );
+    (end.status(), listener)
 }
 
 /// Carries out what the words say.
-fn run<R: Wait, T: Tree, L: Listener, K: Sink, D: Disk, C: Clock, W: Draws, P: Maker>(
+fn run<
+    R: Threads + Wait + Sync,
+    T: Tree,
+    L: Listener,
+    K: Sink,
+    D: Telling + Send,
+    C: Clock + Send,
+    W: Draws + Send,
+    P: Maker,
+    G: Gate + Sync,
+>(
     rt: &R,
     alloc: Global,
     words: &[String],
     tree: &mut T,
-    listener: &mut L,
+    listener: L,
     output: &mut K,
     disk: &mut D,
     clock: &mut C,
     draws: &mut W,
     maker: &mut P,
-) -> HostEnd
-    ensures hosts { (outlook : Outlook) → HostsWords (words_of (map string_bytes words.now))
+    gate: &G,
+    served: &mut Tally<L::Conn>,
+) -> (HostEnd, L)
+    requires served { served.old ≡ nothing_served }
+    ensures hosts { (outlook : Outlook) → HostsWords (words_of (map string_bytes words.now)) served.new.kept
         (hosted (T.told tree.old) (P.faults maker.old) (K.told output.old) (D.state disk.old) outlook)
         (hosted (T.told tree.new) (P.faults maker.new) (K.told output.new) (D.state disk.new) outlook)
-        result }
+        result.0 }
+    ensures handed { (L.told result.1).handed ≡ (L.told listener).handed + served.new.connections }
+    ensures over { status_of result.0 ≡ 0 → (served.new.stopped ≡ true) ⊎ ((L.told result.1).ended ≡ true) }
     ensures looks { OnlyLooks (T.told tree.old) (T.told tree.new) }
     ensures makes_on { P.faults maker.old ≤ P.faults maker.new }
     ensures only { OnlyWrites (K.told output.old) (K.told output.new) }
-    ensures no_fewer { (L.told listener.old).faults ≤ (L.told listener.new).faults }
-    ensures listener_cause { status_of result ≡ 6 → Rose (L.told listener.old).faults (L.told listener.new).faults }
-    ensures cause { status_of result ≡ 7 → WriteFailed (K.told output.old) (K.told output.new) }
-    ensures tree_cause { status_of result ≡ 8 → TreeFailed (T.told tree.old) (T.told tree.new) }
-    ensures maker_cause { status_of result ≡ 11 → Rose (P.faults maker.old) (P.faults maker.new) }
+    ensures no_fewer { (L.told listener).faults ≤ (L.told result.1).faults }
+    ensures listener_cause { status_of result.0 ≡ 6 → Rose (L.told listener).faults (L.told result.1).faults }
+    ensures cause { status_of result.0 ≡ 7 → WriteFailed (K.told output.old) (K.told output.new) }
+    ensures tree_cause { status_of result.0 ≡ 8 → TreeFailed (T.told tree.old) (T.told tree.new) }
+    ensures maker_cause { status_of result.0 ≡ 11 → Rose (P.faults maker.old) (P.faults maker.new) }
 {
     match Words::read(alloc, words) {
         Ok(words) => match words.command {
-            Task::Serve => host(rt, alloc, tree, listener, output, disk, clock, draws, maker),
+            Task::Serve => {
+                let crew = Crew {
+                    collectors: words.collectors,
+                    processors: words.processors,
+                };
+                host(
+                    rt, alloc, crew, tree, listener, output, disk, clock, draws, maker, gate,
+                    served,
+                )
+            }
             Task::Check | Task::Make | Task::Replay | Task::Storm => {
-                HostEnd::Before(tell_usage(output))
+                (HostEnd::Before(tell_usage(output)), listener)
             }
         },
-        Err(WordsError::NotOurs) => HostEnd::Before(tell_usage(output)),
-        Err(WordsError::NoMemory) => HostEnd::Before(RunEnd::NoMemory),
+        Err(WordsError::NotOurs) => (HostEnd::Before(tell_usage(output)), listener),
+        Err(WordsError::NoMemory) => (HostEnd::Before(RunEnd::NoMemory), listener),
     }
 }
 
 /// Serves by the files of the tree, over the disk's journal.
-fn host<R: Wait, T: Tree, L: Listener, K: Sink, D: Disk, C: Clock, W: Draws, P: Maker>(
+fn host<
+    R: Threads + Wait + Sync,
+    T: Tree,
+    L: Listener,
+    K: Sink,
+    D: Telling + Send,
+    C: Clock + Send,
+    W: Draws + Send,
+    P: Maker,
+    G: Gate + Sync,
+>(
     rt: &R,
     alloc: Global,
+    crew: Crew,
     tree: &mut T,
-    listener: &mut L,
+    listener: L,
     output: &mut K,
     disk: &mut D,
     clock: &mut C,
     draws: &mut W,
     maker: &mut P,
-) -> HostEnd
-    ensures hosts { (outlook : Outlook) → Hosts
+    gate: &G,
+    served: &mut Tally<L::Conn>,
+) -> (HostEnd, L)
+    requires collectors { (0 < crew.collectors) × (crew.collectors ≤ 8) }
+    requires processors { (0 < crew.processors) × (crew.processors ≤ 8) }
+    requires served { served.old ≡ nothing_served }
+    ensures hosts { (outlook : Outlook) → Hosts served.new.kept
         (hosted (T.told tree.old) (P.faults maker.old) (K.told output.old) (D.state disk.old) outlook)
         (hosted (T.told tree.new) (P.faults maker.new) (K.told output.new) (D.state disk.new) outlook)
-        result }
+        result.0 }
+    ensures handed { (L.told result.1).handed ≡ (L.told listener).handed + served.new.connections }
+    ensures over { status_of result.0 ≡ 0 → (served.new.stopped ≡ true) ⊎ ((L.told result.1).ended ≡ true) }
     ensures looks { OnlyLooks (T.told tree.old) (T.told tree.new) }
     ensures makes_on { P.faults maker.old ≤ P.faults maker.new }
     ensures only { OnlyWrites (K.told output.old) (K.told output.new) }
-    ensures no_fewer { (L.told listener.old).faults ≤ (L.told listener.new).faults }
-    ensures listener_cause { status_of result ≡ 6 → Rose (L.told listener.old).faults (L.told listener.new).faults }
-    ensures cause { status_of result ≡ 7 → WriteFailed (K.told output.old) (K.told output.new) }
-    ensures tree_cause { status_of result ≡ 8 → TreeFailed (T.told tree.old) (T.told tree.new) }
-    ensures maker_cause { status_of result ≡ 11 → Rose (P.faults maker.old) (P.faults maker.new) }
+    ensures no_fewer { (L.told listener).faults ≤ (L.told result.1).faults }
+    ensures listener_cause { status_of result.0 ≡ 6 → Rose (L.told listener).faults (L.told result.1).faults }
+    ensures cause { status_of result.0 ≡ 7 → WriteFailed (K.told output.old) (K.told output.new) }
+    ensures tree_cause { status_of result.0 ≡ 8 → TreeFailed (T.told tree.old) (T.told tree.new) }
+    ensures maker_cause { status_of result.0 ≡ 11 → Rose (P.faults maker.old) (P.faults maker.new) }
 {
-    match by_files(rt, alloc, tree, listener, output, disk, clock, draws, maker) {
-        Ok(end) => end,
-        Err(FilesFault::Refused(refusal)) => HostEnd::Before(refuse_text(alloc, output, &refusal)),
-        Err(FilesFault::Tree) => HostEnd::Before(RunEnd::TreeFault),
-        Err(FilesFault::Maker) => HostEnd::Before(RunEnd::MakerFault),
-        Err(FilesFault::NoMemory) => HostEnd::Before(RunEnd::NoMemory),
+    let (ended, listener) = by_files(
+        rt, alloc, crew, tree, listener, output, disk, clock, draws, maker, gate, served,
+    );
+    match ended {
+        Ok(end) => (end, listener),
+        Err(FilesFault::Refused(refusal)) => {
+            (
+                HostEnd::Before(refuse_text(alloc, output, &refusal)),
+                listener,
+            )
+        }
+        Err(FilesFault::Tree) => (HostEnd::Before(RunEnd::TreeFault), listener),
+        Err(FilesFault::Maker) => (HostEnd::Before(RunEnd::MakerFault), listener),
+        Err(FilesFault::NoMemory) => (HostEnd::Before(RunEnd::NoMemory), listener),
     }
 }
 
 /// Reads all files, looks at them in their order, and then serves. Where the files give nothing to go by, nothing else is
 /// touched.
-fn by_files<R: Wait, T: Tree, L: Listener, K: Sink, D: Disk, C: Clock, W: Draws, P: Maker>(
+fn by_files<
+    R: Threads + Wait + Sync,
+    T: Tree,
+    L: Listener,
+    K: Sink,
+    D: Telling + Send,
+    C: Clock + Send,
+    W: Draws + Send,
+    P: Maker,
+    G: Gate + Sync,
+>(
     rt: &R,
     alloc: Global,
+    crew: Crew,
     tree: &mut T,
-    listener: &mut L,
+    listener: L,
     output: &mut K,
     disk: &mut D,
     clock: &mut C,
     draws: &mut W,
     maker: &mut P,
-) -> Result<HostEnd, FilesFault>
-    ensures hosts { IfOk result (λ end. (outlook : Outlook) → HostsFiles
+    gate: &G,
+    served: &mut Tally<L::Conn>,
+) -> (Result<HostEnd, FilesFault>, L)
+    requires collectors { (0 < crew.collectors) × (crew.collectors ≤ 8) }
+    requires processors { (0 < crew.processors) × (crew.processors ≤ 8) }
+    requires served { served.old ≡ nothing_served }
+    ensures hosts { IfOk result.0 (λ end. (outlook : Outlook) → HostsFiles served.new.kept
         (hosted (T.told tree.old) (P.faults maker.old) (K.told output.old) (D.state disk.old) outlook)
         (hosted (T.told tree.new) (P.faults maker.new) (K.told output.new) (D.state disk.new) outlook)
         end) }
+    ensures fault { IfErr result.0 (λ fault. IfSome (T.told tree.old).files (λ files. IsFilesFault (files_say files) fault)) }
+    ensures before { OnErr result.0 (StaysAway listener output.old disk.old result.1 output.new disk.new) }
+    ensures unserved { OnErr result.0 (served.new ≡ nothing_served) }
+    ensures handed { (L.told result.1).handed ≡ (L.told listener).handed + served.new.connections }
+    ensures over { IfOk result.0 (λ end. status_of end ≡ 0 → (served.new.stopped ≡ true) ⊎ ((L.told result.1).ended ≡ true)) }
+    ensures looks { OnlyLooks (T.told tree.old) (T.told tree.new) }
+    ensures tree_cause { IsErrOf result.0 FilesFault.Tree → TreeFailed (T.told tree.old) (T.told tree.new) }
+    ensures makes_on { P.faults maker.old ≤ P.faults maker.new }
+    ensures maker_cause { IsErrOf result.0 FilesFault.Maker → Rose (P.faults maker.old) (P.faults maker.new) }
+    ensures only { OnlyWrites (K.told output.old) (K.told output.new) }
+    ensures no_fewer { (L.told listener).faults ≤ (L.told result.1).faults }
+    ensures listener_cause { IfOk result.0 (λ end. status_of end ≡ 6 → Rose (L.told listener).faults (L.told result.1).faults) }
+    ensures cause { IfOk result.0 (λ end. status_of end ≡ 7 → WriteFailed (K.told output.old) (K.told output.new)) }
+    ensures never { IfOk result.0 (λ end. (status_of end ≡ 8 → ⊥) × (status_of end ≡ 11 → ⊥)) }
+{
+    let (texts, setup) = match read_files(alloc, tree) {
+        Ok(files) => files,
+        Err(fault) => return (Err(fault), listener),
+    };
+    let kit = match Kit::read(alloc, &texts.kit, maker) {
+        Ok(kit) => kit,
+        Err(error) => return (Err(FilesFault::from(error)), listener),
+    };
+    let (end, listener) = serve(
+        rt, alloc, crew, &setup, &kit, listener, output, disk, clock, draws, gate, served,
+    );
+    (Ok(end), listener)
+}
+
+/// The texts of all files, and what settings and tokens say.
+fn read_files<T: Tree>(alloc: Global, tree: &mut T) -> Result<(Texts, Setup), FilesFault>
+    ensures told { IfOk result (λ files. IfSome (T.told tree.old).files (λ told. AreTexts told files.0)) }
+    ensures says { IfOk result (λ files. setup_of files.0.settings files.0.tokens ≡ Ok files.1) }
     ensures fault { IfErr result (λ fault. IfSome (T.told tree.old).files (λ files. IsFilesFault (files_say files) fault)) }
-    ensures before { OnErr result (StaysAway listener.old output.old disk.old listener.new output.new disk.new) }
+    ensures kinds { IsErrOf result FilesFault.Maker → ⊥ }
     ensures looks { OnlyLooks (T.told tree.old) (T.told tree.new) }
     ensures tree_cause { IsErrOf result FilesFault.Tree → TreeFailed (T.told tree.old) (T.told tree.new) }
-    ensures makes_on { P.faults maker.old ≤ P.faults maker.new }
-    ensures maker_cause { IsErrOf result FilesFault.Maker → Rose (P.faults maker.old) (P.faults maker.new) }
-    ensures only { OnlyWrites (K.told output.old) (K.told output.new) }
-    ensures no_fewer { (L.told listener.old).faults ≤ (L.told listener.new).faults }
-    ensures listener_cause { IfOk result (λ end. status_of end ≡ 6 → Rose (L.told listener.old).faults (L.told listener.new).faults) }
-    ensures cause { IfOk result (λ end. status_of end ≡ 7 → WriteFailed (K.told output.old) (K.told output.new)) }
-    ensures never { IfOk result (λ end. (status_of end ≡ 8 → ⊥) × (status_of end ≡ 11 → ⊥)) }
 {
     let texts = read_texts(alloc, tree)?;
     let setup = set_up(alloc, texts.settings.as_slice(), texts.tokens.as_slice())?;
-    let kit = Kit::read(alloc, &texts.kit, maker)?;
-    Ok(serve(
-        rt, alloc, &setup, &kit, listener, output, disk, clock, draws,
-    ))
+    Ok((texts, setup))
 }

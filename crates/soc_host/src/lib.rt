@@ -1,16 +1,15 @@
-//! The service over a listener: its connections one after another, over one journal.
+//! The service over a listener: collectors and processors beside each other, over one journal.
 #![tactic(auto)]
 
 mod ending;
 mod hosting;
 mod lines;
-mod listening;
 mod serving;
 mod sweep;
 #[cfg(test)]
 mod tests;
 
 pub use ending::HostEnd;
-pub use hosting::run_listener;
+pub use hosting::run_hall;
 pub use lines::LinesFault;
 pub use sweep::SweepFault;

@@ -1,7 +1,7 @@
 //! The service over the desk that a disk's journal opens.
-ghost use Rattle.std.specs.Prelude.{◌≡◌, ◌≤◌, true};
+ghost use Rattle.std.specs.Prelude.{◌≡◌, ◌⊎◌, ◌+◌, ◌≤◌, ◌<◌, IsOkAnd, false, true};
+ghost use Rattle.soc_collect.specs.Tallies.{nothing_served};
 ghost use Rattle.soc_edge.specs.Ahead.{Outlook};
-ghost use Rattle.soc_edge.specs.Disk.{DiskFailed, GoesOn};
 ghost use Rattle.soc_edge.specs.Faults.{Rose};
 ghost use Rattle.soc_edge.specs.Told.{OnlyWrites, WriteFailed};
 ghost use Rattle.soc_desk.specs.Basis.{Basis};
@@ -13,70 +13,99 @@ ghost use Rattle.soc_host.specs.inner.Serving.{ClosesBook, ServesDesk};
 
 use crate::ending::HostEnd;
 use crate::lines::tell_counts;
-use crate::listening::listen;
-use crate::sweep::sweep;
+use crate::sweep::{SweepFault, sweep};
 use soc_book::Book;
+use soc_collect::Tally;
+use soc_crew::{Crew, CrewEnd, serve_together};
 use soc_edge::{Clock, Disk, Draws, Sink};
-use soc_http::{Buffer, Routes};
+use soc_http::Routes;
 use soc_listen::Listener;
+use soc_raw::NoMemory;
 use soc_schema::Reporter;
 use soc_serve::{RunEnd, Setup, open};
+use soc_service::Gate;
+use soc_turns::{SharedBook, Telling};
 use std::alloc::Global;
+use std::snapshot::Snapshot;
 use std::sync::Wait;
+use std::thread::Threads;
 
-/// Opens the desk whose log the disk's journal keeps, answers the messages of the listener's connections, and then sweeps up
-/// and writes the lines.
-pub(crate) fn serve<T: Wait, R: Reporter, L: Listener, K: Sink, D: Disk, C: Clock, W: Draws>(
+/// Opens the desk whose log the disk's journal keeps, has a crew answer the messages of the listener's connections, and then
+/// sweeps up and writes the lines.
+pub(crate) fn serve<
+    T: Threads + Wait + Sync,
+    R: Reporter + Sync,
+    L: Listener,
+    K: Sink,
+    D: Telling + Send,
+    C: Clock + Send,
+    W: Draws + Send,
+    G: Gate + Sync,
+>(
     rt: &T,
     alloc: Global,
+    crew: Crew,
     setup: &Setup,
     reporter: &R,
-    listener: &mut L,
+    listener: L,
     output: &mut K,
     disk: &mut D,
     clock: &mut C,
     draws: &mut W,
-) -> HostEnd
-    ensures serves { (outlook : Outlook) → ServesDesk (R.row_of reporter.now) (R.digest_of reporter.now) setup.now
-        (surroundings (K.told output.old) (D.state disk.old) outlook) (surroundings (K.told output.new) (D.state disk.new) outlook) result }
+    gate: &G,
+    served: &mut Tally<L::Conn>,
+) -> (HostEnd, L)
+    requires collectors { (0 < crew.collectors) × (crew.collectors ≤ 8) }
+    requires processors { (0 < crew.processors) × (crew.processors ≤ 8) }
+    requires served { served.old ≡ nothing_served }
+    ensures serves { (outlook : Outlook) → ServesDesk (R.row_of reporter.now) (R.digest_of reporter.now) setup.now served.new.kept
+        (surroundings (K.told output.old) (D.state disk.old) outlook) (surroundings (K.told output.new) (D.state disk.new) outlook) result.0 }
+    ensures handed { (L.told result.1).handed ≡ (L.told listener).handed + served.new.connections }
+    ensures over { status_of result.0 ≡ 0 → (served.new.stopped ≡ true) ⊎ ((L.told result.1).ended ≡ true) }
     ensures only { OnlyWrites (K.told output.old) (K.told output.new) }
-    ensures no_fewer { (L.told listener.old).faults ≤ (L.told listener.new).faults }
-    ensures listener_cause { status_of result ≡ 6 → Rose (L.told listener.old).faults (L.told listener.new).faults }
-    ensures cause { status_of result ≡ 7 → WriteFailed (K.told output.old) (K.told output.new) }
+    ensures no_fewer { (L.told listener).faults ≤ (L.told result.1).faults }
+    ensures listener_cause { status_of result.0 ≡ 6 → Rose (L.told listener).faults (L.told result.1).faults }
+    ensures cause { status_of result.0 ≡ 7 → WriteFailed (K.told output.old) (K.told output.new) }
 {
     let Ok(routes) = Routes::new(alloc) else {
-        return HostEnd::Before(RunEnd::NoMemory);
+        return (HostEnd::Before(RunEnd::NoMemory), listener);
     };
-    let Ok(mut buffer) = Buffer::new(alloc) else {
-        return HostEnd::Before(RunEnd::NoMemory);
-    };
+    let opened = Snapshot::of(&*disk);
     let restored = match open(alloc, reporter, setup.limits, output, disk) {
         Ok(restored) => restored,
-        Err(end) => return HostEnd::Before(end),
+        Err(end) => return (HostEnd::Before(end), listener),
     };
-    let mut book = Book::over(alloc, disk, reporter, setup.limits, restored);
-    let failed = listen(
+    let book = Book::over(alloc, disk, reporter, setup.limits, restored);
+    let CrewEnd {
+        book,
+        listener,
+        failed,
+    } = serve_together(
         rt,
         alloc,
-        &mut book,
-        listener,
+        crew,
+        SharedBook::new(book, opened),
+        reporter,
         &setup.rules,
         &routes,
-        &mut buffer,
+        listener,
         clock,
         draws,
+        gate,
+        served,
     );
+    let mut book = book.into_book();
     let end = close(alloc, &mut book, output, failed);
     let _disk = book.into_disk();
-    end
+    (end, listener)
 }
 
-/// Sweeps up, and writes the lines.
+/// Sweeps up, and writes the lines. Where memory was wanting before anything was served, nothing is swept.
 fn close<R: Reporter, K: Sink, D: Disk>(
     alloc: Global,
     book: &mut Book<'_, D, R>,
     output: &mut K,
-    failed: bool,
+    failed: Result<bool, NoMemory>,
 ) -> HostEnd
     ensures same_disk { book.new.vault.disk.ghost_name ≡ book.old.vault.disk.ghost_name }
     ensures closes { (basis : Basis) (state : State) → basis.row_of ≡ R.row_of book.old.reporter.now → basis.digest ≡ R.digest_of book.old.reporter.now
@@ -84,9 +113,13 @@ fn close<R: Reporter, K: Sink, D: Disk>(
         → (after : State) × Stands basis book.new.limits book.new.ledger book.new.store book.new.doubt book.new.vault.journal (D.state book.new.vault.disk.now) after
         × ClosesBook (K.told output.old) (D.state book.old.vault.disk.now) (K.told output.new) (D.state book.new.vault.disk.now) result basis state after }
     ensures only { OnlyWrites (K.told output.old) (K.told output.new) }
-    ensures failed { status_of result ≡ 6 → failed ≡ true }
+    ensures failed { status_of result ≡ 6 → IsOkAnd failed (λ failed. failed ≡ true) }
+    ensures done { status_of result ≡ 0 → IsOkAnd failed (λ failed. failed ≡ false) }
     ensures cause { status_of result ≡ 7 → WriteFailed (K.told output.old) (K.told output.new) }
 {
+    let Ok(failed) = failed else {
+        return HostEnd::Swept(SweepFault::NoMemory);
+    };
     if let Err(fault) = sweep(book) {
         return HostEnd::Swept(fault);
     }

@@ -1,12 +1,15 @@
 //! The service over a listener in memory.
 use super::*;
+use soc_collect::Tally;
 use soc_edge::{BytesList, Ids16, MemClock, MemDisk, MemDraws, MemSink, MemTree, Numbers};
-use soc_listen::MemListener;
+use soc_listen::{MemConn, MemListener};
 use soc_raw::{Blobs, Bytes, NoMemory, Text};
+use soc_service::OpenGate;
 use soc_siglists::RegexMaker;
 use std::alloc::Global;
 use std::sync::Wait;
 use std::test::Fail;
+use std::thread::Threads;
 
 const TOKENS: &[u8] =
     b"[[token]]\nkey = \"operator\"\nproducts = \"all\"\npermissions = [\"operate\"]\n";
@@ -14,14 +17,8 @@ const TOKENS: &[u8] =
 const SUBMISSION: &[u8] =
     b"POST /submit HTTP/1.1\r\nHost: h\r\nContent-Type: multipart/form-data; boundary=b\r\nContent-Length: 75\r\n\r\n--b\r\nContent-Disposition: form-data; name=\"ProductName\"\r\n\r\nFirefox\r\n--b--\r\n";
 
-const READ: &[u8] =
-    b"GET /api/ProcessedCrash/?crash_id=de1bb258-cbbf-4589-a673-34f800160918 HTTP/1.1\r\nHost: h\r\n\r\n";
-
 const STOP: &[u8] =
     b"POST /control/stop HTTP/1.1\r\nHost: h\r\nAuth-Token: operator\r\nContent-Length: 0\r\n\r\n";
-
-const REPORT: &[u8] =
-    b"{\"date\":\"2016-09-18T00:00:00Z\",\"product\":\"Firefox\",\"signature\":\"EMPTY: no crashing thread identified\",\"success\":false,\"throttle_rule\":\"accept_all\",\"uuid\":\"de1bb258-cbbf-4589-a673-34f800160918\"}";
 
 // A listener of these scripts, whose calls with these numbers fail.
 fn listener(alloc: Global, scripts: &[&[u8]], fails: &[u64]) -> Result<MemListener, NoMemory> {
@@ -33,13 +30,28 @@ fn listener(alloc: Global, scripts: &[&[u8]], fails: &[u64]) -> Result<MemListen
     MemListener::new(alloc, BytesList::new(list), 4096, fails)
 }
 
-// The status of `serve` with these words over this listener and an empty disk, and what it writes.
-fn served<R: Wait>(
+/// The words of a service with one collector and one processor.
+const ONE: &[&str] = &["serve", "--collectors", "1", "--processors", "1"];
+
+/// The words of a service with two of each.
+const TWO: &[&str] = &["serve", "--collectors", "2", "--processors", "2"];
+
+// What a run over a listener and an empty disk leaves.
+#[derive(Drop)]
+struct Ran {
+    status: u8,
+    listener: MemListener,
+    output: MemSink,
+    served: Tally<MemConn>,
+}
+
+// What a run with these words over this listener and an empty disk leaves.
+fn run<R: Threads + Wait + Sync>(
     rt: &R,
     alloc: Global,
     words: &[&str],
-    listener: &mut MemListener,
-) -> Result<(u8, MemSink), NoMemory> {
+    listener: MemListener,
+) -> Result<Ran, NoMemory> {
     let mut list = Vec::new(alloc);
     for word in words {
         list.push(String::from_str(alloc, word)?)?;
@@ -58,7 +70,8 @@ fn served<R: Wait>(
         Ids16::new([draw].to_vec(alloc)?),
     );
     let mut maker = RegexMaker::new();
-    let status = run_listener(
+    let mut served = Tally::new();
+    let (status, listener) = run_hall(
         rt,
         alloc,
         list.as_slice(),
@@ -69,8 +82,15 @@ fn served<R: Wait>(
         &mut clock,
         &mut draws,
         &mut maker,
+        &OpenGate,
+        &mut served,
     );
-    Ok((status, output))
+    Ok(Ran {
+        status,
+        listener,
+        output,
+        served,
+    })
 }
 
 // Whether a connection's reply ends with these bytes.
@@ -82,38 +102,71 @@ fn ends_with(listener: &MemListener, number: usize, body: &[u8]) -> bool {
 }
 
 #[test]
-fn a_crash_has_its_report_before_the_next_connection(rt: HostRuntime) -> Result<(), Fail> {
-    let mut three = listener(rt.alloc(), &[SUBMISSION, READ, STOP, READ], &[])?;
-    let (status, output) = served(&rt, rt.alloc(), &["serve"], &mut three)?;
-    assert_eq!(rt; status, 0);
-    assert_eq!(rt; output.bytes(), b"crashes 1\nreports 1\n".as_slice());
+fn a_stop_ends_the_service(rt: HostRuntime) -> Result<(), Fail> {
+    let three = listener(rt.alloc(), &[SUBMISSION, STOP, SUBMISSION], &[])?;
+    let ran = run(&rt, rt.alloc(), ONE, three)?;
+    assert_eq!(rt; ran.status, 0);
+    assert_eq!(rt; ran.output.bytes(), b"crashes 1\nreports 1\n".as_slice());
     assert!(rt;
         ends_with(
-            &three,
+            &ran.listener,
             0,
             b"CrashID=bp-de1bb258-cbbf-4589-a673-34f800160918\n"
         )
     );
-    assert!(rt; ends_with(&three, 1, REPORT));
-    assert!(rt; ends_with(&three, 2, b"stopping\n"));
-    assert!(rt; !ends_with(&three, 3, b""));
+    assert!(rt; ends_with(&ran.listener, 1, b"stopping\n"));
+    assert!(rt; !ends_with(&ran.listener, 2, b""));
+    assert_eq!(rt; ran.served.connections(), 2);
+    assert_eq!(rt; ran.served.kept(), 2);
+    assert!(rt; ran.served.stopped());
     Ok(())
 }
 
 #[test]
 fn a_listener_ends_the_service(rt: HostRuntime) -> Result<(), Fail> {
-    let mut ending = listener(rt.alloc(), &[SUBMISSION], &[])?;
-    let (status, output) = served(&rt, rt.alloc(), &["serve"], &mut ending)?;
-    assert_eq!(rt; status, 0);
-    assert_eq!(rt; output.bytes(), b"crashes 1\nreports 1\n".as_slice());
-    let mut failing = listener(rt.alloc(), &[SUBMISSION], &[0])?;
-    let (status, output) = served(&rt, rt.alloc(), &["serve"], &mut failing)?;
-    assert_eq!(rt; status, 6);
-    assert_eq!(rt; output.bytes(), b"crashes 0\nreports 0\n".as_slice());
-    let mut unasked = listener(rt.alloc(), &[SUBMISSION], &[])?;
-    let (status, output) = served(&rt, rt.alloc(), &["replay"], &mut unasked)?;
-    assert_eq!(rt; status, 2);
-    assert!(rt; output.bytes().starts_with(b"usage: "));
-    assert!(rt; !ends_with(&unasked, 0, b""));
+    let ending = listener(rt.alloc(), &[SUBMISSION], &[])?;
+    let ran = run(&rt, rt.alloc(), ONE, ending)?;
+    assert_eq!(rt; ran.status, 0);
+    assert_eq!(rt; ran.output.bytes(), b"crashes 1\nreports 1\n".as_slice());
+    assert!(rt; !ran.served.stopped());
+    let failing = listener(rt.alloc(), &[SUBMISSION], &[0])?;
+    let ran = run(&rt, rt.alloc(), ONE, failing)?;
+    assert_eq!(rt; ran.status, 6);
+    assert_eq!(rt; ran.output.bytes(), b"crashes 0\nreports 0\n".as_slice());
+    assert_eq!(rt; ran.served.connections(), 0);
+    Ok(())
+}
+
+#[test]
+fn two_collectors_serve_beside_two_processors(rt: HostRuntime) -> Result<(), Fail> {
+    let ending = listener(rt.alloc(), &[SUBMISSION], &[])?;
+    let ran = run(&rt, rt.alloc(), TWO, ending)?;
+    assert_eq!(rt; ran.status, 0);
+    assert_eq!(rt; ran.output.bytes(), b"crashes 1\nreports 1\n".as_slice());
+    assert!(rt;
+        ends_with(
+            &ran.listener,
+            0,
+            b"CrashID=bp-de1bb258-cbbf-4589-a673-34f800160918\n"
+        )
+    );
+    assert_eq!(rt; ran.served.connections(), 1);
+    assert_eq!(rt; ran.served.kept(), 1);
+    let stopping = listener(rt.alloc(), &[STOP], &[])?;
+    let ran = run(&rt, rt.alloc(), TWO, stopping)?;
+    assert_eq!(rt; ran.status, 0);
+    assert_eq!(rt; ran.output.bytes(), b"crashes 0\nreports 0\n".as_slice());
+    assert!(rt; ran.served.stopped());
+    Ok(())
+}
+
+#[test]
+fn another_calls_command_is_not_served(rt: HostRuntime) -> Result<(), Fail> {
+    let unasked = listener(rt.alloc(), &[SUBMISSION], &[])?;
+    let ran = run(&rt, rt.alloc(), &["replay"], unasked)?;
+    assert_eq!(rt; ran.status, 2);
+    assert!(rt; ran.output.bytes().starts_with(b"usage: "));
+    assert!(rt; !ends_with(&ran.listener, 0, b""));
+    assert_eq!(rt; ran.served.connections(), 0);
     Ok(())
 }

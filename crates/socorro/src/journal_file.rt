@@ -6,6 +6,7 @@ ghost use Rattle.std.specs.Prelude.{◌≡◌, ◌≤◌, IfOk, OnErr, length};
 
 use crate::disk::FileDisk;
 use soc_edge::{Disk, Failed};
+use soc_turns::Telling;
 use std::fs::File;
 use std::rt::Files;
 
@@ -69,6 +70,15 @@ impl<'a, R: Files<File = File>> Disk for JournalFile<'a, R> {
         let answer = sync_opened(self.rt, self.path, &mut self.disk);
         self.counted(answer)
     }
+}
+
+impl<'a, R: Files<File = File>> Telling for JournalFile<'a, R> {
+    ghost use Rattle.std.specs.Prelude.{false};
+    ghost use Rattle.std.proofs.Common.{refl};
+
+    ghost tells = { false };
+
+    ghost steady = { λ _. refl };
 }
 
 fn len_of<R: Files<File = File>>(

@@ -16,20 +16,19 @@ use clock::SystemClock;
 use draws::SystemDraws;
 use folder::Folder;
 use journal_file::JournalFile;
+use soc_collect::Tally;
 use soc_edge::{Both, ReadAhead, Sink};
-use soc_host::run_listener;
+use soc_host::run_hall;
 use soc_serve::run_words;
+use soc_service::OpenGate;
 use soc_siglists::RegexMaker;
 use soc_words::{Task, Words, WordsError};
 use socket::{SocketLimits, SocketListener};
 use std::env;
-use std::fs::File;
 use std::io::{self, ErrorKind};
-use std::net::{Net, TcpListener, TcpStream};
 use std::process::ExitCode;
-use std::rt::Files;
 use std::sync::Wait;
-use std::time::Clock;
+use std::thread::Threads;
 use streams::{InputStream, OutputStream};
 
 /// The journal's file and the folder of other words' runs.
@@ -53,7 +52,7 @@ fn main(rt: HostRuntime) -> ExitCode {
             Task::Serve => match draws_of(&rt) {
                 Some(draws) => {
                     let mut output = OutputStream::new(rt.stdout());
-                    serve(&rt, words.as_slice(), &said, &mut output, draws)
+                    serve(&rt, &rt, words.as_slice(), &said, &mut output, draws)
                 }
                 None => READ_FAULT,
             },
@@ -85,37 +84,42 @@ fn draws_of(rt: &HostRuntime) -> Option<SystemDraws> {
     SystemDraws::new(rt).ok()
 }
 
-/// Runs the service over an address, a journal's file and a folder.
-fn serve<
-    R: Wait
-        + Net<Listener = TcpListener, Stream = TcpStream>
-        + Clock
-        + Files<File = File>
-        + AllocGlobal
-        + Sync,
-    K: Sink,
->(rt: &R, words: &[String], said: &Words, output: &mut K, mut draws: SystemDraws) -> u8 {
-    let Ok(mut disk) = ReadAhead::new(rt.alloc(), JournalFile::new(rt, said.journal.as_str()))
-    else {
+/// Runs the service over an address, a journal's file and a folder of the system.
+fn serve<R: Threads + Wait + Sync, K: Sink>(
+    rt: &R,
+    system: &HostRuntime,
+    words: &[String],
+    said: &Words,
+    output: &mut K,
+    mut draws: SystemDraws,
+) -> u8 {
+    let Ok(mut disk) = ReadAhead::new(
+        system.alloc(),
+        JournalFile::new(system, said.journal.as_str()),
+    ) else {
         return NO_MEMORY;
     };
-    let mut tree = Folder::new(rt, said.tree.as_str());
+    let mut tree = Folder::new(system, said.tree.as_str());
     let limits = SocketLimits::of_service();
-    let mut listener = SocketListener::new(rt, said.listen.as_str(), limits);
-    let mut clock = SystemClock::new(rt);
+    let listener = SocketListener::new(system, said.listen.as_str(), limits);
+    let mut clock = SystemClock::new(system);
     let mut maker = RegexMaker::new();
-    run_listener(
+    let mut served = Tally::new();
+    let (status, _listener) = run_hall(
         rt,
-        rt.alloc(),
+        system.alloc(),
         words,
         &mut tree,
-        &mut listener,
+        listener,
         output,
         &mut disk,
         &mut clock,
         &mut draws,
         &mut maker,
-    )
+        &OpenGate,
+        &mut served,
+    );
+    status
 }
 
 /// Runs the program over a journal's file and a folder.

@@ -35,6 +35,6 @@ pub record EndsOpening (before after : Surroundings) (end : RunEnd) : Type 0 whe
   pub not : OpensNot before after end
   pub cause : run.status_of end ≡ 4 → DiskFailed before.disk after.disk
 
-abbrev pub ServesDesk : (Crash → List Cell) → Option (List ℕ) → Setup → Surroundings → Surroundings → HostEnd → Type 0
-ServesDesk row_of digest setup before after (H.Before end) = EndsOpening before after end
-ServesDesk row_of digest setup before after end = HostsDesk row_of digest setup before after end
+abbrev pub ServesDesk : (Crash → List Cell) → Option (List ℕ) → Setup → ℕ → Surroundings → Surroundings → HostEnd → Type 0
+ServesDesk row_of digest setup kept before after (H.Before end) = EndsOpening before after end
+ServesDesk row_of digest setup kept before after end = ∥ HostsDesk row_of digest setup kept before after end ∥₁

@@ -1,0 +1,106 @@
+use Rattle.std.proofs.Common.{◌≡◌, ◌⊎◌, inl, inr, ℕ, ◌+◌, ◌*◌, ◌^◌, ◌<◌, ◌≤◌, Bool, true, false, ◌||◌, List, ◌∷◌, [], ◌++◌, length, Option, Some, IfSome, IsSomeAnd, All, refl, sym, ◌∙◌, ap, subst, arith}
+use Rattle.std.specs.Prelude.{vec_capacity, vec_len}
+use Rattle.std.proofs.Math.Logic.{∥∥₁_map, ∥∥₁_map₂}
+use Rattle.soc_hall.specs.Seats.{IsNew, IsSeatOf, known_of, room_of, seats_in}
+use Rattle.soc_pool.specs.Passes.{IsPassOf, passes_in}
+use Rattle.soc_collect.specs.Tallies.{nothing_served}
+use Rattle.soc_service.specs.Desks.{HasTurned}
+use Rattle.soc_turns.specs.declared.change.Change.{Change}
+use Rattle.soc_turns.specs.declared.change.Grounds.{Grounds}
+use Rattle.soc_turns.specs.Changes.{body_at, changes_at}
+use Rattle.soc_crew.specs.inner.Seated.{AreSeated}
+use Rattle.soc_crew.proofs.Lists.{none_long, one_more, pop_all, push_all}
+use Rattle.soc_crew.proofs.Seats.{more_seated}
+use Rattle.soc_crew.proofs.leaving.leave_collectors.Goals as goal
+
+second_true : (a b : Bool) → b ≡ true → (a || b) ≡ true
+second_true true b is = refl
+second_true false b is = is
+
+is_over : (old own : Bool) (refused mine : ℕ) → (own ≡ true) ⊎ (0 < mine) → ((old || own) ≡ true) ⊎ (0 < refused + mine)
+is_over old own refused mine (inl stopped) = inl (second_true old own stopped)
+is_over old own refused mine (inr some) = inr (omega (arith, some))
+
+pub add-requires-clause-connections : goal.add-requires-clause-connections
+add-requires-clause-connections g c =
+    let opened = c.args.opened.now.value in
+    let basis : Grounds g.row.P.Denot g.row.D.Denot = record { reporter = opened.book.reporter.now; limits = opened.book.limits; lent = opened.book.vault.disk.ghost_name; opened = opened.opened.value } in
+    let opening : List Change = changes_at (body_at g.D.Telling.tells (g.D.Disk.state opened.book.vault.disk.now).content) opened.book.ledger.log opened.book.ledger.crashes in
+    let hall = c.args.hall.now in
+    let popped = pop_all c.loop-collector.collectors.items c.pop.new.self.items c.in-Some.collector c.in-Some.ensures.items
+    (λ k. (k.desk.hall.now ≡ hall) × IsNew basis opening (known_of k.desk.began.value)
+    × (k.served.connections ≡ k.ticket.handed.amount) × (k.served.kept ≡ k.desk.kept) × (k.served.kept < 2 ^ 60)
+    × (k.ticket.handed.parts ≡ 1) × (k.ticket.refused.parts ≡ 1) × ((k.served.stopped ≡ true) ⊎ (0 < k.ticket.refused.amount))) c.loop-collector.invariant.each in
+    let own = popped.1 in
+    let one_less = one_more c.loop-collector.collectors.items c.pop.new.self.items c.in-Some.collector c.in-Some.ensures.items in
+    let was = c.loop-collector.collectors.ok in
+    let left = c.pop.new.self.ok in
+    let mine = own.2 in
+    let so_far = c.loop-collector.invariant.connections in
+    let merged = c.merge.ensures.handed in
+    let same = c.confirm.ensures.amounts.0 in
+    let short = c.confirm.ensures.short in
+    omega arith
+
+pub add-requires-clause-kept : goal.add-requires-clause-kept
+add-requires-clause-kept g c =
+    let opened = c.args.opened.now.value in
+    let basis : Grounds g.row.P.Denot g.row.D.Denot = record { reporter = opened.book.reporter.now; limits = opened.book.limits; lent = opened.book.vault.disk.ghost_name; opened = opened.opened.value } in
+    let opening : List Change = changes_at (body_at g.D.Telling.tells (g.D.Disk.state opened.book.vault.disk.now).content) opened.book.ledger.log opened.book.ledger.crashes in
+    let hall = c.args.hall.now in
+    let popped = pop_all c.loop-collector.collectors.items c.pop.new.self.items c.in-Some.collector c.in-Some.ensures.items
+    (λ k. (k.desk.hall.now ≡ hall) × IsNew basis opening (known_of k.desk.began.value)
+    × (k.served.connections ≡ k.ticket.handed.amount) × (k.served.kept ≡ k.desk.kept) × (k.served.kept < 2 ^ 60)
+    × (k.ticket.handed.parts ≡ 1) × (k.ticket.refused.parts ≡ 1) × ((k.served.stopped ≡ true) ⊎ (0 < k.ticket.refused.amount))) c.loop-collector.invariant.each in
+    let own = popped.1 in
+    let one_less = one_more c.loop-collector.collectors.items c.pop.new.self.items c.in-Some.collector c.in-Some.ensures.items in
+    let was = c.loop-collector.collectors.ok in
+    let left = c.pop.new.self.ok in
+    let mine = own.4 in
+    let so_far = c.loop-collector.invariant.kept in
+    let count = c.loop-collector.invariant.count in
+    let few = c.loop-collector.invariant.few.1 in
+    omega arith
+
+pub loop-collector-preserved : goal.loop-collector-preserved
+loop-collector-preserved g c =
+    let opened = c.args.opened.now.value in
+    let basis : Grounds g.row.P.Denot g.row.D.Denot = record { reporter = opened.book.reporter.now; limits = opened.book.limits; lent = opened.book.vault.disk.ghost_name; opened = opened.opened.value } in
+    let opening : List Change = changes_at (body_at g.D.Telling.tells (g.D.Disk.state opened.book.vault.disk.now).content) opened.book.ledger.log opened.book.ledger.crashes in
+    let hall = c.args.hall.now in
+    let popped = pop_all c.loop-collector.collectors.items c.pop.new.self.items c.in-Some.collector c.in-Some.ensures.items
+    (λ k. (k.desk.hall.now ≡ hall) × IsNew basis opening (known_of k.desk.began.value)
+    × (k.served.connections ≡ k.ticket.handed.amount) × (k.served.kept ≡ k.desk.kept) × (k.served.kept < 2 ^ 60)
+    × (k.ticket.handed.parts ≡ 1) × (k.ticket.refused.parts ≡ 1) × ((k.served.stopped ≡ true) ⊎ (0 < k.ticket.refused.amount))) c.loop-collector.invariant.each in
+    let own = popped.1 in
+    let one_less = one_more c.loop-collector.collectors.items c.pop.new.self.items c.in-Some.collector c.in-Some.ensures.items in
+    let was = c.loop-collector.collectors.ok in
+    let left = c.pop.new.self.ok in
+    let before = c.loop-collector.invariant in
+    let pushed = c.push.ensures.pushed in
+    let one = one_more _ _ c.end-seat.result.0 pushed in
+    let merged = c.merge.ensures in
+    let confirmed = c.confirm.ensures in
+    let added = c.add.ensures in
+    let kept_is : c.add.new.self.kept ≡ c.loop-collector.served.kept + c.in-Some.collector.desk.kept = ap (λ t. t.kept) added ∙ ap (λ n. c.loop-collector.served.kept + n) own.3 in
+    let seat : IsSeatOf hall c.end-seat.result.0 = subst (λ h. IsSeatOf h c.end-seat.result.0) own.0 c.end-seat.ensures.seat.1 in
+    record {
+      each = popped.0;
+      few = before.few;
+      left = let l = before.left in omega arith;
+      count = let l = before.count in omega arith;
+      room = c.push.ensures.room ∙ before.room;
+      seats = push_all _ _ c.end-seat.result.0 pushed (λ s. IsSeatOf hall s) before.seats seat;
+      seated =
+          subst (λ (n : ℕ). ∥ AreSeated basis opening n (seats_in c.push.new.self) ∥₁) (sym kept_is)
+          (∥∥₁_map₂ before.seated c.end-seat.ensures.turned
+          (λ seated turned. more_seated basis opening c.loop-collector.served.kept c.in-Some.collector.desk.kept (seats_in c.loop-collector.seats) (seats_in c.push.new.self) c.end-seat.result.0 (known_of c.in-Some.collector.desk.began.value) pushed own.1 seated turned));
+      kept = let a = before.kept in let b = own.4 in let d = own.3 in let e = kept_is in omega arith;
+      connections = let a = ap (λ t. t.connections) added in let b = own.2 in let d = before.connections in let e = merged.handed in let f = confirmed.amounts.0 in omega arith;
+      handed = let a = before.handed in let b = merged.handed_parts in let d = confirmed.parts.0 in let e = own.5 in omega arith;
+      refused = let a = before.refused in let b = merged.refused_parts in let d = confirmed.parts.1 in let e = own.6 in omega arith;
+      over =
+          λ _. subst (λ (b : Bool). (b ≡ true) ⊎ (0 < c.confirm.new.ticket.refused.amount)) (sym (ap (λ t. t.stopped) added))
+          (subst (λ (n : ℕ). ((c.loop-collector.served.stopped || c.in-Some.collector.served.stopped) ≡ true) ⊎ (0 < n)) (sym (confirmed.amounts.1 ∙ merged.refused))
+          (is_over c.loop-collector.served.stopped c.in-Some.collector.served.stopped _ _ own.7));
+    }

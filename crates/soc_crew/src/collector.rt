@@ -1,0 +1,58 @@
+//! A collector: it serves the connections that come through a door, at its own desk.
+ghost use Rattle.std.specs.Prelude.{◌≡◌, ◌⊎◌, ◌<◌, ◌^◌, List, true};
+ghost use Rattle.soc_collect.specs.Asked.{AsksAll, Step};
+ghost use Rattle.soc_collect.specs.Tallies.{nothing_served};
+
+use soc_collect::{KeepingDesk, Tally, collect};
+use soc_edge::{Clock, Draws};
+use soc_http::{Buffer, Routes};
+use soc_listen::{Conn, Listener};
+use soc_session::Rules;
+use soc_shared::{Door, Naming, Ticket};
+use std::alloc::Global;
+use std::sync::ledger::Ledger;
+use std::sync::{Mutex, Wait};
+
+/// A collector's desk, the buffer of its connections, and what it has served.
+#[derive(Drop)]
+pub(crate) struct Collector<K, X, N: Ledger, M: Ledger> {
+    pub(crate) desk: K,
+    pub(crate) buffer: Buffer,
+    pub(crate) served: Tally<X>,
+    pub(crate) ticket: Ticket<N, M>,
+}
+
+impl<K: KeepingDesk, X: Conn, N: Ledger, M: Ledger> Collector<K, X, N, M> {
+    /// Serves one connection after another, until a receipt says stopped or no further one comes.
+    pub(crate) fn collect<J: Naming, L: Listener<Conn = X>, C: Clock, W: Draws, R: Wait>(
+        &mut self,
+        rt: &R,
+        alloc: Global,
+        door: &Mutex<Door<L, N, M, J>>,
+        rules: &Rules,
+        routes: &Routes,
+        clock: &Mutex<C>,
+        draws: &Mutex<W>,
+    )
+        requires new { (self.old.served ≡ nothing_served) × (K.added self.old.desk ≡ 0) }
+        requires ticket { (self.old.ticket.handed.parts ≡ 1) × (self.old.ticket.refused.parts ≡ 1) × (self.old.ticket.handed.amount ≡ 0) × (self.old.ticket.refused.amount ≡ 0) }
+        ensures asks { (steps : List Step) × AsksAll K.Asks self.old.desk steps self.new.desk }
+        ensures served { (self.new.served.connections ≡ self.new.ticket.handed.amount) × (self.new.served.kept ≡ K.added self.new.desk) × (self.new.served.kept < 2 ^ 60) }
+        ensures ticket { (self.new.ticket.handed.parts ≡ 1) × (self.new.ticket.refused.parts ≡ 1) }
+        ensures over { (self.new.served.stopped ≡ true) ⊎ (0 < self.new.ticket.refused.amount) }
+    {
+        collect(
+            rt,
+            alloc,
+            &mut self.desk,
+            &mut self.served,
+            &mut self.ticket,
+            door,
+            rules,
+            routes,
+            &mut self.buffer,
+            clock,
+            draws,
+        )
+    }
+}

@@ -1,0 +1,92 @@
+//! What collectors and processors leave when they have ended.
+ghost use Rattle.std.specs.Prelude.{◌≡◌, ◌⊎◌, ℕ, ◌+◌, ◌*◌, ◌^◌, ◌≤◌, ◌<◌, [], length, All, IsSomeAnd, true, vec_len};
+ghost use Rattle.soc_collect.specs.Tallies.{nothing_served};
+ghost use Rattle.soc_hall.specs.Seats.{IsNew, IsSeatOf, known_of, room_of, seats_in};
+ghost use Rattle.soc_service.specs.Desks.{HasTurned};
+ghost use Rattle.soc_crew.specs.inner.Seated.{AreSeated};
+
+use crate::collector::Collector;
+use crate::processor::Processor;
+use soc_collect::Tally;
+use soc_hall::{Hall, Logged, Seats};
+use soc_listen::{Conn, Listener};
+use soc_schema::Reporter;
+use soc_service::{Gate, HallDesk};
+use soc_shared::{Door, Naming, Ticket};
+use soc_turns::{SharedBook, Telling};
+use std::snapshot::Snapshot;
+use std::sync::Wait;
+use std::sync::ledger::Ledger;
+
+/// Takes the seats of collectors back, and adds up what they have served.
+pub(crate) fn leave_collectors<
+    'h,
+    'a,
+    D: Telling,
+    P: Reporter,
+    G: Gate,
+    R: Wait,
+    L: Listener,
+    N: Ledger,
+    M: Ledger,
+    J: Naming,
+>(
+    hall: &Hall<SharedBook<'a, D, P>>,
+    opened: &Snapshot<SharedBook<'a, D, P>>,
+    mut collectors: Vec<Collector<HallDesk<'h, 'a, D, P, G, R>, L::Conn, N, M>>,
+    seats: &mut Seats<SharedBook<'a, D, P>>,
+    door: &mut Door<L, N, M, J>,
+    ticket: &mut Ticket<N, M>,
+    served: &mut Tally<L::Conn>,
+)
+    requires each { All (λ c. (c.desk.hall.now ≡ hall.now)
+        × IsNew (⟦<SharedBook<'a, D, P> as Logged>⟧.basis_of opened.now.value) (⟦<SharedBook<'a, D, P> as Logged>⟧.log_of opened.now.value) (known_of c.desk.began.value)
+        × (c.served.connections ≡ c.ticket.handed.amount) × (c.served.kept ≡ c.desk.kept) × (c.served.kept < 2 ^ 60)
+        × (c.ticket.handed.parts ≡ 1) × (c.ticket.refused.parts ≡ 1)
+        × ((c.served.stopped ≡ true) ⊎ (0 < c.ticket.refused.amount))) collectors.items }
+    requires few { (0 < vec_len collectors) × (vec_len collectors ≤ 8) × (vec_len collectors ≤ room_of seats.old) }
+    requires none { (seats_in seats.old ≡ []) × (served.old ≡ nothing_served) × (ticket.old.handed.amount ≡ 0) × (ticket.old.refused.amount ≡ 0) × (0 < ticket.old.handed.parts) }
+    ensures count { (length (seats_in seats.new) ≡ vec_len collectors.entry) × (room_of seats.new ≡ room_of seats.old) }
+    ensures seats { All (λ seat. IsSeatOf hall.now seat) (seats_in seats.new) }
+    ensures seated { ∥ AreSeated (⟦<SharedBook<'a, D, P> as Logged>⟧.basis_of opened.now.value) (⟦<SharedBook<'a, D, P> as Logged>⟧.log_of opened.now.value) served.new.kept (seats_in seats.new) ∥₁ }
+    ensures connections { served.new.connections ≡ ticket.new.handed.amount }
+    ensures parts { (ticket.new.handed.parts ≡ ticket.old.handed.parts + vec_len collectors.entry) × (ticket.new.refused.parts ≡ ticket.old.refused.parts + vec_len collectors.entry) }
+    ensures over { (served.new.stopped ≡ true) ⊎ (0 < ticket.new.refused.amount) }
+{
+    while let Some(collector) = collectors.pop() {
+        let Collector {
+            desk,
+            served: own,
+            ticket: part,
+            ..
+        } = collector;
+        let (seat, _pass) = desk.end();
+        seats.push(seat);
+        ticket.merge(part);
+        door.confirm(ticket);
+        served.add(own);
+    }
+}
+
+/// Takes the seats of processors back.
+pub(crate) fn leave_processors<'h, 'a, D: Telling, P: Reporter, G: Gate, R: Wait>(
+    hall: &Hall<SharedBook<'a, D, P>>,
+    opened: &Snapshot<SharedBook<'a, D, P>>,
+    mut processors: Vec<Processor<'h, 'a, D, P, G, R>>,
+    seats: &mut Seats<SharedBook<'a, D, P>>,
+)
+    requires each { All (λ p. IsSomeAnd p.seat (λ s. IsSeatOf hall.now s × HasTurned (known_of p.began.value) (known_of s) 0)
+        × IsNew (⟦<SharedBook<'a, D, P> as Logged>⟧.basis_of opened.now.value) (⟦<SharedBook<'a, D, P> as Logged>⟧.log_of opened.now.value) (known_of p.began.value)) processors.items }
+    requires room { length (seats_in seats.old) + vec_len processors ≤ room_of seats.old }
+    requires seats { All (λ seat. IsSeatOf hall.now seat) (seats_in seats.old) }
+    ensures count { length (seats_in seats.new) ≡ length (seats_in seats.old) + vec_len processors.entry }
+    ensures seats { All (λ seat. IsSeatOf hall.now seat) (seats_in seats.new) }
+    ensures seated { (kept : ℕ) → ∥ AreSeated (⟦<SharedBook<'a, D, P> as Logged>⟧.basis_of opened.now.value) (⟦<SharedBook<'a, D, P> as Logged>⟧.log_of opened.now.value) kept (seats_in seats.old) ∥₁
+        → ∥ AreSeated (⟦<SharedBook<'a, D, P> as Logged>⟧.basis_of opened.now.value) (⟦<SharedBook<'a, D, P> as Logged>⟧.log_of opened.now.value) kept (seats_in seats.new) ∥₁ }
+{
+    while let Some(processor) = processors.pop() {
+        let Processor { seat, .. } = processor;
+        let Some(seat) = seat else { unreachable!() };
+        seats.push(seat);
+    }
+}

@@ -1,0 +1,78 @@
+//! A processor: it makes the reports of the crashes whose jobs it takes.
+ghost use Rattle.std.specs.Prelude.{◌≡◌, IfSome, IsSomeAnd};
+ghost use Rattle.soc_hall.specs.Seats.{IsSeatOf, known_of};
+ghost use Rattle.soc_pool.specs.Passes.{IsPassOf};
+ghost use Rattle.soc_service.specs.Desks.{HasTurned};
+
+use soc_hall::{Hall, Seat};
+use soc_pool::{Jobs, Pass};
+use soc_schema::Reporter;
+use soc_service::{Gate, worker};
+use soc_turns::{SharedBook, Telling};
+use std::alloc::Global;
+use std::marker::PhantomData;
+use std::snapshot::Snapshot;
+use std::sync::Wait;
+
+/// What a thread does, once.
+pub(crate) trait Task {
+    // Whether it may be done, and what it does.
+    ghost Ready: { Self → Type 0 };
+
+    ghost Did: { Self → Self → Type 0 };
+
+    /// Does it.
+    fn run(&mut self)
+        requires ready { Ready self.old }
+        ensures did { Did self.old self.new };
+}
+
+/// A processor: where it takes jobs, and its seat and pass.
+#[derive(Drop)]
+pub(crate) struct Processor<'h, 'a, D: Telling, P: Reporter, G: Gate, R: Wait> {
+    pub(crate) rt: &'h R,
+    pub(crate) alloc: Global,
+    pub(crate) hall: &'h Hall<SharedBook<'a, D, P>>,
+    pub(crate) jobs: &'h Jobs,
+    pub(crate) reporter: &'h P,
+    pub(crate) gate: &'h G,
+    // There, but while it works.
+    pub(crate) seat: Option<Seat<SharedBook<'a, D, P>>>,
+    pub(crate) pass: Option<Pass>,
+    // The seat as it was at first.
+    pub(crate) began: Snapshot<Seat<SharedBook<'a, D, P>>>,
+    // The book in the hall has them lent, which its type in the hall doesn't tell of this one.
+    pub(crate) lent: PhantomData<(&'a mut D, &'a P)>,
+}
+
+impl<'h, 'a, D: Telling, P: Reporter, G: Gate, R: Wait> Task for Processor<'h, 'a, D, P, G, R> {
+    ghost use Rattle.std.specs.Prelude.{◌≡◌, IfSome, IsSomeAnd, Some};
+    ghost use Rattle.soc_hall.specs.Seats.{IsSeatOf, known_of};
+    ghost use Rattle.soc_pool.specs.Passes.{IsPassOf};
+    ghost use Rattle.soc_service.specs.Desks.{HasTurned};
+
+    ghost Ready = { λ p. (p.seat ≡ Some p.began.value) × IsSeatOf p.hall.now p.began.value
+        × IsSomeAnd p.pass (λ q. IsPassOf p.jobs.now q)
+        × IfSome (known_of p.began.value).basis (λ basis. basis.reporter ≡ p.reporter.now) };
+
+    ghost Did = { λ before after. (after.began ≡ before.began) × (after.hall ≡ before.hall)
+        × IsSomeAnd after.seat (λ s. IsSeatOf before.hall.now s × HasTurned (known_of before.began.value) (known_of s) 0) };
+
+    fn run(&mut self) {
+        let (Some(seat), Some(pass)) = (self.seat.take(), self.pass.take()) else {
+            unreachable!()
+        };
+        let end = worker(
+            self.rt,
+            self.alloc,
+            self.hall,
+            seat,
+            self.jobs,
+            pass,
+            self.reporter,
+            self.gate,
+        );
+        self.seat = Some(end.seat);
+        self.pass = Some(end.pass);
+    }
+}

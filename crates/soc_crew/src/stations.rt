@@ -1,0 +1,179 @@
+//! The stations of collectors and processors: each has a seat of the hall and a pass of the ring.
+ghost use Rattle.std.specs.Prelude.{◌≡◌, ◌+◌, ◌≤◌, ◌<◌, ◌++◌, [], ◌∷◌, length, All, IfOk, IfSome, IsSomeAnd, Some, vec_capacity, vec_len};
+ghost use Rattle.soc_collect.specs.Tallies.{nothing_served};
+ghost use Rattle.soc_hall.specs.Seats.{IsNew, IsSeatOf, known_of, room_of, seats_in};
+ghost use Rattle.soc_pool.specs.Passes.{IsPassOf, passes_in};
+
+use crate::collector::Collector;
+use crate::crew::Crew;
+use crate::processor::Processor;
+use soc_collect::Tally;
+use soc_hall::{Hall, Logged, Seat, Seats};
+use soc_http::Buffer;
+use soc_listen::Conn;
+use soc_pool::{Jobs, Pass, Passes};
+use soc_raw::NoMemory;
+use soc_schema::Reporter;
+use soc_service::{Gate, HallDesk};
+use soc_shared::Ticket;
+use soc_turns::{SharedBook, Telling};
+use std::alloc::Global;
+use std::marker::PhantomData;
+use std::snapshot::Snapshot;
+use std::sync::Wait;
+use std::sync::ledger::Ledger;
+
+/// What a crew needs beside its hall: a ring, its passes, and a buffer for each collector.
+#[derive(Drop)]
+pub(crate) struct Stock {
+    pub(crate) jobs: Jobs,
+    pub(crate) passes: Passes,
+    // Whoever starts the crew puts jobs by this one.
+    pub(crate) own: Pass,
+    pub(crate) buffers: Vec<Buffer>,
+}
+
+impl Stock {
+    pub(crate) fn new(alloc: Global, crew: Crew) -> Result<Stock, NoMemory>
+        requires { (crew.collectors ≤ 8) × (crew.processors ≤ 8) }
+        ensures own { IfOk result (λ stock. IsPassOf stock.jobs stock.own) }
+        ensures passes { IfOk result (λ stock. All (λ pass. IsPassOf stock.jobs pass) (passes_in stock.passes) × (length (passes_in stock.passes) ≡ crew.collectors + crew.processors)) }
+        ensures buffers { IfOk result (λ stock. vec_len stock.buffers ≡ crew.collectors) }
+    {
+        let (jobs, mut passes) = Jobs::new(alloc, crew.collectors + crew.processors + 1)?;
+        let buffers = buffers(alloc, crew.collectors)?;
+        let Some(own) = passes.pop() else {
+            unreachable!()
+        };
+        Ok(Stock {
+            jobs,
+            passes,
+            own,
+            buffers,
+        })
+    }
+}
+
+/// So many buffers.
+fn buffers(alloc: Global, count: u32) -> Result<Vec<Buffer>, NoMemory>
+    ensures { IfOk result (λ list. vec_len list ≡ count) }
+{
+    let mut list = Vec::with_capacity(alloc, count as usize)?;
+    for made in 0..count {
+        list.push_reserved(Buffer::new(alloc)?);
+    }
+    Ok(list)
+}
+
+/// A seat and a pass.
+fn station<'a, D: Telling, P: Reporter>(
+    seats: &mut Seats<SharedBook<'a, D, P>>,
+    passes: &mut Passes,
+) -> (Seat<SharedBook<'a, D, P>>, Pass)
+    requires seats { 0 < length (seats_in seats.old) }
+    requires passes { 0 < length (passes_in passes.old) }
+    ensures seat { (seats_in seats.old ≡ seats_in seats.new ++ result.0 ∷ []) × (room_of seats.new ≡ room_of seats.old) }
+    ensures pass { passes_in passes.old ≡ passes_in passes.new ++ result.1 ∷ [] }
+{
+    let (Some(seat), Some(pass)) = (seats.pop(), passes.pop()) else {
+        unreachable!()
+    };
+    (seat, pass)
+}
+
+/// A collector for each buffer.
+pub(crate) fn collectors<
+    'h,
+    'a,
+    D: Telling,
+    P: Reporter,
+    G: Gate,
+    R: Wait,
+    X: Conn,
+    N: Ledger,
+    M: Ledger,
+>(
+    rt: &'h R,
+    alloc: Global,
+    hall: &'h Hall<SharedBook<'a, D, P>>,
+    opened: &Snapshot<SharedBook<'a, D, P>>,
+    jobs: &'h Jobs,
+    gate: &'h G,
+    mut list: Vec<Collector<HallDesk<'h, 'a, D, P, G, R>, X, N, M>>,
+    mut buffers: Vec<Buffer>,
+    seats: &mut Seats<SharedBook<'a, D, P>>,
+    passes: &mut Passes,
+    ticket: &mut Ticket<N, M>,
+) -> Vec<Collector<HallDesk<'h, 'a, D, P, G, R>, X, N, M>>
+    requires list { (list.items ≡ []) × (vec_len buffers ≤ vec_capacity list) }
+    requires seats { All (λ seat. IsSeatOf hall.now seat × IsNew (⟦<SharedBook<'a, D, P> as Logged>⟧.basis_of opened.now.value) (⟦<SharedBook<'a, D, P> as Logged>⟧.log_of opened.now.value) (known_of seat)) (seats_in seats.old) }
+    requires passes { All (λ pass. IsPassOf jobs.now pass) (passes_in passes.old) }
+    requires enough { (vec_len buffers ≤ length (seats_in seats.old)) × (vec_len buffers ≤ length (passes_in passes.old)) × (vec_len buffers < ticket.old.handed.parts) × (vec_len buffers < ticket.old.refused.parts) }
+    requires unused { (ticket.old.handed.amount ≡ 0) × (ticket.old.refused.amount ≡ 0) }
+    ensures count { vec_len result ≡ vec_len buffers }
+    ensures each { All (λ c. (c.desk.hall.now ≡ hall.now)
+        × IsNew (⟦<SharedBook<'a, D, P> as Logged>⟧.basis_of opened.now.value) (⟦<SharedBook<'a, D, P> as Logged>⟧.log_of opened.now.value) (known_of c.desk.began.value)
+        × (c.served ≡ nothing_served) × (c.desk.kept ≡ 0)
+        × (c.ticket.handed.parts ≡ 1) × (c.ticket.refused.parts ≡ 1) × (c.ticket.handed.amount ≡ 0) × (c.ticket.refused.amount ≡ 0)) result.items }
+    ensures seats { All (λ seat. IsSeatOf hall.now seat × IsNew (⟦<SharedBook<'a, D, P> as Logged>⟧.basis_of opened.now.value) (⟦<SharedBook<'a, D, P> as Logged>⟧.log_of opened.now.value) (known_of seat)) (seats_in seats.new) }
+    ensures passes { All (λ pass. IsPassOf jobs.now pass) (passes_in passes.new) }
+    ensures left { (length (seats_in seats.new) + vec_len buffers ≡ length (seats_in seats.old)) × (room_of seats.new ≡ room_of seats.old) × (length (passes_in passes.new) + vec_len buffers ≡ length (passes_in passes.old)) }
+    ensures parts { (ticket.new.handed.parts + vec_len buffers ≡ ticket.old.handed.parts) × (ticket.new.refused.parts + vec_len buffers ≡ ticket.old.refused.parts) }
+    ensures unused { (ticket.new.handed.amount ≡ 0) × (ticket.new.refused.amount ≡ 0) }
+{
+    while let Some(buffer) = buffers.pop() {
+        let (seat, pass) = station(seats, passes);
+        list.push_reserved(Collector {
+            desk: HallDesk::new(rt, alloc, hall, seat, jobs, pass, gate),
+            buffer,
+            served: Tally::new(),
+            ticket: ticket.split_off(),
+        });
+    }
+    list
+}
+
+/// So many processors.
+pub(crate) fn processors<'h, 'a, D: Telling, P: Reporter, G: Gate, R: Wait>(
+    rt: &'h R,
+    alloc: Global,
+    hall: &'h Hall<SharedBook<'a, D, P>>,
+    opened: &Snapshot<SharedBook<'a, D, P>>,
+    jobs: &'h Jobs,
+    reporter: &'h P,
+    gate: &'h G,
+    mut list: Vec<Processor<'h, 'a, D, P, G, R>>,
+    count: u32,
+    seats: &mut Seats<SharedBook<'a, D, P>>,
+    passes: &mut Passes,
+) -> Vec<Processor<'h, 'a, D, P, G, R>>
+    requires list { (list.items ≡ []) × (count ≤ vec_capacity list) }
+    requires seats { All (λ seat. IsSeatOf hall.now seat × IsNew (⟦<SharedBook<'a, D, P> as Logged>⟧.basis_of opened.now.value) (⟦<SharedBook<'a, D, P> as Logged>⟧.log_of opened.now.value) (known_of seat)) (seats_in seats.old) }
+    requires passes { All (λ pass. IsPassOf jobs.now pass) (passes_in passes.old) }
+    requires enough { (count ≤ length (seats_in seats.old)) × (count ≤ length (passes_in passes.old)) }
+    requires reporter { (⟦<SharedBook<'a, D, P> as Logged>⟧.basis_of opened.now.value).reporter ≡ reporter.now }
+    ensures count { vec_len result ≡ count }
+    ensures each { All (λ p. ((p.seat ≡ Some p.began.value) × IsSeatOf p.hall.now p.began.value × IsSomeAnd p.pass (λ q. IsPassOf p.jobs.now q)
+        × IfSome (known_of p.began.value).basis (λ basis. basis.reporter ≡ p.reporter.now))
+        × (p.hall.now ≡ hall.now)
+        × IsNew (⟦<SharedBook<'a, D, P> as Logged>⟧.basis_of opened.now.value) (⟦<SharedBook<'a, D, P> as Logged>⟧.log_of opened.now.value) (known_of p.began.value)) result.items }
+    ensures left { (length (seats_in seats.new) + count ≡ length (seats_in seats.old)) × (room_of seats.new ≡ room_of seats.old) }
+{
+    for made in 0..count {
+        let (seat, pass) = station(seats, passes);
+        let began = Snapshot::of(&seat);
+        list.push_reserved(Processor {
+            rt,
+            alloc,
+            hall,
+            jobs,
+            reporter,
+            gate,
+            seat: Some(seat),
+            pass: Some(pass),
+            began,
+            lent: PhantomData,
+        });
+    }
+    list
+}
