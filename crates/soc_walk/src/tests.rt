@@ -312,6 +312,41 @@ fn walks_on_x86(rt: HostRuntime) -> Result<(), Fail> {
 }
 
 #[test]
+fn walks_on_x86_without_symbols(rt: HostRuntime) -> Result<(), Fail> {
+    let registers = [(184, XUL + 0x5004), (196, 0x7000), (180, 0x7008)];
+    let words = [XUL + 0x20, 0, 0x7010, XUL + 0x30, 0, 0, MOZ + 0x2001];
+    let made = dump_file(0, 4, &registers, 0x7000, &words);
+    check(
+        &rt,
+        rt.alloc(),
+        &made,
+        &[
+            (XUL + 0x5004, Trust::Context, 0x5004),
+            (XUL + 0x30, Trust::FramePointer, 0x2f),
+            (MOZ + 0x2001, Trust::Scan, 0x2000),
+        ],
+    )
+}
+
+#[test]
+fn the_first_module_has_what_two_cover(rt: HostRuntime) -> Result<(), Fail> {
+    let registers = [(RIP, XUL + 0x9004), (RSP, 0x7000)];
+    let words = [XUL + 0x1_2008, XUL + 0x9010];
+    let mut made = dump_file(AMD64, 8, &registers, 0x7000, &words);
+    made.put(MODULES + 4 + 108, 8, XUL + 0x8000);
+    check(
+        &rt,
+        rt.alloc(),
+        &made,
+        &[
+            (XUL + 0x9004, Trust::Context, 0x9004),
+            (XUL + 0x1_2008, Trust::Scan, 0xa007),
+            (XUL + 0x9010, Trust::Scan, 0x900f),
+        ],
+    )
+}
+
+#[test]
 fn walks_on_arm64(rt: HostRuntime) -> Result<(), Fail> {
     let registers = [(264, XUL + 0x100), (256, 0x6ff0), (240, 0x7000)];
     let mut made = dump_file(12, 8, &registers, 0x7000, &[0x7100, XUL + 0x200]);
