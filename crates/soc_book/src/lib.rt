@@ -10,6 +10,8 @@ mod reads;
 mod report;
 mod submission;
 mod submit;
+#[cfg(test)]
+mod tests;
 mod turns;
 
 pub use book::Book;
