@@ -1,7 +1,7 @@
 #!/usr/bin/env bash
-# Times the cutting of a body with one large dump, whole and in pieces of 32 KiB, beside a C program that finds the same
-# delimiters by memmem, and copies what stands between them, as a reader of pieces must. bench/peak.py tells the memory
-# that a body takes.
+# Times the reading of a body with one large dump: by the reader whose parts own their contents, fed in pieces of 32 KiB and
+# fed the whole body at once, and by the one whose parts point into the body. Beside them a C program that finds the same
+# delimiters by memmem, and copies what stands between them or not. bench/peak.py tells the memory that a body takes.
 # usage: bench/multipart.sh [MEGABYTES]     (crates/soc_bench must be built: `cd crates/soc_bench && rt run`)
 set -eu
 cd "$(dirname "$0")/.."
@@ -17,6 +17,7 @@ gcc -O2 -Wall -Wextra -o "$folder/memmem" bench/memmem.c
 for dump in plain near; do
     "$program" multipart "$megabytes" "$dump"
     "$program" feed "$megabytes" "$dump"
+    "$program" feed "$megabytes" "$dump" "$((megabytes * 1000000 + 1000))" 2>&1 | sed 's/^feed/feed whole/'
     "$folder/memmem" "$megabytes" "$dump"
     "$folder/memmem" "$megabytes" "$dump" copy
 done

@@ -16,7 +16,7 @@ use thiserror::Error;
 #[derive(Debug, Drop, Error)]
 pub enum Fault {
     /// The words name no workload.
-    #[error("usage: soc_bench multipart MEGABYTES [plain|near] | feed MEGABYTES [plain|near] | journal ENTRIES SIZE | symbols MEGABYTES | dump KIND | walk TIMES DUMP SYMBOLS.. | report ROWS [DUMP SYMBOLS..] | search ROWS | signature SIGNATURES | desk CRASHES SIZE | hall THREADS TURNS | ring JOBS")]
+    #[error("usage: soc_bench multipart MEGABYTES [plain|near] | feed MEGABYTES [plain|near [BYTES]] | journal ENTRIES SIZE | symbols MEGABYTES | dump KIND | walk TIMES DUMP SYMBOLS.. | report ROWS [DUMP SYMBOLS..] | search ROWS | signature SIGNATURES | desk CRASHES SIZE | hall THREADS TURNS | ring JOBS")]
     Words,
     /// An allocation was refused.
     #[error("out of memory")]

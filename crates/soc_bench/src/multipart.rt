@@ -5,21 +5,41 @@ ghost use Rattle.soc_bench.specs.Counts.{CountsCuts};
 use crate::bodies::{BOUNDARY, Dump, body_with};
 use crate::counts::{Counts, counts_of};
 use crate::fault::Fault;
+use crate::feed::feed_often;
 use crate::timing::megabytes_a_second;
 use soc_multipart::{PartsError, cut_is_one, read_whole};
 use soc_text::number;
 use std::alloc::Global;
+use std::fmt;
 use std::rt::Clock;
 use std::time::Instant;
 
-/// How often a body is cut.
-const TIMES: u64 = 100;
+/// How often a body is read.
+pub const TIMES: u64 = 100;
 
 /// The most megabytes of a dump.
 const MOST_MEGABYTES: u64 = 4096;
 
 /// The digits that a number of megabytes may have.
 const MOST_DIGITS: usize = 4;
+
+/// How a body is read.
+#[derive(Clone, Copy, Debug)]
+pub enum Reading {
+    /// Cut into parts that point into it.
+    Cut,
+    /// Fed to a reader in pieces of at most so many bytes, whose parts own their contents.
+    Fed(usize),
+}
+
+impl fmt::Display for Reading {
+    fn fmt<W: fmt::Write>(&self, f: &mut fmt::Formatter<W>) -> fmt::Result {
+        f.write_str(match self {
+            Reading::Cut => "multipart",
+            Reading::Fed(_) => "feed",
+        })
+    }
+}
 
 /// Cuts a dump of so many megabytes, or the plain one and the one of near delimiters.
 pub fn run(
@@ -28,10 +48,10 @@ pub fn run(
 ) -> Result<(), Fault> {
     match words {
         [size] => {
-            cut_dump(rt, Dump::Plain, size)?;
-            cut_dump(rt, Dump::Near, size)
+            time_dump(rt, Reading::Cut, Dump::Plain, size)?;
+            time_dump(rt, Reading::Cut, Dump::Near, size)
         }
-        [size, dump] => cut_dump(rt, dump_named(dump.as_str())?, size),
+        [size, dump] => time_dump(rt, Reading::Cut, dump_named(dump.as_str())?, size),
         _ => Err(Fault::Words),
     }
 }
@@ -45,20 +65,22 @@ pub fn dump_named(word: &str) -> Result<Dump, Fault> {
     }
 }
 
-fn cut_dump(
+/// Reads a body with a dump of so many megabytes, and says what it counted and how fast it went.
+pub fn time_dump(
     rt: &(impl Clock + Print + Eprint + AllocGlobal),
+    reading: Reading,
     dump: Dump,
     size: &String,
 ) -> Result<(), Fault> {
     let body = body_with(rt.alloc(), dump, megabytes_of(size)?)?;
     let start = Instant::now(rt)?;
-    let counts = cut_often(rt.alloc(), BOUNDARY, body.as_slice())?;
+    let counts = read_often(rt.alloc(), reading, BOUNDARY, body.as_slice())?;
     let rate = megabytes_a_second(counts.bytes, start.elapsed(rt)?);
     println!(rt;
-        "multipart {dump}: {} parts, {} bytes",
+        "{reading} {dump}: {} parts, {} bytes",
         counts.parts, counts.bytes
     )?;
-    eprintln!(rt; "multipart {dump}: {rate} MB/s")?;
+    eprintln!(rt; "{reading} {dump}: {rate} MB/s")?;
     Ok(())
 }
 
@@ -69,6 +91,21 @@ pub fn megabytes_of(size: &String) -> Result<usize, Fault>
     match number(size.as_bytes(), MOST_DIGITS) {
         Some(megabytes) if megabytes <= MOST_MEGABYTES => Ok(megabytes as usize),
         _ => Err(Fault::Words),
+    }
+}
+
+/// Reads a body a hundred times, and counts what comes of it.
+fn read_often(
+    alloc: Global,
+    reading: Reading,
+    boundary: &[u8],
+    body: &[u8],
+) -> Result<Counts, PartsError>
+    ensures { IfOk result (CountsCuts 100 boundary.now body.now) }
+{
+    match reading {
+        Reading::Cut => cut_often(alloc, boundary, body),
+        Reading::Fed(piece) => feed_often(alloc, boundary, body, piece),
     }
 }
 

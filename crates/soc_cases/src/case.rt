@@ -1,4 +1,9 @@
 //! What a case holds, key by key.
+ghost use Rattle.std.specs.Prelude.{◌≡◌, Some, None, IfOk, IfErr};
+ghost use Rattle.toml.specs.View.{table_view, view};
+ghost use Rattle.soc_toml.specs.Keys as keys;
+ghost use Rattle.soc_cases.specs.Keys as spec;
+
 use crate::fault::Fault;
 use hex::{FromHex, FromHexError};
 use soc_edge::Numbers;
@@ -25,17 +30,26 @@ pub fn calls_of(alloc: Global, case: &Table, key: &'static str) -> Result<Number
     Ok(Numbers::new(calls))
 }
 
-/// The number at a key.
-pub fn number_of(case: &Table, key: &'static str, default: u64) -> Result<u64, Fault> {
+/// The number at a key, or this one where the key isn't there.
+pub fn number_of(case: &Table, key: &'static str, default: u64) -> Result<u64, Fault>
+    ensures value { IfOk result (λ number. spec.number_at key.entry.now default (table_view case.now) ≡ Some number) }
+    ensures wrong { IfErr result (λ _. spec.number_at key.entry.now default (table_view case.now) ≡ None) }
+{
     number_or(case, key, default, 0, u64::MAX).ok_or(Fault::Wrong(key))
 }
 
-fn number_in(value: &Value, key: &'static str) -> Result<u64, Fault> {
+fn number_in(value: &Value, key: &'static str) -> Result<u64, Fault>
+    ensures value { IfOk result (λ number. keys.number_of 0 spec.most (view value.now) ≡ Some number) }
+    ensures wrong { IfErr result (λ _. keys.number_of 0 spec.most (view value.now) ≡ None) }
+{
     soc_toml::number_of(value, 0, u64::MAX).ok_or(Fault::Wrong(key))
 }
 
 /// Whether a key holds true. Without the key it is false.
-pub fn flag_of(case: &Table, key: &'static str) -> Result<bool, Fault> {
+pub fn flag_of(case: &Table, key: &'static str) -> Result<bool, Fault>
+    ensures value { IfOk result (λ flag. spec.flag_at key.entry.now (table_view case.now) ≡ Some flag) }
+    ensures wrong { IfErr result (λ _. spec.flag_at key.entry.now (table_view case.now) ≡ None) }
+{
     match value_at(case, key) {
         None => Ok(false),
         Some(value) => value.as_bool().ok_or(Fault::Wrong(key)),
@@ -43,7 +57,10 @@ pub fn flag_of(case: &Table, key: &'static str) -> Result<bool, Fault> {
 }
 
 /// The text at a key.
-pub fn text_of<'a>(case: &'a Table, key: &'static str) -> Result<&'a str, Fault> {
+pub fn text_of<'a>(case: &'a Table, key: &'static str) -> Result<&'a str, Fault>
+    ensures value { IfOk result (λ text. keys.text_at key.entry.now (table_view case.now) ≡ Some text.now) }
+    ensures wrong { IfErr result (λ _. keys.text_at key.entry.now (table_view case.now) ≡ None) }
+{
     text_at(case, key).ok_or(Fault::Wrong(key))
 }
 

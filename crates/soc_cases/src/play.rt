@@ -1,5 +1,10 @@
 //! One run of the program over objects in memory.
-ghost use Rattle.std.specs.Prelude.{[], ◌∷◌, ◌≡◌, IfOk};
+ghost use Rattle.std.specs.Prelude.{[], ◌∷◌, ◌≡◌, IfOk, codes, option_map, unwrap_or};
+ghost use Rattle.toml.specs.View.{table_view};
+ghost use Rattle.soc_edge.specs.DiskLog.{content_of};
+ghost use Rattle.soc_toml.specs.Keys.{text_at};
+ghost use Rattle.soc_cases.specs.Keys.{number_at};
+ghost use Rattle.soc_cases.specs.Runs.{IsStopped};
 
 use crate::case::{calls_of, files_of, flag_of, ids_of, joined, number_of, words_of};
 use crate::fault::Fault;
@@ -123,17 +128,18 @@ fn chance_of(alloc: Global, case: &Table) -> Result<Chance, Fault> {
     Ok(Chance { clock, draws })
 }
 
-fn streams_of(
-    alloc: Global,
-    case: &Table,
-    input: Bytes,
-) -> Result<Both<MemSource, MemSink>, Fault> {
+fn streams_of(alloc: Global, case: &Table, input: Bytes) -> Result<Both<MemSource, MemSink>, Fault>
+    ensures reads { IfOk result (λ streams. streams.source.left ≡ input) }
+    ensures empty { IfOk result (λ streams. streams.sink.held ≡ []) }
+{
     let source = MemSource::new(input, calls_of(alloc, case, "input_fails")?);
     let sink = sink_of(alloc, case)?;
     Ok(Both { source, sink })
 }
 
-fn sink_of(alloc: Global, case: &Table) -> Result<MemSink, Fault> {
+fn sink_of(alloc: Global, case: &Table) -> Result<MemSink, Fault>
+    ensures { IfOk result (λ sink. sink.held ≡ []) }
+{
     let fails = calls_of(alloc, case, "output_fails")?;
     Ok(MemSink::new(alloc, OUTPUT, fails)?)
 }
@@ -172,7 +178,9 @@ fn disk_of(alloc: Global, case: &Table, before: Option<Left>) -> Result<MemDisk,
     }
 }
 
-fn stopped(case: &Table, before: Option<Left>) -> Result<MemDisk, Fault> {
+fn stopped(case: &Table, before: Option<Left>) -> Result<MemDisk, Fault>
+    ensures { IfOk result (λ disk. IsStopped (number_at (codes "stop") 0 (table_view case.now)) (option_map (λ left. left.disk) before) disk.first) }
+{
     let choice = number_of(case, "stop", 0)?;
     match before {
         Some(left) => Ok(left.disk.stop(choice)),
@@ -180,7 +188,9 @@ fn stopped(case: &Table, before: Option<Left>) -> Result<MemDisk, Fault> {
     }
 }
 
-fn new_disk(alloc: Global, case: &Table) -> Result<MemDisk, Fault> {
+fn new_disk(alloc: Global, case: &Table) -> Result<MemDisk, Fault>
+    ensures { IfOk result (λ disk. content_of disk ≡ unwrap_or (text_at (codes "disk") (table_view case.now)) []) }
+{
     let fails = calls_of(alloc, case, "disk_fails")?;
     let mut disk = MemDisk::new(alloc, ROOM, WRITES, fails)?;
     if let Some(text) = text_at(case, "disk") {

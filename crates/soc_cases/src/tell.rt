@@ -1,8 +1,12 @@
 //! What a run left, beside what its case says.
+ghost use Rattle.std.specs.Prelude.{◌≡◌, Some, None, IfOk, IfErr};
+ghost use Rattle.toml.specs.View.{table_view};
+ghost use Rattle.soc_cases.specs.Keys as spec;
+
 use crate::case::{flag_of, joined, number_of, text_of};
 use crate::fault::Fault;
 use crate::play::Left;
-use soc_toml::{text_at, value_at};
+use soc_toml::text_at;
 use std::alloc::Global;
 use toml::Table;
 
@@ -45,11 +49,14 @@ fn output_of(alloc: Global, document: &Table, case: &Table) -> Result<Vec<u8>, F
 }
 
 /// Whether the bytes of a disk are those of a case, and as many.
-fn is_journal(case: &Table, bytes: &[u8]) -> Result<bool, Fault> {
-    if let Some(text) = text_at(case, "journal") {
-        if bytes != text.as_bytes() {
-            return Ok(false);
-        }
-    }
-    Ok(value_at(case, "length").is_none() || number_of(case, "length", 0)? == bytes.len() as u64)
+fn is_journal(case: &Table, bytes: &[u8]) -> Result<bool, Fault>
+    ensures value { IfOk result (λ is. spec.is_journal (table_view case.now) bytes.now ≡ Some is) }
+    ensures wrong { IfErr result (λ _. spec.is_journal (table_view case.now) bytes.now ≡ None) }
+{
+    let length = number_of(case, "length", bytes.len() as u64)?;
+    let is_same = match text_at(case, "journal") {
+        Some(text) => bytes == text.as_bytes(),
+        None => true,
+    };
+    Ok(is_same && length == bytes.len() as u64)
 }

@@ -7,6 +7,7 @@ use Rattle.std.below.std_alloc.proofs.vec.Vec.TheSendSync as vec
 use Rattle.regex_class.proofs.Class.TheSendSync as class
 use Rattle.regex_hir.proofs.look.Look.TheSendSync as look
 use Rattle.regex_hir.proofs.hir.Hir.TheLaws.TheKnot.{sync-Hir}
+use Rattle.regex_nfa.proofs.nfa.Nfa.TheSendSync as nfa
 use Rattle.regex_dfa.proofs.dfa.Dfa.TheSendSync as dfa
 use Rattle.regex_literal.proofs.byte_set.ByteSet.TheSendSync as byte_set
 use Rattle.regex_literal.proofs.caseless.Caseless.TheSendSync as caseless
@@ -55,7 +56,7 @@ regex : IsSync Regex.the_field.row
 regex = let a = pattern in search (sendable, crosses, maps.crosses) depth 20
 
 led : IsSync LedPattern.the_row
-led = let r = regex in search (sendable, crosses, maps.crosses, text.the_sync) depth 20 fits 4000
+led = let r = regex in search (sendable, crosses, maps.crosses, option.the_field_sync, nfa.the_field_sync, text.the_sync) depth 20 fits 4000
 
 patterns : IsSync Patterns.the_field.row
 patterns = let l = led in search (sendable, crosses, maps.crosses, text.the_sync) depth 20 fits 4000

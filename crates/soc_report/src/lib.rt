@@ -11,6 +11,7 @@ mod known;
 mod moment;
 mod parts;
 mod paths;
+mod placed;
 mod row;
 mod source;
 mod stack;

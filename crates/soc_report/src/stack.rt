@@ -1,21 +1,26 @@
 //! The crashing thread's stack, and the signature that its frames make.
-ghost use Rattle.std.specs.Prelude.{◌≡◌, ◌++◌, ◌∷◌, [], ℕ, map, IfOk, List};
-ghost use Rattle.std.specs.Option.{option_copied};
+ghost use Rattle.std.specs.Prelude.{◌≡◌, true, false, ◌++◌, [], ℕ, map, option_map, IfOk, IsTrue, List, None};
+ghost use Rattle.std.specs.Str.{bytes_eq};
+ghost use Rattle.std.specs.Option.{option_and_then, option_copied};
 ghost use Rattle.soc_frames.specs.declared.frame.Frame.{Frame};
 ghost use Rattle.soc_frames.specs.Frames.{normal_of};
 ghost use Rattle.soc_raw.specs.RawCrash.{crash_of};
 ghost use Rattle.soc_siglists.specs.Lists.{ListTexts};
+ghost use Rattle.soc_walk.specs.Process.{LoadedEntry};
+ghost use Rattle.soc_walk.specs.Views.{name_at, named_copy};
 ghost use Rattle.soc_walk.specs.Walk.{frames_of};
+ghost use Rattle.soc_sigrules.specs.Rules.{watchdog};
 ghost use Rattle.soc_sigrules.specs.Signatures.{summary_of};
 ghost use Rattle.soc_report.specs.Annotations as annotations;
 ghost use Rattle.soc_report.specs.Dumps.{dump_in};
 ghost use Rattle.soc_report.specs.Kits.{kit_of, symbols_in};
 ghost use Rattle.soc_report.specs.Stacks as spec;
-ghost use Rattle.soc_report.specs.inner.Stacks.{HasWalked, text_of, overflows, names_browser, signed_of};
+ghost use Rattle.soc_report.specs.inner.Stacks.{HasWalked, IsPlacedIn, Pushes, is_address, text_of, overflows, names_browser, signed_of};
 
 use crate::annotations::{is_set, lists_browser, text_at};
 use crate::dump::{Reading, crashing_thread, reason_of};
 use crate::kit::Kit;
+use crate::placed::Placed;
 use soc_dump::Dump;
 use soc_frames::normal;
 use soc_raw::{NoMemory, RawCrash, Text, TextList};
@@ -25,6 +30,13 @@ use std::alloc::Global;
 
 /// The reason that tells of a stack's overflow.
 const OVERFLOW: &str = "EXCEPTION_STACK_OVERFLOW";
+
+/// A signature's frames so far, and the text that was made last of a module's name, which the frames behind it may share.
+#[derive(Drop)]
+struct Pushed<'l> {
+    builder: SignatureBuilder<'l>,
+    last: Option<Placed>,
+}
 
 /// A signature's frames so far, and how many they are.
 #[derive(Drop)]
@@ -40,18 +52,99 @@ pub struct Signed {
     pub frame_count: u64,
 }
 
-/// Adds the text of a frame.
-fn push_frame<'l>(
+/// Whether the text of a frame tells only where it lies.
+fn is_address(frame: &BorrowedFrame<'_>) -> bool
+    ensures value { result ≡ is_address frame.now }
+    ensures other { IsTrue result → (loaded : List LoadedEntry) → bytes_eq (text_of loaded frame.now) watchdog ≡ false }
+{
+    frame.function.is_none() && (frame.file.is_none() || frame.line.is_none())
+}
+
+/// The name of a module, in the text that was made last or in a new one.
+fn placed_in(
+    alloc: Global,
+    process: &Process<'_>,
+    last: Option<Placed>,
+    index: Option<usize>,
+) -> Result<Option<Placed>, NoMemory>
+    requires { IsPlacedIn process.now.loaded last }
+    ensures within { IfOk result (IsPlacedIn process.now.loaded) }
+    ensures name { IfOk result (λ placed. option_map (λ p. p.name) placed ≡ option_and_then (name_at process.now.loaded) index) }
+{
+    let Some(index) = index else {
+        return Ok(None);
+    };
+    if let Some(placed) = last {
+        if placed.index() == index {
+            return Ok(Some(placed));
+        }
+    }
+    let Some(name) = process.name(alloc, index)? else {
+        return Ok(None);
+    };
+    Ok(Some(Placed::of(alloc, index, &name)?))
+}
+
+/// Adds the text of a frame, which isn't that of a place in a module.
+fn push_elsewhere<'l>(
     alloc: Global,
     builder: SignatureBuilder<'l>,
-    process: &Process<'_>,
     frame: &BorrowedFrame<'_>,
 ) -> Result<SignatureBuilder<'l>, NoMemory>
-    ensures { IfOk result (λ after. (lists : ListTexts) (before : List (List ℕ)) → builder.entry ≡ summary_of lists before → after ≡ summary_of lists (before ++ text_of process.now.loaded frame.now ∷ [])) }
+    ensures { IfOk result (λ after. Pushes builder.entry after (normal_of (named_copy None frame.now))) }
 {
-    let copy = process.frame(alloc, frame)?;
+    let copy = frame.named(alloc, None)?;
     let text = normal(alloc, &copy)?;
     builder.push(text.as_str())
+}
+
+/// Adds the text of a frame that tells only where it lies.
+fn push_place<'l>(
+    alloc: Global,
+    pushed: Pushed<'l>,
+    process: &Process<'_>,
+    frame: &BorrowedFrame<'_>,
+) -> Result<Pushed<'l>, NoMemory>
+    requires address { is_address frame.now ≡ true }
+    requires within { IsPlacedIn process.now.loaded pushed.last }
+    ensures within { IfOk result (λ after. IsPlacedIn process.now.loaded after.last) }
+    ensures texts { IfOk result (λ after. Pushes pushed.entry.builder after.builder (text_of process.now.loaded frame.now)) }
+{
+    let Pushed { builder, last } = pushed;
+    let Some(placed) = placed_in(alloc, process, last, frame.module)? else {
+        return Ok(Pushed {
+            builder: push_elsewhere(alloc, builder, frame)?,
+            last: None,
+        });
+    };
+    let placed = placed.at(alloc, frame.offset)?;
+    let builder = builder.push(placed.as_str())?;
+    Ok(Pushed {
+        builder,
+        last: Some(placed),
+    })
+}
+
+/// Adds the text of a frame. The name of its module is made only where the text has it and the text changes something.
+fn push_frame<'l>(
+    alloc: Global,
+    pushed: Pushed<'l>,
+    process: &Process<'_>,
+    frame: &BorrowedFrame<'_>,
+) -> Result<Pushed<'l>, NoMemory>
+    requires { IsPlacedIn process.now.loaded pushed.last }
+    ensures within { IfOk result (λ after. IsPlacedIn process.now.loaded after.last) }
+    ensures texts { IfOk result (λ after. Pushes pushed.entry.builder after.builder (text_of process.now.loaded frame.now)) }
+{
+    if is_address(frame) {
+        if pushed.builder.is_settled() {
+            return Ok(pushed);
+        }
+        return push_place(alloc, pushed, process, frame);
+    }
+    let Pushed { builder, last } = pushed;
+    let builder = push_elsewhere(alloc, builder, frame)?;
+    Ok(Pushed { builder, last })
 }
 
 /// Adds the text of each frame, one after another.
@@ -63,11 +156,14 @@ fn push_frames<'l>(
 ) -> Result<SignatureBuilder<'l>, NoMemory>
     ensures { IfOk result (λ after. (lists : ListTexts) (before : List (List ℕ)) → builder.entry ≡ summary_of lists before → after ≡ summary_of lists (before ++ map (text_of process.now.loaded) frames.now)) }
 {
-    let mut signature = builder;
+    let mut pushed = Pushed {
+        builder,
+        last: None,
+    };
     for frame in frames {
-        signature = push_frame(alloc, signature, process, frame)?;
+        pushed = push_frame(alloc, pushed, process, frame)?;
     }
-    Ok(signature)
+    Ok(pushed.builder)
 }
 
 /// Adds the frames of a thread's stack.

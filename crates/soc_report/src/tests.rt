@@ -352,6 +352,81 @@ fn crashes(rt: HostRuntime) -> Result<(), Fail> {
     Ok(())
 }
 
+/// A stack of frames in modules, of which some are behind others of the same.
+const STACK: [u32; 5] = [
+    0x1000_2001,
+    0x1000_0031,
+    0x3000_0011,
+    0x1000_2001,
+    0x1000_3001,
+];
+
+/// That dump, with its instruction pointer outside of the modules, that stack, and a name of 2,100 letters behind.
+fn with_stack(alloc: Global, others: &[(u16, u32)]) -> Result<Vec<u8>, AllocError> {
+    let mut words = Vec::from_slice(alloc, &[(560, 40), (564, 1944), (960, 0x5000_0000)])?;
+    words.extend_from_slice(others)?;
+    let mut dump = windows(alloc, words.as_slice())?;
+    for word in &STACK {
+        dump.extend_from_slice(&u64::from(*word).to_le_bytes())?;
+    }
+    dump.extend_from_slice(&4200u32.to_le_bytes())?;
+    for _ in 0..2100 {
+        dump.extend_from_slice(b"x\0")?;
+    }
+    Ok(dump)
+}
+
+/// Lists, numbers of that dump that are others, and what the report has without symbols.
+const PLACES: [(&[(&str, &str)], &[(u16, u32)], &str); 6] = [
+    (
+        &[],
+        &[],
+        r#""proto_signature":"@0x50000000 | xul.dll@0x2000 | xul.dll@0x30 | mozglue.dll@0x10 | xul.dll@0x2000 | xul.dll@0x3000""#,
+    ),
+    (
+        &[("prefix.txt", "@0x\nxul")],
+        &[],
+        r#""signature":"@0x50000000 | xul.dll | mozglue.dll""#,
+    ),
+    (
+        &[("sentinel.txt", "mozglue")],
+        &[],
+        r#""signature":"mozglue.dll""#,
+    ),
+    (
+        &[("irrelevant.txt", "@0x\nxul\nmoz")],
+        &[],
+        r#""signature":"EMPTY: no frame data available""#,
+    ),
+    // the first module has the long name
+    (
+        &[("irrelevant.txt", "@0x")],
+        &[(160, 1984)],
+        r#"xxx...","success":true"#,
+    ),
+    (
+        &[("irrelevant.txt", "@0x\nx"), ("sentinel.txt", "y")],
+        &[(160, 1984)],
+        r#""signature":"mozglue.dll""#,
+    ),
+];
+
+#[test]
+fn places(rt: HostRuntime) -> Result<(), Fail> {
+    let alloc = rt.alloc();
+    for (files, words, want) in &PLACES {
+        let dump = with_stack(alloc, words)?;
+        let raw = crash(alloc, &[], Some(dump.as_slice()))?;
+        let found = report(alloc, files, &raw)?;
+        let Ok(text) = str::from_utf8(found.as_slice()) else {
+            return Err(Fail::from(NoMemory));
+        };
+        assert!(rt; text.contains(r#""frame_count":6"#), "6 frames in {text}");
+        assert!(rt; text.contains(*want), "{want} in {text}");
+    }
+    Ok(())
+}
+
 /// The refusal of these files, as a name and a number.
 fn refusal(alloc: Global, files: &[(&str, &str)]) -> Result<Option<KitError>, NoMemory> {
     match KitText::read(alloc, &mut tree(alloc, files)?) {

@@ -28,14 +28,22 @@ pub(crate) enum Next {
     Ends(SessionEnd),
 }
 
+/// What each message of a session is answered by.
+#[derive(Clone, Copy)]
+struct Setting<'s> {
+    alloc: Global,
+    rules: &'s Rules,
+    routes: &'s Routes,
+}
+
 /// Answers the messages of a link in order, over whatever desk stands behind, until the input ends, a reply is the last
 /// one, or the messages answered hold `session_bytes` bytes or more. The buffer's window is empty at the call.
-pub fn session<K: Desk, X: Source + Sink, C: Clock, W: Draws>(
+pub fn session<'s, K: Desk, X: Source + Sink, C: Clock, W: Draws>(
     alloc: Global,
     desk: &mut K,
     link: &mut X,
-    rules: &Rules,
-    routes: &Routes,
+    rules: &'s Rules,
+    routes: &'s Routes,
     buffer: &mut Buffer,
     clock: &mut C,
     draws: &mut W,
@@ -56,10 +64,13 @@ pub fn session<K: Desk, X: Source + Sink, C: Clock, W: Draws>(
         return SessionEnd::NoMemory;
     };
     let mut spare = room.no_memory();
+    let setting = Setting {
+        alloc,
+        rules,
+        routes,
+    };
     while left > 0 {
-        match answer_next(
-            alloc, desk, link, rules, routes, buffer, clock, draws, &mut spare,
-        ) {
+        match answer_next(setting, desk, link, buffer, clock, draws, &mut spare) {
             Next::GoesOn(bytes) => left = left.saturating_sub(bytes),
             Next::Ends(end) => return end,
         }
@@ -69,18 +80,16 @@ pub fn session<K: Desk, X: Source + Sink, C: Clock, W: Draws>(
 
 /// Answers the next message.
 fn answer_next<K: Desk, X: Source + Sink, C: Clock, W: Draws>(
-    alloc: Global,
+    setting: Setting<'_>,
     desk: &mut K,
     link: &mut X,
-    rules: &Rules,
-    routes: &Routes,
     buffer: &mut Buffer,
     clock: &mut C,
     draws: &mut W,
     spare: &mut Answered,
 ) -> Next
     requires { closing false spare.old ≡ no_memory }
-    ensures steps { StepsOn K.Asks rules.now buffer.old
+    ensures steps { StepsOn K.Asks setting.entry.rules.now buffer.old
         (around (X.told link.old) desk.old (outlook (C.told clock.old) (W.told draws.old)))
         buffer.new
         (around (X.told link.new) desk.new (outlook (C.told clock.new) (W.told draws.new)))
@@ -89,12 +98,10 @@ fn answer_next<K: Desk, X: Source + Sink, C: Clock, W: Draws>(
     ensures never_fall { NeverFall (X.told link.old) (X.told link.new) }
     ensures cause { HasCause (result ≡ Next.Ends SessionEnd.ReadFault) (result ≡ Next.Ends SessionEnd.WriteFault) (X.told link.old) (X.told link.new) }
 {
-    match next_message(alloc, rules, routes, link, buffer) {
+    match next_message(setting.alloc, setting.rules, setting.routes, link, buffer) {
         Ok(None) => Next::Ends(SessionEnd::Ended),
-        Ok(Some(incoming)) => {
-            answer_message(alloc, desk, link, rules, incoming, clock, draws, spare)
-        }
-        Err(error) => Next::Ends(halt(alloc, link, error)),
+        Ok(Some(incoming)) => answer_message(setting, desk, link, incoming, clock, draws, spare),
+        Err(error) => Next::Ends(halt(setting.alloc, link, error)),
     }
 }
 
@@ -132,10 +139,9 @@ fn refuse<X: Sink>(alloc: Global, link: &mut X, error: HeadError) -> SessionEnd
 
 /// Answers a message that came whole.
 fn answer_message<K: Desk, X: Sink, C: Clock, W: Draws>(
-    alloc: Global,
+    setting: Setting<'_>,
     desk: &mut K,
     link: &mut X,
-    rules: &Rules,
     incoming: Incoming,
     clock: &mut C,
     draws: &mut W,
@@ -143,7 +149,7 @@ fn answer_message<K: Desk, X: Sink, C: Clock, W: Draws>(
 ) -> Next
     requires sized { IsSized incoming }
     requires spare { closing false spare.old ≡ no_memory }
-    ensures responds { Responds K.Asks rules.now incoming desk.old desk.new
+    ensures responds { Responds K.Asks setting.entry.rules.now incoming desk.old desk.new
         (outlook (C.told clock.old) (W.told draws.old))
         (outlook (C.told clock.new) (W.told draws.new))
         (X.told link.old).held (X.told link.new).held result }
@@ -153,7 +159,7 @@ fn answer_message<K: Desk, X: Sink, C: Clock, W: Draws>(
     ensures only { OnlyWrites (X.told link.old) (X.told link.new) }
 {
     let Incoming { head, content } = incoming;
-    let outcome = answer(alloc, desk, rules, content, clock, draws);
+    let outcome = answer(setting.alloc, desk, setting.rules, content, clock, draws);
     let stopped = outcome.stopped;
     let last = is_last(stopped, head.last);
     match write_last(link, spare, outcome.reply, last) {

@@ -1,4 +1,5 @@
 pub mod PatternLemmas
+pub mod AutomatonLemmas
 pub mod MakeLemmas
 pub mod LineLemmas
 pub mod FileLemmas

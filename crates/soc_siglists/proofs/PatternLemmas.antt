@@ -119,7 +119,7 @@ positive zero e = absurd (true≢false e)
 positive (suc n) e = omega arith
 
 -- a search whose match begins at the start gives one
-begun_matches : (re : Re) (frame : List ℕ) (o : Option Match) → find_str re frame 0 ≡ o → begins o ≡ true → (j : ℕ) × Matches frame re 0 j
+pub begun_matches : (re : Re) (frame : List ℕ) (o : Option Match) → find_str re frame 0 ≡ o → begins o ≡ true → (j : ℕ) × Matches frame re 0 j
 begun_matches re frame None e h = absurd (true≢false (sym h))
 begun_matches re frame (Some m) e h =
     let sound = find_str_sound re frame 0 m e in
@@ -133,7 +133,7 @@ some_begins re frame j is matches (Some m) e some =
     let sound = find_str_sound re frame 0 m e in
     true_from_ne_false _ (λ past. sound.2 0 j (omega arith) (positive m.start past) (IsCharBoundary-start frame is.utf8) matches)
 
-matches_begin : (re : Re) (frame : List ℕ) (j : ℕ) → IsFrame frame → Matches frame re 0 j → begins (find_str re frame 0) ≡ true
+pub matches_begin : (re : Re) (frame : List ℕ) (j : ℕ) → IsFrame frame → Matches frame re 0 j → begins (find_str re frame 0) ≡ true
 matches_begin re frame j is matches =
     some_begins re frame j is matches (find_str re frame 0) refl (find_str_complete re frame 0 0 j (omega arith) (IsCharBoundary-start frame is.utf8) matches)
 
@@ -214,12 +214,16 @@ no_lead re lead empty unsure = record {
   all = λ h. absurd (true≢false (sym h ∙ unsure));
 }
 
--- what the grammar's own tree says of matches holds for the text
-pub led_by : (text : List ℕ) (hir : Hir) (names : Names) (lead : Lead) → Reads default_config text hir names → Leads (meaning hir) lead → IsLedBy text lead
+-- the grammar's own tree matches as the text
+pub read_matches : (text : List ℕ) (hir : Hir) (names : Names) → Reads default_config text hir names → MatchesAs text (meaning hir)
 unfolding Reads
+read_matches text hir names reads = weaker (read default_config (chars text)) _ _ (λ x h. h.1) reads
+
+-- what it says of matches holds for the text
+pub led_by : (text : List ℕ) (hir : Hir) (names : Names) (lead : Lead) → Reads default_config text hir names → Leads (meaning hir) lead → IsLedBy text lead
 led_by text hir names lead reads leads =
     let re = meaning hir in
-    let same : MatchesAs text re = weaker (read default_config (chars text)) _ _ (λ x h. h.1) reads in
+    let same = read_matches text hir names reads in
     record {
       begins = λ frame is h.
           let found = begun_matches re frame (find_str re frame 0) refl (starts text frame re is.bytes same ∙ h) in

@@ -1,6 +1,7 @@
 //! Lists of patterns that decide which frames of a stack count in signatures.
 #![tactic(auto)]
 
+mod automaton;
 mod entries;
 mod error;
 mod failing_maker;

@@ -5,6 +5,7 @@ ghost use Rattle.soc_siglists.specs.Lists.{ListTexts, matches_one, is_irrelevant
 
 use crate::led::{LedMatcher, LedPattern};
 use crate::patterns::PatternMatchers;
+use regex_vm::Backtracker;
 use soc_raw::{NoMemory, TextList};
 use std::alloc::Global;
 use std::marker::Model;
@@ -23,6 +24,7 @@ pub fn matchers_of(alloc: Global, patterns: &[LedPattern]) -> Result<Vec<LedMatc
 /// Whether one of the patterns matches where the frame begins.
 pub fn matches_one(
     alloc: Global,
+    backtracker: &mut Backtracker,
     matchers: &mut [LedMatcher<'_>],
     frame: &str,
 ) -> Result<bool, NoMemory>
@@ -30,7 +32,7 @@ pub fn matches_one(
     ensures same { matchers.new ≡ matchers.old }
 {
     for matcher in matchers.iter_mut() {
-        if matcher.matches_start(alloc, frame)? {
+        if matcher.matches_start(alloc, backtracker, frame)? {
             return Ok(true);
         }
     }

@@ -1,13 +1,18 @@
 //! One pattern of a list.
-ghost use Rattle.std.specs.Prelude.{◌≡◌, IfOk};
+ghost use Rattle.std.specs.Prelude.{◌≡◌, IfOk, map, option_map, string_bytes};
+ghost use Rattle.std.specs.Option.{ForSome};
+ghost use Rattle.regex.specs.Patterns.{Reads, default_config};
 ghost use Rattle.regex.specs.Strings.{regex_source};
 ghost use Rattle.soc_siglists.specs.Patterns.{matches_start};
+ghost use Rattle.soc_siglists.specs.inner.Automata.{RunsAs};
 ghost use Rattle.soc_siglists.specs.inner.Compiled.{IsOwn};
 ghost use Rattle.soc_siglists.specs.inner.Leads.{IsLedBy};
 
+use crate::automaton::automaton_of;
 use crate::lead::{Lead, lead_of};
 use regex::{Matcher, Regex};
-use regex_syntax::{Config, parse};
+use regex_nfa::Nfa;
+use regex_syntax::{Config, Parsed, parse};
 use soc_raw::NoMemory;
 use std::alloc::Global;
 use std::marker::Model;
@@ -45,15 +50,31 @@ impl Pattern {
         self.made.as_str()
     }
 
+    /// The pattern as a tree.
+    fn parsed(&self, alloc: Global) -> Result<Parsed, NoMemory>
+        ensures { IfOk result (λ parsed. Reads default_config self.now parsed.hir (map (option_map string_bytes) parsed.names.items)) }
+    {
+        // the text was read before, so only memory can be wanting
+        match parse(alloc, self.made.as_str(), &Config::default()) {
+            Ok(parsed) => Ok(parsed),
+            Err(_) => Err(NoMemory),
+        }
+    }
+
     /// A text that each match begins with.
     pub fn lead(&self, alloc: Global) -> Result<Lead, NoMemory>
         ensures { IfOk result (IsLedBy self.now) }
     {
-        // the text was read before, so only memory can be wanting
-        let Ok(parsed) = parse(alloc, self.made.as_str(), &Config::default()) else {
-            return Err(NoMemory);
-        };
+        let parsed = self.parsed(alloc)?;
         lead_of(alloc, &parsed.hir)
+    }
+
+    /// The pattern as an automaton, unless that is large.
+    pub fn automaton(&self, alloc: Global) -> Result<Option<Nfa>, NoMemory>
+        ensures { IfOk result (λ made. ForSome made (RunsAs self.now)) }
+    {
+        let parsed = self.parsed(alloc)?;
+        automaton_of(alloc, &parsed)
     }
 
     /// What asks the pattern.

@@ -8,6 +8,7 @@ use crate::led::{LedMatcher, LedPattern};
 use crate::literals::Literals;
 use crate::matchers::{matchers_of, matches_one};
 use crate::pattern::Pattern;
+use regex_vm::Backtracker;
 use soc_raw::{NoMemory, Text, Texts};
 use std::alloc::Global;
 use std::marker::Model;
@@ -46,7 +47,7 @@ impl Patterns {
             if lead.is_all {
                 add(alloc, &mut sorted, lead.text)?;
             } else {
-                others.push(LedPattern::of(pattern, lead.text))?;
+                others.push(LedPattern::of(alloc, pattern, lead.text)?)?;
             }
         }
         let literals = literals_of(alloc, &sorted)?;
@@ -66,6 +67,7 @@ impl Patterns {
             texts: self.texts.as_slice(),
             literals: &self.literals,
             others,
+            backtracker: Backtracker::new(alloc),
         })
     }
 }
@@ -95,6 +97,7 @@ pub struct PatternMatchers<'a> {
     texts: &'a [Text],
     literals: &'a Literals,
     others: Vec<LedMatcher<'a>>,
+    backtracker: Backtracker,
 }
 
 impl<'a> Model for PatternMatchers<'a> {
@@ -124,6 +127,6 @@ impl<'a> PatternMatchers<'a> {
         if self.literals.begin(frame) {
             return Ok(true);
         }
-        matches_one(alloc, &mut self.others, frame)
+        matches_one(alloc, &mut self.backtracker, &mut self.others, frame)
     }
 }

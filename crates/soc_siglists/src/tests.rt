@@ -106,6 +106,19 @@ fn odd_lines(rt: HostRuntime) -> Result<(), Fail> {
     Ok(())
 }
 
+/// Frames that are too long for an automaton.
+#[test]
+fn long_frames(rt: HostRuntime) -> Result<(), Fail> {
+    let alloc = rt.alloc();
+    let lists = read(alloc, "ab*c?$", "", "")?;
+    let long = "b".repeat(alloc, 5_000)?;
+    let frame = format!(in alloc; "a{long}")?;
+    assert!(rt; lists.is_irrelevant(alloc, frame.as_str())?);
+    let frame = format!(in alloc; "a{long}d")?;
+    assert!(rt; !lists.is_irrelevant(alloc, frame.as_str())?);
+    Ok(())
+}
+
 fn refusal(alloc: Global, files: [&[u8]; 3]) -> Option<ListError> {
     Lists::read(alloc, &mut RegexMaker::new(), files[0], files[1], files[2]).err()
 }

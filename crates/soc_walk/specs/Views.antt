@@ -15,14 +15,18 @@ loaded_entry loaded = record { entry = module_entry loaded.entry.now; symbols = 
 abbrev pub name_at : List LoadedEntry → ℕ → Option (List ℕ)
 name_at loaded index = option_map (λ l. base_name_of l.entry.name) (slice_get loaded index)
 
--- the frame that a borrowed one stands for
-abbrev pub frame_copy : List LoadedEntry → BorrowedFrame → Frame
-frame_copy loaded frame = record {
+-- the frame that a borrowed one stands for, in a module with this base name
+abbrev pub named_copy : Option (List ℕ) → BorrowedFrame → Frame
+named_copy name frame = record {
   instruction = frame.instruction;
   trust = frame.trust;
-  «module» = option_and_then (name_at loaded) frame.module;
+  «module» = name;
   offset = frame.offset;
   function = option_copied frame.function;
   file = option_copied frame.file;
   line = frame.line;
 }
+
+-- the frame that a borrowed one stands for
+abbrev pub frame_copy : List LoadedEntry → BorrowedFrame → Frame
+frame_copy loaded frame = named_copy (option_and_then (name_at loaded) frame.module) frame

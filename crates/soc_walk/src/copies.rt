@@ -1,7 +1,7 @@
 //! Frames that own their texts.
 ghost use Rattle.std.specs.Prelude.{◌≡◌, map, IfOk};
-ghost use Rattle.std.specs.Option.{option_and_then, option_copied};
-ghost use Rattle.soc_walk.specs.Views.{frame_copy, name_at};
+ghost use Rattle.std.specs.Option.{option_copied};
+ghost use Rattle.soc_walk.specs.Views.{frame_copy, name_at, named_copy};
 
 use crate::borrowed::BorrowedFrame;
 use crate::frames::Frames;
@@ -21,41 +21,46 @@ fn text_of(alloc: Global, text: Option<&str>) -> Result<Option<Text>, NoMemory>
     }
 }
 
-/// The base name of the module at an index.
-fn name_of(
-    alloc: Global,
-    process: &Process<'_>,
-    index: Option<usize>,
-) -> Result<Option<Text>, NoMemory>
-    ensures { IfOk result (λ name. name ≡ option_and_then (name_at process.now.loaded) index) }
-{
-    let Some(index) = index else {
-        return Ok(None);
-    };
-    let Some(loaded) = process.loaded(index) else {
-        return Ok(None);
-    };
-    let path = loaded.entry.name.to_text(alloc)?;
-    Ok(Some(Text::of(alloc, base_name(path.as_str()))?))
+impl<'a> BorrowedFrame<'a> {
+    /// The frame that it stands for, in a module with this base name.
+    pub fn named(&self, alloc: Global, name: Option<Text>) -> Result<Frame, NoMemory>
+        ensures { IfOk result (λ copy. copy ≡ named_copy name self.now) }
+    {
+        let function = text_of(alloc, self.function)?;
+        let file = text_of(alloc, self.file)?;
+        Ok(Frame {
+            instruction: self.instruction,
+            trust: self.trust,
+            module: name,
+            offset: self.offset,
+            function,
+            file,
+            line: self.line,
+        })
+    }
 }
 
 impl<'a> Process<'a> {
+    /// The base name of the module at an index. It is decoded anew each time.
+    pub fn name(&self, alloc: Global, index: usize) -> Result<Option<Text>, NoMemory>
+        ensures { IfOk result (λ name. name ≡ name_at self.now.loaded index) }
+    {
+        let Some(loaded) = self.loaded(index) else {
+            return Ok(None);
+        };
+        let path = loaded.entry.name.to_text(alloc)?;
+        Ok(Some(Text::of(alloc, base_name(path.as_str()))?))
+    }
+
     /// The frame that a borrowed one of a walk stands for.
     pub fn frame(&self, alloc: Global, frame: &BorrowedFrame<'_>) -> Result<Frame, NoMemory>
         ensures { IfOk result (λ copy. copy ≡ frame_copy self.now.loaded frame.now) }
     {
-        let module = name_of(alloc, self, frame.module)?;
-        let function = text_of(alloc, frame.function)?;
-        let file = text_of(alloc, frame.file)?;
-        Ok(Frame {
-            instruction: frame.instruction,
-            trust: frame.trust,
-            module,
-            offset: frame.offset,
-            function,
-            file,
-            line: frame.line,
-        })
+        let name = match frame.module {
+            Some(index) => self.name(alloc, index)?,
+            None => None,
+        };
+        frame.named(alloc, name)
     }
 }
 

@@ -4,7 +4,8 @@ ghost use Rattle.soc_edge.specs.Calls.{one_more};
 ghost use Rattle.soc_edge.specs.Faults.{Rose};
 ghost use Rattle.soc_edge.specs.Untold.{untold_disk, IsDisk-untold};
 
-use super::{Answer, FIREFOX, LIMITS, crash, disk, told, with};
+use super::acts::{Answer, told, with};
+use super::{FIREFOX, LIMITS, crash, disk};
 use crate::Book;
 use soc_edge::{Disk, Failed, MemDisk};
 use soc_schema::{Bare, Permission};

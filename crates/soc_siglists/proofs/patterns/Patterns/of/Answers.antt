@@ -26,7 +26,7 @@ loop-pattern-preserved c =
     record {
       texts = texts ∙ ap (λ ts. ts ++ pattern ∷ []) inv.texts;
       split =
-          rw (texts, c.in_ok-push-2.ensures.items, c.of-else-lead.ensures)
+          rw (texts, c.in_ok-push-2.ensures.items, c.in_ok-of-2.ensures)
           (split_other c.loop-pattern.texts.items (keys_of c.loop-pattern.sorted) c.loop-pattern.others.items pattern inv.split);
     }
 
