@@ -5,6 +5,7 @@ use Rattle.std.specs.Int.{w64, to_le_bytes}
 use Rattle.std.proofs.lemmas.List.Sums.{sum_by-cons}
 use Rattle.std.proofs.lemmas.List.{flat_map_more, drop_at}
 use Rattle.soc_raw.specs.inner.Sizes.{pair_len}
+use Rattle.soc_raw.specs.inner.Writing.{Extends}
 use Rattle.soc_raw.specs.Record.{Crash, counted, pair_text, pairs_text, head_text, content_text, record_of, MAX_RECORD}
 
 pub head_length : (c : Crash) → length c.id + 8 + 8 + 4 + length c.rule ≡ length (head_text c)
@@ -44,14 +45,21 @@ pub content_at : (c : Crash) (n : ℕ) → n ≡ length (head_text c) → drop n
 unfolding record_of
 content_at c n e = drop_at (head_text c) (content_text c) n (sym e)
 
+-- more is written, step by step
+pub further : (start mid end : List ℕ) → Extends start mid → Extends mid end → Extends start end
+further start mid end first second = (first.0 ++ second.0, second.1 ∙ ap (λ t. t ++ second.0) first.1 ∙ append_assoc start first.0 second.0)
+
 -- one pair more is written
-pub pairs_more : (done left rest : List (List ℕ × List ℕ)) (n v name value base old mid new : List ℕ) → left ≡ (n, v) ∷ rest → name ≡ n → value ≡ v → old ≡ base ++ flat_map pair_text done → mid ≡ old ++ counted name → new ≡ mid ++ counted value → new ≡ base ++ flat_map pair_text (done ++ (n, v) ∷ [])
-pairs_more done left rest n v name value base old mid new at is_name is_value so_far first second =
-    second ∙ ap (λ t. t ++ counted value) (first ∙ ap (λ t. t ++ counted name) so_far)
-    ∙ append_assoc (base ++ flat_map pair_text done) (counted name) (counted value)
-    ∙ ap (λ t. (base ++ flat_map pair_text done) ++ (counted t ++ counted value)) is_name
-    ∙ ap (λ t. (base ++ flat_map pair_text done) ++ (counted n ++ counted t)) is_value
+pub pairs_more : (done : List (List ℕ × List ℕ)) (n v name value base old new : List ℕ) → name ≡ n → value ≡ v → old ≡ base ++ flat_map pair_text done → new ≡ old ++ pair_text (name, value) → new ≡ base ++ flat_map pair_text (done ++ (n, v) ∷ [])
+pairs_more done n v name value base old new is_name is_value so_far put =
+    put ∙ ap (λ t. t ++ pair_text (name, value)) so_far
+    ∙ ap (λ t. (base ++ flat_map pair_text done) ++ pair_text (t, value)) is_name
+    ∙ ap (λ t. (base ++ flat_map pair_text done) ++ pair_text (n, t)) is_value
     ∙ flat_map_more pair_text base done (n, v)
+
+-- the pairs so far stand behind what stood there
+pub pairs_front : (start count pairs end now : List ℕ) → now ≡ (start ++ count) ++ pairs → Extends now end → Extends start end
+pairs_front start count pairs end now so_far more = further start now end (count ++ pairs, so_far ∙ append_assoc start count pairs) more
 
 regrouped : (s a b c d e f : List ℕ) → (((((s ++ a) ++ b) ++ c) ++ d) ++ e) ++ f ≡ s ++ ((a ++ (b ++ (c ++ d))) ++ (e ++ f))
 regrouped s a b c d e f = simp append_assoc

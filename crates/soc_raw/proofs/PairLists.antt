@@ -38,10 +38,10 @@ set_next (p ∷ front) rest e rising =
     ∙ ap (λ t. p ∷ t) (set_next front rest e rising.1)
 
 -- one pair more is copied
-pub copied : {V : Type 0} (all copy left rest new : List (List ℕ × V)) (n m : List ℕ) (v w : V) → IsRising all → left ≡ (n, v) ∷ rest → m ≡ n → w ≡ v → new ≡ with_value copy m w → copy ++ left ≡ all → new ++ rest ≡ all
-copied all copy left rest new n m v w rising next is_name is_value set so_far =
+pub copied : {V : Type 0} (all copy left rest new : List (List ℕ × V)) (n : List ℕ) (v : V) → IsRising all → left ≡ (n, v) ∷ rest → new ≡ with_value copy n v → copy ++ left ≡ all → new ++ rest ≡ all
+copied all copy left rest new n v rising next set so_far =
     let whole : copy ++ (n, v) ∷ rest ≡ all = ap (λ t. copy ++ t) (sym next) ∙ so_far in
-    let put : new ≡ copy ++ (n, v) ∷ [] = set ∙ ap (λ k. with_value copy k w) is_name ∙ ap (λ u. with_value copy n u) is_value ∙ set_next copy rest (n, v) (subst (λ t. IsRising t) (sym whole) rising) in
+    let put : new ≡ copy ++ (n, v) ∷ [] = set ∙ set_next copy rest (n, v) (subst (λ t. IsRising t) (sym whole) rising) in
     ap (λ t. t ++ rest) put ∙ append_assoc copy ((n, v) ∷ []) rest ∙ whole
 
 -- two iterators whose items were compared to their ends

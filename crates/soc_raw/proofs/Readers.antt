@@ -75,11 +75,6 @@ set_end (p ∷ ps) n v rising above =
     ap (λ o. match_ordering o ((n, v) ∷ p ∷ ps) ((p.0, v) ∷ ps) (p ∷ insert_entry (slice_cmp nat_cmp) ps n v)) greater
     ∙ ap (λ t. p ∷ t) (set_end ps n v rising.1 (above_rest p ps n above))
 
--- a name above all others, set
-pub set_last : {V : Type 0} (old new : List (List ℕ × V)) (n m : List ℕ) (v w : V) → IsRising old → true ≡ is_above (last_name old) n → m ≡ n → w ≡ v → new ≡ with_value old m w → new ≡ old ++ (n, v) ∷ []
-set_last old new n m v w rising above is_name is_value set =
-    set ∙ ap (λ t. with_value old t w) is_name ∙ ap (λ t. with_value old n t) is_value ∙ set_end old n v rising (sym above)
-
 abbrev pub Pairs : Type 0
 Pairs = List (List ℕ × List ℕ)
 

@@ -22,7 +22,7 @@ use Rattle.soc_raw.specs.declared.record_error.RecordError.{RecordError}
 use Rattle.soc_raw.specs.declared.record_error.RecordError.TheVariants.{BadRecord, NoMemory}
 use Rattle.soc_raw.specs.RawCrash.{IsRefusal}
 use Rattle.soc_raw.specs.Options.{◌>>=◌}
-use Rattle.soc_raw.specs.inner.Reading.{number_at, bytes_at, blob_at, text_at, id_at, is_moment, moment_at, text_pair_at, blob_pair_at, is_above, pairs_at, counted_pairs_at, crash_at}
+use Rattle.soc_raw.specs.inner.Reading.{number_at, bytes_at, blob_at, text_at, id_at, is_moment, moment_at, text_pair_at, blob_pair_at, is_above, pairs_at, counted_pairs_at, content_at, crash_at}
 use Rattle.soc_raw.specs.Refusals.{Refuses}
 use Rattle.soc_raw.proofs.PairLists.{some_same}
 use Rattle.soc_raw.proofs.Readers.{Item, Pairs}
@@ -126,7 +126,7 @@ blob_splits bytes x fits e =
     let t = bytes_split b.0.0 b.0.1 x n.0.fits b.2 in
     let both = joined bytes (to_le_bytes w32 b.0.0) b.0.1 x.0 x.1 n.0 t.0 in
     let P : ℕ → Type 0 = λ k. Splits bytes (to_le_bytes w32 k ++ x.0) x.1 in
-    subst P (sym t.1) both
+    subst P {x = b.0.0} (sym t.1) both
 
 pub blob_again : (x rest : List ℕ) → length x < 2 ^ 32 → blob_at (counted x ++ rest) ≡ Some (x, rest)
 unfolding blob_at
@@ -139,7 +139,7 @@ text_splits bytes x fits e =
     let b = bound (blob_at bytes) (λ blob. cond (is_utf8 blob.0) (Some blob) None) x e in
     let t = passed (is_utf8 b.0.0) b.0 x b.2 in
     let P : List ℕ × List ℕ → Type 0 = λ y. Splits bytes (counted y.0) y.1 × IsUtf8 y.0 in
-    subst P t.1 (blob_splits bytes b.0 fits b.1, IsUtf8-from_is_utf8 b.0.0 t.0)
+    subst P {x = b.0} t.1 (blob_splits bytes b.0 fits b.1, IsUtf8-from_is_utf8 b.0.0 t.0)
 
 text_again : (x rest : List ℕ) → length x < 2 ^ 32 → IsUtf8 x → text_at (counted x ++ rest) ≡ Some (x, rest)
 unfolding text_at
@@ -153,7 +153,7 @@ id_splits bytes x fits e =
     let b = bound (bytes_at 36 bytes) (λ id. cond (is_id id.0) (Some id) None) x e in
     let t = passed (is_id b.0.0) b.0 x b.2 in
     let P : List ℕ × List ℕ → Type 0 = λ y. Splits bytes y.0 y.1 × IsId y.0 in
-    subst P t.1 ((bytes_split 36 bytes b.0 fits b.1).0, t.0)
+    subst P {x = b.0} t.1 ((bytes_split 36 bytes b.0 fits b.1).0, t.0)
 
 id_again : (x rest : List ℕ) → IsId x → id_at (x ++ rest) ≡ Some (x, rest)
 unfolding id_at
@@ -171,7 +171,7 @@ moment_splits bytes x fits e =
     let b = bound (number_at w64 bytes) (λ n. cond (is_moment n.0) (Some n) None) x e in
     let t = passed (is_moment b.0.0) b.0 x b.2 in
     let P : ℕ × List ℕ → Type 0 = λ y. Splits bytes (to_le_bytes w64 y.0) y.1 × IsMoment y.0 in
-    subst P t.1 ((number_splits w64 (2 ^ 64) eight bytes b.0 fits b.1).0, moment_is b.0.0 t.0)
+    subst P {x = b.0} t.1 ((number_splits w64 (2 ^ 64) eight bytes b.0 fits b.1).0, moment_is b.0.0 t.0)
 
 moment_again : (n : ℕ) (rest : List ℕ) → IsMoment n → moment_at (to_le_bytes w64 n ++ rest) ≡ Some (n, rest)
 unfolding moment_at
@@ -193,7 +193,7 @@ texts_read = record {
       let first = text_splits bytes a.0 fits a.1 in
       let second = text_splits a.0.1 b.0 first.0.fits b.1 in
       let P : (List ℕ × List ℕ) × List ℕ → Type 0 = λ y. Splits bytes (pair_text y.0) y.1 × IsText y.0 in
-      subst P (some_same ((a.0.0, b.0.0), b.0.1) x b.2)
+      subst P {x = ((a.0.0, b.0.0), b.0.1)} (some_same ((a.0.0, b.0.0), b.0.1) x b.2)
       (joined bytes (counted a.0.0) a.0.1 (counted b.0.0) b.0.1 first.0 second.0, (first.1, second.1));
   again = λ p rest name value is.
       ap text_pair_at (append_assoc (counted p.0) (counted p.1) rest)
@@ -209,7 +209,7 @@ blobs_read = record {
       let first = text_splits bytes a.0 fits a.1 in
       let second = blob_splits a.0.1 b.0 first.0.fits b.1 in
       let P : (List ℕ × List ℕ) × List ℕ → Type 0 = λ y. Splits bytes (pair_text y.0) y.1 × HasTextName y.0 in
-      subst P (some_same ((a.0.0, b.0.0), b.0.1) x b.2)
+      subst P {x = ((a.0.0, b.0.0), b.0.1)} (some_same ((a.0.0, b.0.0), b.0.1) x b.2)
       (joined bytes (counted a.0.0) a.0.1 (counted b.0.0) b.0.1 first.0 second, first.1);
   again = λ p rest name value is.
       ap blob_pair_at (append_assoc (counted p.0) (counted p.1) rest)
@@ -271,7 +271,7 @@ module _ (item : Item) (Is : List ℕ × List ℕ → Type 0) (reads : ReadsPair
       let b = bound (pairs_at item (Some a.0.0.0) n a.0.1) (λ others. Some (a.0.0 ∷ others.0, others.1)) x g.1 in
       let first = reads.splits bytes a.0 fits a.1 in
       let others = pairs_splits n (Some a.0.0.0) a.0.1 b.0 first.0.fits b.1 in
-      subst (Read (suc n) last bytes) (some_same (a.0.0 ∷ b.0.0, b.0.1) x b.2)
+      subst (Read (suc n) last bytes) {x = (a.0.0 ∷ b.0.0, b.0.1)} (some_same (a.0.0 ∷ b.0.0, b.0.1) x b.2)
       (joined bytes (pair_text a.0.0) a.0.1 (flat_map pair_text b.0.0) b.0.1 first.0 others.0, omega (arith, others.1), (first.1, others.2), rises_more last a.0.0 b.0.0 g.0 others.3)
 
   pairs_again : (ps : Pairs) (last : Option (List ℕ)) (rest : List ℕ) → length (flat_map pair_text ps) < 2 ^ 32 → AllByRecursion Is ps → RisesFrom last ps → pairs_at item last (length ps) (flat_map pair_text ps ++ rest) ≡ Some (ps, rest)
@@ -296,7 +296,7 @@ module _ (item : Item) (Is : List ℕ × List ℕ → Type 0) (reads : ReadsPair
       let pairs = pairs_splits a.0.0 None a.0.1 x count.0.fits g.1 in
       let both = joined bytes (to_le_bytes w32 a.0.0) a.0.1 (flat_map pair_text x.0) x.1 count.0 pairs.0 in
       let P : ℕ → Type 0 = λ k. Splits bytes (to_le_bytes w32 k ++ flat_map pair_text x.0) x.1 in
-      (subst P (sym pairs.1) both, omega (arith, pairs.1), pairs.2, pairs.3)
+      (subst P {x = a.0.0} (sym pairs.1) both, omega (arith, pairs.1), pairs.2, pairs.3)
 
   counted_again : (most : ℕ) (ps : Pairs) (rest : List ℕ) → length ps ≤ most → most < 2 ^ 32 → length (flat_map pair_text ps) < 2 ^ 32 → AllByRecursion Is ps → IsRising ps → counted_pairs_at item most (pairs_text ps ++ rest) ≡ Some (ps, rest)
   unfolding counted_pairs_at behind
@@ -306,8 +306,38 @@ module _ (item : Item) (Is : List ℕ × List ℕ → Type 0) (reads : ReadsPair
 
 -- ---- records
 
-in_one_row : (a b c d e f : List ℕ) → (a ++ (b ++ (c ++ d))) ++ (e ++ f) ≡ a ++ (b ++ (c ++ (d ++ (e ++ (f ++ [])))))
-in_one_row a b c d e f = simp (append_assoc, append-nil)
+in_one_row : (a b c d e : List ℕ) → (a ++ (b ++ (c ++ d))) ++ e ≡ a ++ (b ++ (c ++ (d ++ e)))
+in_one_row a b c d e = simp append_assoc
+
+-- annotations, or dumps, that were read
+abbrev AreRead : ℕ → (List ℕ × List ℕ → Type 0) → Pairs → Type 0
+AreRead most Is ps = (length ps ≤ most) × AllByRecursion Is ps × IsRising ps
+
+content_splits : (bytes : List ℕ) (x : Pairs × Pairs) → IsBytes bytes → content_at bytes ≡ Some x → (bytes ≡ pairs_text x.0 ++ pairs_text x.1) × AreRead MAX_ANNOTATIONS IsText x.0 × AreRead MAX_DUMPS HasTextName x.1
+unfolding content_at
+content_splits bytes x fits e =
+    let b1 = bound (counted_pairs_at text_pair_at MAX_ANNOTATIONS bytes) (λ annotations. counted_pairs_at blob_pair_at MAX_DUMPS annotations.1 >>= λ dumps. cond (length dumps.1 == 0) (Some (annotations.0, dumps.0)) None) x e in
+    let annotations = b1.0 in
+    let b2 = bound (counted_pairs_at blob_pair_at MAX_DUMPS annotations.1) (λ dumps. cond (length dumps.1 == 0) (Some (annotations.0, dumps.0)) None) x b1.2 in
+    let dumps = b2.0 in
+    let end = passed (length dumps.1 == 0) (annotations.0, dumps.0) x b2.2 in
+    let s1 = counted_splits text_pair_at IsText texts_read MAX_ANNOTATIONS bytes annotations fits b1.1 in
+    let s2 = counted_splits blob_pair_at HasTextName blobs_read MAX_DUMPS annotations.1 dumps s1.0.fits b2.1 in
+    let nothing : dumps.1 ≡ [] = nil_from_length dumps.1 (eqb-true _ _ end.0) in
+    let P : Pairs × Pairs → Type 0 = λ y. (bytes ≡ pairs_text y.0 ++ pairs_text y.1) × AreRead MAX_ANNOTATIONS IsText y.0 × AreRead MAX_DUMPS HasTextName y.1 in
+    subst P {x = (annotations.0, dumps.0)} end.1 (
+      s1.0.whole ∙ ap (λ t. pairs_text annotations.0 ++ t) (s2.0.whole ∙ ap (λ t. pairs_text dumps.0 ++ t) nothing ∙ append-nil (pairs_text dumps.0)),
+      (s1.1, s1.2, s1.3),
+      (s2.1, s2.2, s2.3),
+    )
+
+content_again : (c : Crash) → IsCrash c → content_at (pairs_text c.annotations ++ pairs_text c.dumps) ≡ Some (c.annotations, c.dumps)
+unfolding content_at
+content_again c is =
+    let short = pairs_fit c is.fits in
+    let annotations = counted_again text_pair_at IsText texts_read MAX_ANNOTATIONS c.annotations (pairs_text c.dumps ++ []) is.few_annotations (lit< tt) short.0 is.annotations is.annotations_rise in
+    let dumps = counted_again blob_pair_at HasTextName blobs_read MAX_DUMPS c.dumps [] is.few_dumps (lit< tt) short.1 is.dumps is.dumps_rise in
+    ap (λ t. content_at (pairs_text c.annotations ++ t)) (sym (append-nil (pairs_text c.dumps))) ∙ rw (annotations, dumps) refl
 
 abbrev made : List ℕ → ℕ → ℕ → List ℕ → Pairs → Pairs → Crash
 made id moment draw rule annotations dumps = record { id = id; moment = moment; draw = draw; rule = rule; annotations = annotations; dumps = dumps }
@@ -319,43 +349,43 @@ record Parts (bytes : List ℕ) (c : Crash) : Type 0 where
   moment : IsMoment c.moment
   draw : c.draw < 2 ^ 64
   rule : IsUtf8 c.rule
-  annotations : (length c.annotations ≤ MAX_ANNOTATIONS) × AllByRecursion IsText c.annotations × IsRising c.annotations
-  dumps : (length c.dumps ≤ MAX_DUMPS) × AllByRecursion HasTextName c.dumps × IsRising c.dumps
+  annotations : AreRead MAX_ANNOTATIONS IsText c.annotations
+  dumps : AreRead MAX_DUMPS HasTextName c.dumps
 
-parts_read : (bytes : List ℕ) (c : Crash) → IsBytes bytes → crash_at bytes ≡ Some c → Parts bytes c
-unfolding crash_at record_of head_text content_text
-parts_read bytes c fits e =
-    let b1 = bound (id_at bytes) (λ id. moment_at id.1 >>= λ moment. number_at w64 moment.1 >>= λ draw. text_at draw.1 >>= λ rule. counted_pairs_at text_pair_at MAX_ANNOTATIONS rule.1 >>= λ annotations. counted_pairs_at blob_pair_at MAX_DUMPS annotations.1 >>= λ dumps. cond (length dumps.1 == 0) (Some (made id.0 moment.0 draw.0 rule.0 annotations.0 dumps.0)) None) c e in
-    let id = b1.0 in
-    let b2 = bound (moment_at id.1) (λ moment. number_at w64 moment.1 >>= λ draw. text_at draw.1 >>= λ rule. counted_pairs_at text_pair_at MAX_ANNOTATIONS rule.1 >>= λ annotations. counted_pairs_at blob_pair_at MAX_DUMPS annotations.1 >>= λ dumps. cond (length dumps.1 == 0) (Some (made id.0 moment.0 draw.0 rule.0 annotations.0 dumps.0)) None) c b1.2 in
-    let moment = b2.0 in
-    let b3 = bound (number_at w64 moment.1) (λ draw. text_at draw.1 >>= λ rule. counted_pairs_at text_pair_at MAX_ANNOTATIONS rule.1 >>= λ annotations. counted_pairs_at blob_pair_at MAX_DUMPS annotations.1 >>= λ dumps. cond (length dumps.1 == 0) (Some (made id.0 moment.0 draw.0 rule.0 annotations.0 dumps.0)) None) c b2.2 in
-    let draw = b3.0 in
-    let b4 = bound (text_at draw.1) (λ rule. counted_pairs_at text_pair_at MAX_ANNOTATIONS rule.1 >>= λ annotations. counted_pairs_at blob_pair_at MAX_DUMPS annotations.1 >>= λ dumps. cond (length dumps.1 == 0) (Some (made id.0 moment.0 draw.0 rule.0 annotations.0 dumps.0)) None) c b3.2 in
-    let rule = b4.0 in
-    let b5 = bound (counted_pairs_at text_pair_at MAX_ANNOTATIONS rule.1) (λ annotations. counted_pairs_at blob_pair_at MAX_DUMPS annotations.1 >>= λ dumps. cond (length dumps.1 == 0) (Some (made id.0 moment.0 draw.0 rule.0 annotations.0 dumps.0)) None) c b4.2 in
-    let annotations = b5.0 in
-    let b6 = bound (counted_pairs_at blob_pair_at MAX_DUMPS annotations.1) (λ dumps. cond (length dumps.1 == 0) (Some (made id.0 moment.0 draw.0 rule.0 annotations.0 dumps.0)) None) c b5.2 in
-    let dumps = b6.0 in
-    let end = passed (length dumps.1 == 0) (made id.0 moment.0 draw.0 rule.0 annotations.0 dumps.0) c b6.2 in
-    let s1 = id_splits bytes id fits b1.1 in
-    let s2 = moment_splits id.1 moment s1.0.fits b2.1 in
-    let s3 = number_splits w64 (2 ^ 64) eight moment.1 draw s2.0.fits b3.1 in
-    let s4 = text_splits draw.1 rule s3.0.fits b4.1 in
-    let s5 = counted_splits text_pair_at IsText texts_read MAX_ANNOTATIONS rule.1 annotations s4.0.fits b5.1 in
-    let s6 = counted_splits blob_pair_at HasTextName blobs_read MAX_DUMPS annotations.1 dumps s5.0.fits b6.1 in
-    let nothing : dumps.1 ≡ [] = nil_from_length dumps.1 (eqb-true _ _ end.0) in
-    let row : bytes ≡ id.0 ++ (to_le_bytes w64 moment.0 ++ (to_le_bytes w64 draw.0 ++ (counted rule.0 ++ (pairs_text annotations.0 ++ (pairs_text dumps.0 ++ []))))) =
-    s1.0.whole ∙ ap (λ t. id.0 ++ t) (s2.0.whole ∙ ap (λ t. to_le_bytes w64 moment.0 ++ t) (s3.0.whole ∙ ap (λ t. to_le_bytes w64 draw.0 ++ t) (s4.0.whole ∙ ap (λ t. counted rule.0 ++ t) (s5.0.whole ∙ ap (λ t. pairs_text annotations.0 ++ t) (s6.0.whole ∙ ap (λ t. pairs_text dumps.0 ++ t) nothing))))) in
-    subst (Parts bytes) end.1 (record {
-      whole = in_one_row id.0 (to_le_bytes w64 moment.0) (to_le_bytes w64 draw.0) (counted rule.0) (pairs_text annotations.0) (pairs_text dumps.0) ∙ sym row;
+parts_made : (bytes : List ℕ) (id : List ℕ × List ℕ) (moment draw : ℕ × List ℕ) (rule : List ℕ × List ℕ) (content : Pairs × Pairs) → IsBytes bytes → id_at bytes ≡ Some id → moment_at id.1 ≡ Some moment → number_at w64 moment.1 ≡ Some draw → text_at draw.1 ≡ Some rule → content_at rule.1 ≡ Some content
+    → Parts bytes (made id.0 moment.0 draw.0 rule.0 content.0 content.1)
+unfolding record_of head_text content_text
+parts_made bytes id moment draw rule content fits is_id is_moment_ is_draw is_rule is_content =
+    let s1 = id_splits bytes id fits is_id in
+    let s2 = moment_splits id.1 moment s1.0.fits is_moment_ in
+    let s3 = number_splits w64 (2 ^ 64) eight moment.1 draw s2.0.fits is_draw in
+    let s4 = text_splits draw.1 rule s3.0.fits is_rule in
+    let s5 = content_splits rule.1 content s4.0.fits is_content in
+    let row : bytes ≡ id.0 ++ (to_le_bytes w64 moment.0 ++ (to_le_bytes w64 draw.0 ++ (counted rule.0 ++ (pairs_text content.0 ++ pairs_text content.1)))) =
+    s1.0.whole ∙ ap (λ t. id.0 ++ t) (s2.0.whole ∙ ap (λ t. to_le_bytes w64 moment.0 ++ t) (s3.0.whole ∙ ap (λ t. to_le_bytes w64 draw.0 ++ t) (s4.0.whole ∙ ap (λ t. counted rule.0 ++ t) s5.0))) in
+    record {
+      whole = in_one_row id.0 (to_le_bytes w64 moment.0) (to_le_bytes w64 draw.0) (counted rule.0) (pairs_text content.0 ++ pairs_text content.1) ∙ sym row;
       id = s1.1;
       moment = s2.1;
       draw = s3.1;
       rule = s4.1;
-      annotations = (s5.1, s5.2, s5.3);
-      dumps = (s6.1, s6.2, s6.3);
-    })
+      annotations = s5.1;
+      dumps = s5.2;
+    }
+
+parts_same : (bytes : List ℕ) (a c : Crash) → Parts bytes a → Some a ≡ Some c → Parts bytes c
+parts_same bytes a c parts same = subst (Parts bytes) (some_same a c same) parts
+
+parts_read : (bytes : List ℕ) (c : Crash) → IsBytes bytes → crash_at bytes ≡ Some c → Parts bytes c
+unfolding crash_at
+parts_read bytes c fits e =
+    let id = bound (id_at bytes) (λ id. moment_at id.1 >>= λ moment. number_at w64 moment.1 >>= λ draw. text_at draw.1 >>= λ rule. content_at rule.1 >>= λ content. Some (made id.0 moment.0 draw.0 rule.0 content.0 content.1)) c e in
+    let moment = bound (moment_at id.0.1) (λ moment. number_at w64 moment.1 >>= λ draw. text_at draw.1 >>= λ rule. content_at rule.1 >>= λ content. Some (made id.0.0 moment.0 draw.0 rule.0 content.0 content.1)) c id.2 in
+    let draw = bound (number_at w64 moment.0.1) (λ draw. text_at draw.1 >>= λ rule. content_at rule.1 >>= λ content. Some (made id.0.0 moment.0.0 draw.0 rule.0 content.0 content.1)) c moment.2 in
+    let rule = bound (text_at draw.0.1) (λ rule. content_at rule.1 >>= λ content. Some (made id.0.0 moment.0.0 draw.0.0 rule.0 content.0 content.1)) c draw.2 in
+    let content = bound (content_at rule.0.1) (λ content. Some (made id.0.0 moment.0.0 draw.0.0 rule.0.0 content.0 content.1)) c rule.2 in
+    parts_same bytes (made id.0.0 moment.0.0 draw.0.0 rule.0.0 content.0.0 content.0.1) c
+    (parts_made bytes id.0 moment.0 draw.0 rule.0 content.0 fits id.1 moment.1 draw.1 rule.1 content.1) content.2
 
 -- what is read is a raw crash, and the bytes are its record
 pub read_is : (bytes : List ℕ) (c : Crash) → IsBytes bytes → length bytes ≤ MAX_RECORD → crash_at bytes ≡ Some c → (record_of c ≡ bytes) × IsCrash c
@@ -381,21 +411,17 @@ read_is bytes c fits short e =
 pub read_again : (c : Crash) → IsCrash c → crash_at (record_of c) ≡ Some c
 unfolding crash_at record_of head_text content_text
 read_again c is =
-    let short = pairs_fit c is.fits in
-    let rule_short = rule_fits c is.fits in
-    let dumps_row = pairs_text c.dumps ++ [] in
-    let annotations_row = pairs_text c.annotations ++ dumps_row in
-    let rule_row = counted c.rule ++ annotations_row in
+    let content = pairs_text c.annotations ++ pairs_text c.dumps in
+    let rule_row = counted c.rule ++ content in
     let draw_row = to_le_bytes w64 c.draw ++ rule_row in
     let moment_row = to_le_bytes w64 c.moment ++ draw_row in
     let one = id_again c.id moment_row is.id in
     let two = moment_again c.moment draw_row is.moment in
     let three = number_again w64 (2 ^ 64) eight c.draw rule_row is.draw in
-    let four_ = text_again c.rule annotations_row rule_short is.rule in
-    let five = counted_again text_pair_at IsText texts_read MAX_ANNOTATIONS c.annotations dumps_row is.few_annotations (lit< tt) short.0 is.annotations is.annotations_rise in
-    let six = counted_again blob_pair_at HasTextName blobs_read MAX_DUMPS c.dumps [] is.few_dumps (lit< tt) short.1 is.dumps is.dumps_rise in
-    ap crash_at (in_one_row c.id (to_le_bytes w64 c.moment) (to_le_bytes w64 c.draw) (counted c.rule) (pairs_text c.annotations) (pairs_text c.dumps))
-    ∙ rw (one, two, three, four_, five, six) refl
+    let four_ = text_again c.rule content (rule_fits c is.fits) is.rule in
+    let five = content_again c is in
+    ap crash_at (in_one_row c.id (to_le_bytes w64 c.moment) (to_le_bytes w64 c.draw) (counted c.rule) content)
+    ∙ rw (one, two, three, four_, five) refl
 
 pub refused : (e : RecordError) (bytes : List ℕ) → Refuses e (crash_at bytes ≡ None) → IsRefusal e bytes
 refused BadRecord bytes none = λ c is whole.

@@ -52,6 +52,19 @@ impl Blobs {
         self.map.set(name, value)
     }
 
+    /// Gives a copy of the name a copy of the bytes.
+    pub(crate) fn set_copy(
+        &mut self,
+        alloc: Global,
+        name: &str,
+        value: &[u8],
+    ) -> Result<(), NoMemory>
+        ensures ok { OnOk result (self.new ≡ with_value self.old name.now value.now) }
+        ensures err { OnErr result (self.new ≡ self.old) }
+    {
+        self.set(Text::of(alloc, name)?, Bytes::of(alloc, value)?)
+    }
+
     /// The value of `name`.
     pub fn get(&self, name: &str) -> Option<&[u8]>
         ensures { option_copied result ≡ value_of self.now name.now }

@@ -2,9 +2,7 @@
 ghost use Rattle.std.specs.Prelude.{◌≡◌, ◌↔◌, IfOk, IsTrue};
 
 use crate::blobs::Blobs;
-use crate::bytes::Bytes;
 use crate::no_memory::NoMemory;
-use crate::text::Text;
 use crate::texts::Texts;
 use std::alloc::Global;
 
@@ -14,7 +12,7 @@ pub fn copy_of_texts(alloc: Global, texts: &Texts) -> Result<Texts, NoMemory>
 {
     let mut copy = Texts::new(alloc);
     for (name, value) in texts {
-        copy.set(Text::of(alloc, name)?, Text::of(alloc, value)?)?;
+        copy.set_copy(alloc, name, value)?;
     }
     Ok(copy)
 }
@@ -25,7 +23,7 @@ pub fn copy_of_blobs(alloc: Global, blobs: &Blobs) -> Result<Blobs, NoMemory>
 {
     let mut copy = Blobs::new(alloc);
     for (name, value) in blobs {
-        copy.set(Text::of(alloc, name)?, Bytes::of(alloc, value)?)?;
+        copy.set_copy(alloc, name, value)?;
     }
     Ok(copy)
 }

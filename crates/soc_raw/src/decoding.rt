@@ -1,6 +1,6 @@
 //! A record, read as its parts.
 ghost use Rattle.std.specs.Prelude.{◌≡◌};
-ghost use Rattle.soc_raw.specs.inner.Reading.{Gives, crash_at};
+ghost use Rattle.soc_raw.specs.inner.Reading.{Gives, content_at, crash_at};
 ghost use Rattle.soc_raw.specs.inner.Parts.{crash_of_parts};
 
 use crate::blobs::Blobs;
@@ -33,11 +33,7 @@ pub fn parts_of(alloc: Global, bytes: &[u8]) -> Result<Parts, RecordError>
     let moment = moment_at(&mut cursor)?;
     let draw = u64_at(&mut cursor)?;
     let rule = text_at(&mut cursor)?;
-    let annotations = texts_at(alloc, &mut cursor)?;
-    let dumps = blobs_at(alloc, &mut cursor)?;
-    if !cursor.is_empty() {
-        return Err(RecordError::BadRecord);
-    }
+    let (annotations, dumps) = content_at(alloc, &mut cursor)?;
     Ok(Parts {
         id,
         moment,
@@ -46,4 +42,17 @@ pub fn parts_of(alloc: Global, bytes: &[u8]) -> Result<Parts, RecordError>
         annotations,
         dumps,
     })
+}
+
+/// Annotations and dumps, with nothing behind them.
+#[tactic(auto, unfolding(crate::specs::inner::Reading::content_at))]
+fn content_at(alloc: Global, cursor: &mut Cursor<'_>) -> Result<(Texts, Blobs), RecordError>
+    ensures { Gives (λ content. (content.0, content.1)) result (content_at cursor.old) }
+{
+    let annotations = texts_at(alloc, cursor)?;
+    let dumps = blobs_at(alloc, cursor)?;
+    if !cursor.is_empty() {
+        return Err(RecordError::BadRecord);
+    }
+    Ok((annotations, dumps))
 }

@@ -13,7 +13,7 @@ use crate::no_memory::NoMemory;
 use crate::record_error::RecordError;
 use crate::text::Text;
 use crate::texts::Texts;
-use crate::writing::{len_of_blobs, len_of_texts, put_blobs, put_counted, put_texts};
+use crate::writing::{len_of_blobs, len_of_texts, put_blobs, put_bytes, put_counted, put_texts};
 use std::alloc::Global;
 
 /// The greatest length of a record, in bytes.
@@ -104,11 +104,11 @@ impl RawCrash {
     /// Writes the record, or a part of it.
     fn put(&self, out: &mut Vec<u8>) -> Result<(), NoMemory>
         ensures record { OnOk result (out.new.items ≡ out.old.items ++ record_text self.now) }
-        ensures front { OnErr result (Extends out.old.items out.new.items) }
+        ensures front { Extends out.old.items out.new.items }
     {
-        out.extend_from_slice(self.id.as_str().as_bytes())?;
-        out.extend_from_slice(&self.moment.to_le_bytes())?;
-        out.extend_from_slice(&self.draw.to_le_bytes())?;
+        put_bytes(out, self.id.as_str().as_bytes())?;
+        put_bytes(out, &self.moment.to_le_bytes())?;
+        put_bytes(out, &self.draw.to_le_bytes())?;
         put_counted(out, self.rule.as_str().as_bytes())?;
         put_texts(out, &self.annotations)?;
         put_blobs(out, &self.dumps)?;

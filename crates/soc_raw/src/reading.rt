@@ -5,12 +5,10 @@ ghost use Rattle.soc_raw.specs.Names.{IsRising};
 ghost use Rattle.soc_raw.specs.inner.Reading.{GivesFrom, number_at, blob_at, text_at, id_at, moment_at, text_pair_at, blob_pair_at, is_above, last_name, pairs_at, counted_pairs_at};
 
 use crate::blobs::Blobs;
-use crate::bytes::Bytes;
 use crate::crash_id::CrashId;
 use crate::cursor::Cursor;
 use crate::day::{FIRST_MOMENT, LAST_MOMENT};
 use crate::record_error::RecordError;
-use crate::text::Text;
 use crate::texts::Texts;
 use std::alloc::Global;
 
@@ -129,7 +127,7 @@ fn texts_after(alloc: Global, count: u32, cursor: &mut Cursor<'_>) -> Result<Tex
         if !comes_last_of_texts(&texts, name) {
             return Err(RecordError::BadRecord);
         }
-        texts.set(Text::of(alloc, name)?, Text::of(alloc, value)?)?;
+        texts.set_copy(alloc, name, value)?;
     }
     Ok(texts)
 }
@@ -143,7 +141,7 @@ fn blobs_after(alloc: Global, count: u32, cursor: &mut Cursor<'_>) -> Result<Blo
         if !comes_last_of_blobs(&blobs, name) {
             return Err(RecordError::BadRecord);
         }
-        blobs.set(Text::of(alloc, name)?, Bytes::of(alloc, value)?)?;
+        blobs.set_copy(alloc, name, value)?;
     }
     Ok(blobs)
 }

@@ -1,5 +1,5 @@
 //! The parts of a record, written.
-ghost use Rattle.std.specs.Prelude.{◌≡◌, ◌<◌, ◌^◌, ◌++◌, length, flat_map, OnOk, OnErr};
+ghost use Rattle.std.specs.Prelude.{◌≡◌, ◌<◌, ◌^◌, ◌++◌, length, flat_map, OnOk};
 ghost use Rattle.soc_raw.specs.Record.{counted, pair_text, pairs_text};
 ghost use Rattle.soc_raw.specs.inner.Writing.{Extends};
 
@@ -7,15 +7,33 @@ use crate::blobs::Blobs;
 use crate::no_memory::NoMemory;
 use crate::texts::Texts;
 
+/// Writes the bytes.
+pub fn put_bytes(out: &mut Vec<u8>, bytes: &[u8]) -> Result<(), NoMemory>
+    ensures written { OnOk result (out.new.items ≡ out.old.items ++ bytes.now) }
+    ensures front { Extends out.old.items out.new.items }
+{
+    out.extend_from_slice(bytes)?;
+    Ok(())
+}
+
 /// Writes a text or a blob: its length, and its bytes.
 pub fn put_counted(out: &mut Vec<u8>, bytes: &[u8]) -> Result<(), NoMemory>
     requires { length bytes.now < 2 ^ 32 }
     ensures written { OnOk result (out.new.items ≡ out.old.items ++ counted bytes.now) }
-    ensures front { OnErr result (Extends out.old.items out.new.items) }
+    ensures front { Extends out.old.items out.new.items }
 {
-    out.extend_from_slice(&(bytes.len() as u32).to_le_bytes())?;
-    out.extend_from_slice(bytes)?;
-    Ok(())
+    put_bytes(out, &(bytes.len() as u32).to_le_bytes())?;
+    put_bytes(out, bytes)
+}
+
+/// Writes a name and its value.
+fn put_pair(out: &mut Vec<u8>, name: &[u8], value: &[u8]) -> Result<(), NoMemory>
+    requires { length (pair_text (name.now, value.now)) < 2 ^ 32 }
+    ensures written { OnOk result (out.new.items ≡ out.old.items ++ pair_text (name.now, value.now)) }
+    ensures front { Extends out.old.items out.new.items }
+{
+    put_counted(out, name)?;
+    put_counted(out, value)
 }
 
 /// Writes how many annotations there are, and each of them.
@@ -23,12 +41,11 @@ pub fn put_texts(out: &mut Vec<u8>, texts: &Texts) -> Result<(), NoMemory>
     requires few { length texts.now < 2 ^ 32 }
     requires fits { length (flat_map pair_text texts.now) < 2 ^ 32 }
     ensures written { OnOk result (out.new.items ≡ out.old.items ++ pairs_text texts.now) }
-    ensures front { OnErr result (Extends out.old.items out.new.items) }
+    ensures front { Extends out.old.items out.new.items }
 {
-    out.extend_from_slice(&(texts.len() as u32).to_le_bytes())?;
+    put_bytes(out, &(texts.len() as u32).to_le_bytes())?;
     for (name, value) in texts {
-        put_counted(out, name.as_bytes())?;
-        put_counted(out, value.as_bytes())?;
+        put_pair(out, name.as_bytes(), value.as_bytes())?;
     }
     Ok(())
 }
@@ -38,12 +55,11 @@ pub fn put_blobs(out: &mut Vec<u8>, blobs: &Blobs) -> Result<(), NoMemory>
     requires few { length blobs.now < 2 ^ 32 }
     requires fits { length (flat_map pair_text blobs.now) < 2 ^ 32 }
     ensures written { OnOk result (out.new.items ≡ out.old.items ++ pairs_text blobs.now) }
-    ensures front { OnErr result (Extends out.old.items out.new.items) }
+    ensures front { Extends out.old.items out.new.items }
 {
-    out.extend_from_slice(&(blobs.len() as u32).to_le_bytes())?;
+    put_bytes(out, &(blobs.len() as u32).to_le_bytes())?;
     for (name, value) in blobs {
-        put_counted(out, name.as_bytes())?;
-        put_counted(out, value)?;
+        put_pair(out, name.as_bytes(), value)?;
     }
     Ok(())
 }

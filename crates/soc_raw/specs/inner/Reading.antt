@@ -95,6 +95,13 @@ counted_pairs_at item most bytes = do
   n ← number_at w32 bytes
   if nat_lt most n.0 then None else pairs_at item None n.0 n.1
 
+-- annotations and dumps, up to the end
+unfoldable pub content_at : List ℕ → Option (List (List ℕ × List ℕ) × List (List ℕ × List ℕ))
+content_at bytes = do
+  annotations ← counted_pairs_at text_pair_at MAX_ANNOTATIONS bytes
+  dumps ← counted_pairs_at blob_pair_at MAX_DUMPS annotations.1
+  if length dumps.1 == 0 then Some (annotations.0, dumps.0) else None
+
 -- the crash of which the bytes are the record
 unfoldable pub crash_at : List ℕ → Option Crash
 crash_at bytes = do
@@ -102,8 +109,5 @@ crash_at bytes = do
   moment ← moment_at id.1
   draw ← number_at w64 moment.1
   rule ← text_at draw.1
-  annotations ← counted_pairs_at text_pair_at MAX_ANNOTATIONS rule.1
-  dumps ← counted_pairs_at blob_pair_at MAX_DUMPS annotations.1
-  if length dumps.1 == 0
-      then Some (record { id = id.0; moment = moment.0; draw = draw.0; rule = rule.0; annotations = annotations.0; dumps = dumps.0 })
-      else None
+  content ← content_at rule.1
+  Some (record { id = id.0; moment = moment.0; draw = draw.0; rule = rule.0; annotations = content.0; dumps = content.1 })

@@ -1,7 +1,7 @@
 use Rattle.std.proofs.Common.{sym, ◌∙◌, None}
 use Rattle.std.proofs.lemmas.Result.{err_from_is_err_and}
 use Rattle.soc_raw.specs.inner.Reading.{text_pair_at, pairs_at}
-use Rattle.soc_raw.proofs.Readers.{started, goes_on, ends, ends_low, is_done, set_last}
+use Rattle.soc_raw.proofs.Readers.{started, goes_on, ends, ends_low, is_done, set_end}
 use Rattle.soc_raw.proofs.reading.texts_after.Goals as goal
 
 pub loop-init : goal.loop-init
@@ -20,8 +20,8 @@ returns-then-not-comes_last_of_texts c =
 pub loop-preserved : goal.loop-preserved
 loop-preserved c =
     let above = sym c.if-not-comes_last_of_texts.false ∙ c.comes_last_of_texts.ensures.above in
-    goes_on text_pair_at c.loop.texts c.set.new.self c.args.count c.loop.counter c.loop.cursor _ _ _ c.loop-test.true c.in_ok-name.ensures above
-    (set_last c.loop.texts c.set.new.self _ _ _ _ c.comes_last_of_texts.ensures.rising above c.in_ok-of.ensures c.in_ok-of-2.ensures c.in_ok-set.ensures.ok) c.loop.invariant
+    goes_on text_pair_at c.loop.texts c.set_copy.new.self c.args.count c.loop.counter c.loop.cursor _ _ _ c.loop-test.true c.in_ok-name.ensures above
+    (c.in_ok-set_copy.ensures.ok ∙ set_end c.loop.texts _ _ c.comes_last_of_texts.ensures.rising (sym above)) c.loop.invariant
 
 pub returns : goal.returns
 returns c = is_done text_pair_at c.loop.texts c.args.count c.loop.counter c.loop.cursor (pairs_at text_pair_at None c.args.count c.args.cursor.now) c.loop-test.false c.loop.invariant
