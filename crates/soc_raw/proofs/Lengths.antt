@@ -1,9 +1,10 @@
 -- How long a record is, and its parts as they are written.
-use Rattle.std.proofs.Common.{◌≡◌, ℕ, ◌+◌, ◌^◌, ◌<◌, ◌≤◌, List, [], ◌∷◌, ◌++◌, length, length-append, drop, sym, ap, ◌∙◌, arith, append_assoc, refl}
+use Rattle.std.proofs.Common.{◌≡◌, ℕ, ◌+◌, ◌^◌, ◌<◌, ◌≤◌, List, [], ◌∷◌, ◌++◌, length, length-append, drop, sym, ap, ◌∙◌, arith, append_assoc, refl, subst}
 use Rattle.std.specs.Prelude.{flat_map, sum_by}
 use Rattle.std.specs.Int.{w64, to_le_bytes}
 use Rattle.std.proofs.lemmas.List.Sums.{sum_by-cons}
 use Rattle.std.proofs.lemmas.List.{flat_map_more, drop_at}
+use Rattle.std.proofs.lemmas.List.Concat.{flat_map-append}
 use Rattle.soc_raw.specs.inner.Sizes.{pair_len}
 use Rattle.soc_raw.specs.inner.Writing.{Extends}
 use Rattle.soc_raw.specs.Record.{Crash, counted, pair_text, pairs_text, head_text, content_text, record_of, MAX_RECORD}
@@ -56,6 +57,16 @@ pairs_more done n v name value base old new is_name is_value so_far put =
     ∙ ap (λ t. (base ++ flat_map pair_text done) ++ pair_text (t, value)) is_name
     ∙ ap (λ t. (base ++ flat_map pair_text done) ++ pair_text (n, t)) is_value
     ∙ flat_map_more pair_text base done (n, v)
+
+-- a pair is no longer than all of them
+pub pair_fits : (all done left rest : List (List ℕ × List ℕ)) (n v name value : List ℕ) → done ++ left ≡ all → left ≡ (n, v) ∷ rest → name ≡ n → value ≡ v → length (flat_map pair_text all) < 2 ^ 32 → length (pair_text (name, value)) < 2 ^ 32
+pair_fits all done left rest n v name value whole next is_name is_value fits =
+    let P : List ℕ → Type 0 = λ t. length t < 2 ^ 32 in
+    let row : flat_map pair_text all ≡ flat_map pair_text done ++ (pair_text (n, v) ++ flat_map pair_text rest) =
+    ap (flat_map pair_text) (sym whole ∙ ap (λ t. done ++ t) next) ∙ flat_map-append pair_text done ((n, v) ∷ rest) in
+    let short : length (pair_text (n, v)) < 2 ^ 32 =
+    omega (arith, ap length row, length-append (flat_map pair_text done) (pair_text (n, v) ++ flat_map pair_text rest), length-append (pair_text (n, v)) (flat_map pair_text rest)) in
+    subst P {x = pair_text (n, v)} (ap (λ t. pair_text (t, v)) (sym is_name) ∙ ap (λ t. pair_text (name, t)) (sym is_value)) short
 
 -- the pairs so far stand behind what stood there
 pub pairs_front : (start count pairs end now : List ℕ) → now ≡ (start ++ count) ++ pairs → Extends now end → Extends start end

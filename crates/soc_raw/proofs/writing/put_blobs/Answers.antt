@@ -1,7 +1,12 @@
 use Rattle.std.proofs.Common.{ap, sym, ◌∙◌, append_assoc, refl, length, ◌++◌, ◌∷◌, []}
 use Rattle.std.specs.Int.{w32, to_le_bytes}
-use Rattle.soc_raw.proofs.Lengths.{pairs_more, pairs_front}
+use Rattle.soc_raw.proofs.Lengths.{pair_fits, pairs_more, pairs_front}
 use Rattle.soc_raw.proofs.writing.put_blobs.Goals as goal
+
+pub put_pair-requires : goal.put_pair-requires
+put_pair-requires c =
+    let so_far = c.loop-name.invariant in
+    pair_fits c.args.blobs.now so_far.0 c.loop-name.name-iterator _ _ _ c.as_bytes.result.now c.in-Some.value.now so_far.1 c.in-Some.ensures.steps c.as_bytes.ensures.value refl c.requires.fits
 
 pub loop-name-preserved : goal.loop-name-preserved
 loop-name-preserved c =
