@@ -10,8 +10,6 @@ mod reads;
 mod report;
 mod submission;
 mod submit;
-#[cfg(test)]
-mod tests;
 mod turns;
 
 pub use book::Book;

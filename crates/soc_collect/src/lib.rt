@@ -8,8 +8,6 @@ mod hall;
 mod serving;
 mod shut;
 mod tally;
-#[cfg(test)]
-mod tests;
 mod watch;
 
 pub use collecting::collect;

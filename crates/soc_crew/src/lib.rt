@@ -7,8 +7,6 @@ mod jobs;
 mod leaving;
 mod processor;
 mod stations;
-#[cfg(test)]
-mod tests;
 mod work;
 
 pub use crew::{Crew, CrewEnd, serve_together};

@@ -19,8 +19,6 @@ mod pieces;
 mod registers;
 mod streams;
 mod system;
-#[cfg(test)]
-mod tests;
 mod thread;
 mod word;
 mod words;

@@ -8,8 +8,6 @@ mod form_lines;
 mod forms;
 mod reasons;
 mod submissions;
-#[cfg(test)]
-mod tests;
 
 pub use form_error::FormError;
 pub use forms::Form;

@@ -9,8 +9,6 @@ mod groups;
 mod plain;
 mod rust;
 mod spaces;
-#[cfg(test)]
-mod tests;
 mod walk;
 
 pub use cpp::drop_return_type;

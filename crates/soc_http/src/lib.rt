@@ -13,8 +13,6 @@ mod query;
 mod reply;
 mod route;
 mod search;
-#[cfg(test)]
-mod tests;
 mod verb;
 
 pub use body::{BodyError, body_piece, pass_over, read_body};

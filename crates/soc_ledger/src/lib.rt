@@ -8,8 +8,6 @@ mod due;
 mod event;
 mod ledger;
 mod log;
-#[cfg(test)]
-mod tests;
 
 pub use crash::{Crash, Filed, Standing};
 pub use event::Event;

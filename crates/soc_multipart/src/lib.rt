@@ -2,21 +2,15 @@
 //! in pieces.
 #![tactic(auto)]
 
-#[cfg(test)]
-mod clients;
 mod delimiters;
 mod dispositions;
 mod heads;
 mod owned_parts;
 mod params;
 mod parts;
-#[cfg(test)]
-mod pieces;
 mod readers;
 mod sections;
 mod tails;
-#[cfg(test)]
-mod tests;
 
 pub use delimiters::is_boundary;
 pub use dispositions::lossy_text;

@@ -18,8 +18,6 @@ mod query;
 mod reading;
 mod seen;
 mod selection;
-#[cfg(test)]
-mod tests;
 mod walk;
 
 pub use answer::{Answer, Facet, Facets, Fields, Hits, Term, Terms};

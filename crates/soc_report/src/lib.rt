@@ -16,8 +16,6 @@ mod row;
 mod source;
 mod stack;
 mod streams;
-#[cfg(test)]
-mod tests;
 mod texts;
 mod value;
 

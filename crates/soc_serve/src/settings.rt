@@ -255,6 +255,3 @@ impl Draft {
         }
     }
 }
-
-#[cfg(test)]
-mod tests;

@@ -53,6 +53,3 @@ pub fn read_tokens(alloc: Global, bytes: &[u8]) -> Result<Tokens, TokensError>
         Err(TokenError::NoMemory) => Err(TokensError::NoMemory),
     }
 }
-
-#[cfg(test)]
-mod tests;

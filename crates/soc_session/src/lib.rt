@@ -18,8 +18,6 @@ mod question;
 mod replies;
 mod routes;
 mod rules;
-#[cfg(test)]
-mod tests;
 
 pub use connection::session;
 pub use ending::SessionEnd;

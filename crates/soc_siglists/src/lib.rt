@@ -16,8 +16,6 @@ mod pattern;
 mod patterns;
 mod reading;
 mod regex_maker;
-#[cfg(test)]
-mod tests;
 
 pub use entries::entry_texts;
 pub use error::{ListError, ListName};

@@ -9,8 +9,6 @@ mod registers;
 mod scan;
 mod step;
 mod surroundings;
-#[cfg(test)]
-mod tests;
 mod values;
 
 pub use cfi::lookup_address;

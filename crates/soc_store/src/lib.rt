@@ -7,8 +7,6 @@ mod order;
 mod rows;
 mod store;
 mod term;
-#[cfg(test)]
-mod tests;
 mod values;
 
 pub use counts::ProductCount;

@@ -15,8 +15,6 @@ mod places;
 mod reading;
 mod symfile;
 mod tables;
-#[cfg(test)]
-mod tests;
 mod words;
 
 pub use cfi_span::CfiSpan;

@@ -10,8 +10,6 @@ mod query;
 mod ranking;
 mod rows;
 mod seen;
-#[cfg(test)]
-mod tests;
 mod tops;
 
 pub use answering::tops_of;

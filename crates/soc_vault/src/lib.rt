@@ -7,8 +7,6 @@
 mod laws;
 mod opening;
 mod recovery;
-#[cfg(test)]
-mod tests;
 mod vault;
 
 pub use laws::images_stand_for_entries;

@@ -10,8 +10,6 @@ mod machines;
 mod process;
 mod steps;
 mod symbols;
-#[cfg(test)]
-mod tests;
 mod walking;
 
 pub use architecture::Architecture;

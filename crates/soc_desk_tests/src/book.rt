@@ -1,0 +1,101 @@
+//! The desk over disks in memory.
+mod acts;
+mod calls;
+mod faults;
+mod reports;
+mod tables;
+mod untold;
+
+use acts::{Which, Who, caller, id, raw};
+use soc_book::Book;
+use soc_desk::{Command, Desk, Limits, Reply};
+use soc_edge::{MemDisk, Numbers};
+use soc_raw::RawCrash;
+use soc_schema::Bare;
+use std::alloc::Global;
+use std::test::Fail;
+
+/// The record of a crash of Firefox, which is due at once.
+const FIREFOX: &[u8] =
+    b"de1bb258-cbbf-4589-a673-34f800160918\x00\xd9\xddW\x00\x00\x00\x00\x00\x00\x00\x00\x00\x00\x00\x00\x0a\x00\x00\x00accept_all\x01\x00\x00\x00\x0b\x00\x00\x00ProductName\x07\x00\x00\x00Firefox\x00\x00\x00\x00";
+
+/// The record of another crash with the same id.
+const OTHER: &[u8] =
+    b"de1bb258-cbbf-4589-a673-34f800160918\x00\xd9\xddW\x00\x00\x00\x00\x00\x00\x00\x00\x00\x00\x00\x00\x0a\x00\x00\x00accept_all\x01\x00\x00\x00\x03\x00\x00\x00URL\x09\x00\x00\x00http://u/\x01\x00\x00\x00\x04\x00\x00\x00mini\x03\x00\x00\x00abc";
+
+/// The record of a crash of Thunderbird, which is due only when it is asked for.
+const DEFERRED: &[u8] =
+    b"de1bb258-cbbf-4589-a673-34f801160918\x00\xd9\xddW\x00\x00\x00\x00\x00\x00\x00\x00\x00\x00\x00\x00\x0a\x00\x00\x00accept_all\x01\x00\x00\x00\x0b\x00\x00\x00ProductName\x0b\x00\x00\x00Thunderbird\x00\x00\x00\x00";
+
+/// The record of a third crash.
+const THIRD: &[u8] =
+    b"de1bb258-cbbf-4589-a673-34f800160919\x00\xd9\xddW\x00\x00\x00\x00\x00\x00\x00\x00\x00\x00\x00\x00\x0a\x00\x00\x00accept_all\x00\x00\x00\x00\x00\x00\x00\x00";
+
+const LIMITS: Limits = Limits {
+    journal_bytes: 4000,
+    crashes: 2,
+};
+
+fn crash(alloc: Global, record: &[u8]) -> Result<RawCrash, Fail> {
+    Ok(RawCrash::decode(alloc, record)?)
+}
+
+/// An empty disk whose calls with these numbers fail.
+fn disk(alloc: Global, fails: &[u64]) -> Result<MemDisk, Fail> {
+    let fails = Numbers::new(fails.to_vec(alloc)?);
+    Ok(MemDisk::new(alloc, 8000, 900, fails)?)
+}
+
+/// Keeps the crash of a record on a disk.
+fn put(alloc: Global, disk: &mut MemDisk, which: Which) -> Result<(), Fail> {
+    let mut book = Book::open(alloc, disk, &Bare, LIMITS)?;
+    let _stored = book.submit(raw(alloc, which)?);
+    Ok(())
+}
+
+#[test]
+fn annotations_are_shown(rt: HostRuntime) -> Result<(), Fail> {
+    let alloc = rt.alloc();
+    let mut disk = disk(alloc, &[])?;
+    put(alloc, &mut disk, Which::Other)?;
+    let mut book = Book::open(alloc, &mut disk, &Bare, LIMITS)?;
+    let caller = caller(alloc, Who::Protected)?;
+    let Reply::Raw(shown) = book.raw(&caller, id(alloc, Which::Other)?) else {
+        return Err(Fail::from("no annotations"));
+    };
+    assert_eq!(rt; shown.get("URL"), Some("http://u/"));
+    Ok(())
+}
+
+#[test]
+fn dumps_are_shown(rt: HostRuntime) -> Result<(), Fail> {
+    let alloc = rt.alloc();
+    let mut disk = disk(alloc, &[])?;
+    put(alloc, &mut disk, Which::Other)?;
+    let mut book = Book::open(alloc, &mut disk, &Bare, LIMITS)?;
+    let caller = caller(alloc, Who::Dumps)?;
+    let Reply::Dump(bytes) = book.dump(&caller, id(alloc, Which::Other)?, "mini") else {
+        return Err(Fail::from("no dump"));
+    };
+    assert_eq!(rt; bytes.as_slice(), b"abc".as_slice());
+    Ok(())
+}
+
+#[test]
+fn receipts_tell_of_the_stop(rt: HostRuntime) -> Result<(), Fail> {
+    let alloc = rt.alloc();
+    let mut disk = disk(alloc, &[])?;
+    put(alloc, &mut disk, Which::Firefox)?;
+    let mut book = Book::open(alloc, &mut disk, &Bare, LIMITS)?;
+    let before = book.ask(Command::Turn {
+        caller: caller(alloc, Who::Operator)?,
+    });
+    assert!(rt; !before.stopped && before.front == 2);
+    for _ in 0..2 {
+        let stopped = book.ask(Command::Stop {
+            caller: caller(alloc, Who::Operator)?,
+        });
+        assert!(rt; stopped.stopped && stopped.front == 3);
+    }
+    Ok(())
+}

@@ -1,0 +1,15 @@
+//! Tests of the desk and of what it stands on.
+#![tactic(auto)]
+
+#[cfg(test)]
+mod book;
+#[cfg(test)]
+mod ledger;
+#[cfg(test)]
+mod query;
+#[cfg(test)]
+mod store;
+#[cfg(test)]
+mod tops;
+#[cfg(test)]
+mod vault;

@@ -1,0 +1,175 @@
+//! A crew over a listener and a disk in memory.
+ghost use Rattle.std.specs.Prelude.{◌<◌, ◌≤◌};
+
+use soc_collect::Tally;
+use soc_crew::*;
+use soc_desk::Limits;
+use soc_edge::{BytesList, Ids16, MemClock, MemDisk, MemDraws, Numbers};
+use soc_http::Routes;
+use soc_listen::{MemConn, MemListener};
+use soc_raw::{Bytes, NoMemory};
+use soc_schema::{Bare, Products, Tokens};
+use soc_service::OpenGate;
+use soc_session::Rules;
+use soc_throttle::RuleSet;
+use soc_turns::SharedBook;
+use std::alloc::Global;
+use std::sync::Wait;
+use std::test::Fail;
+use std::thread::Threads;
+
+const LIMITS: Limits = Limits {
+    journal_bytes: 4000,
+    crashes: 2,
+};
+
+const TOKENS: &str = r#"
+[[token]]
+key = "operator"
+products = "all"
+permissions = ["operate"]
+"#;
+
+const NO_ROUTE: &[u8] = b"GET / HTTP/1.1\r\nHost: h\r\n\r\n";
+
+const STOP: &[u8] =
+    b"POST /control/stop HTTP/1.1\r\nHost: h\r\nAuth-Token: operator\r\nContent-Length: 0\r\n\r\n";
+
+fn rules(alloc: Global) -> Result<Rules, Fail> {
+    let table = toml::table_from_str(alloc, TOKENS)?;
+    Ok(Rules {
+        rules: RuleSet::accept_all(alloc)?,
+        tokens: Tokens::read(alloc, &toml::Value::Table(table))?,
+        public: Products::All,
+        session_bytes: 100_000,
+    })
+}
+
+// A listener of these scripts, whose calls with these numbers fail.
+fn listener(alloc: Global, scripts: &[&[u8]], fails: &[u64]) -> Result<MemListener, NoMemory> {
+    let mut list = Vec::new(alloc);
+    for script in scripts {
+        list.push(Bytes::of(alloc, script)?)?;
+    }
+    let fails = Numbers::new(fails.to_vec(alloc)?);
+    MemListener::new(alloc, BytesList::new(list), 4096, fails)
+}
+
+// What a crew has served, and whether its listener failed.
+#[derive(Drop)]
+struct Served {
+    served: Tally<MemConn>,
+    listener: MemListener,
+    failed: bool,
+}
+
+fn served_by<R: Threads + Wait + Sync>(
+    rt: &R,
+    alloc: Global,
+    crew: Crew,
+    listener: MemListener,
+) -> Result<Served, Fail>
+    requires collectors { (0 < crew.collectors) × (crew.collectors ≤ 8) }
+    requires processors { (0 < crew.processors) × (crew.processors ≤ 8) }
+{
+    let mut disk = MemDisk::new(alloc, 4000, 1000, Numbers::new(Vec::new(alloc)))?;
+    let reporter = Bare;
+    served_over(rt, alloc, crew, listener, &mut disk, &reporter)
+}
+
+fn served_over<'a, R: Threads + Wait + Sync>(
+    rt: &R,
+    alloc: Global,
+    crew: Crew,
+    listener: MemListener,
+    disk: &'a mut MemDisk,
+    reporter: &'a Bare,
+) -> Result<Served, Fail>
+    requires collectors { (0 < crew.collectors) × (crew.collectors ≤ 8) }
+    requires processors { (0 < crew.processors) × (crew.processors ≤ 8) }
+{
+    let book = match SharedBook::open(alloc, disk, reporter, LIMITS) {
+        Ok(book) => book,
+        Err(_) => return Err(Fail::from("the journal wasn't opened")),
+    };
+    let mut clock = MemClock::new(Numbers::new(vec![in alloc; 1_474_156_800]?));
+    let mut draws = MemDraws::new(
+        Numbers::new(vec![in alloc; 0]?),
+        Ids16::new(vec![in alloc; [0; 16]]?),
+    );
+    let rules = rules(alloc)?;
+    let routes = Routes::new(alloc)?;
+    let mut served = Tally::new();
+    let CrewEnd {
+        book: _book,
+        listener,
+        failed,
+    } = serve_together(
+        rt,
+        alloc,
+        crew,
+        book,
+        reporter,
+        &rules,
+        &routes,
+        listener,
+        &mut clock,
+        &mut draws,
+        &OpenGate,
+        &mut served,
+    );
+    Ok(Served {
+        served,
+        listener,
+        failed: failed?,
+    })
+}
+
+#[test]
+fn a_stop_ends_the_crew(rt: HostRuntime) -> Result<(), Fail> {
+    let two = Crew {
+        collectors: 2,
+        processors: 2,
+    };
+    let asked = listener(rt.alloc(), &[NO_ROUTE, STOP], &[])?;
+    let end = served_by(&rt, rt.alloc(), two, asked)?;
+    assert!(rt; end.served.stopped());
+    assert!(rt; !end.failed);
+    assert_eq!(rt; end.served.connections(), 2);
+    assert_eq!(rt; end.served.kept(), 1);
+    assert!(rt;
+        end.listener
+            .written(1)
+            .is_some_and(|text| text.ends_with(b"stopping\n"))
+    );
+    Ok(())
+}
+
+#[test]
+fn the_largest_crew_serves_each_connection_once(rt: HostRuntime) -> Result<(), Fail> {
+    let most = Crew {
+        collectors: 8,
+        processors: 8,
+    };
+    let many = listener(rt.alloc(), &[NO_ROUTE; 40], &[])?;
+    let end = served_by(&rt, rt.alloc(), most, many)?;
+    assert!(rt; !end.served.stopped());
+    assert!(rt; !end.failed);
+    assert_eq!(rt; end.served.connections(), 40);
+    assert_eq!(rt; end.served.kept(), 0);
+    Ok(())
+}
+
+#[test]
+fn a_failed_listener_is_told(rt: HostRuntime) -> Result<(), Fail> {
+    let one = Crew {
+        collectors: 1,
+        processors: 1,
+    };
+    let failing = listener(rt.alloc(), &[NO_ROUTE], &[0])?;
+    let end = served_by(&rt, rt.alloc(), one, failing)?;
+    assert!(rt; end.failed);
+    assert!(rt; !end.served.stopped());
+    assert_eq!(rt; end.served.connections(), 0);
+    Ok(())
+}

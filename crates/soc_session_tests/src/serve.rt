@@ -1,0 +1,4 @@
+//! The texts that the program reads.
+
+mod settings;
+mod token_text;

@@ -1,0 +1,13 @@
+//! Tests of what a report is made of: walks, frame texts, lists, and the reports themselves.
+#![tactic(auto)]
+
+#[cfg(test)]
+mod frames;
+#[cfg(test)]
+mod report;
+#[cfg(test)]
+mod siglists;
+#[cfg(test)]
+mod step;
+#[cfg(test)]
+mod walk;
