@@ -8,16 +8,16 @@ use Rattle.std.proofs.lemmas.List.{take_more, drop_more, drop_all, take_all, tak
 use Rattle.std.proofs.lemmas.List.Sums.{count_by_more_yes, count_by_more_no, sum_by-cons, sum_by-append}
 use Rattle.soc_sigrules.specs.Chars.{begins_char, char_count, first_chars, is_longer}
 
-chars_yes : (byte : ℕ) (rest : List ℕ) (count : ℕ) → begins_char byte ≡ true → 0 < count → first_chars count (byte ∷ rest) ≡ byte ∷ first_chars (count - 1) rest
+pub chars_yes : (byte : ℕ) (rest : List ℕ) (count : ℕ) → begins_char byte ≡ true → 0 < count → first_chars count (byte ∷ rest) ≡ byte ∷ first_chars (count - 1) rest
 chars_yes byte rest count begins some =
     let test : (count == 0) ≡ false = grind (arith, nat_tests) in
     ap (λ t. cond t (cond (count == 0) [] (byte ∷ first_chars (count - 1) rest)) (byte ∷ first_chars count rest)) begins
     ∙ ap (λ t. cond t [] (byte ∷ first_chars (count - 1) rest)) test
 
-chars_end : (byte : ℕ) (rest : List ℕ) → begins_char byte ≡ true → first_chars 0 (byte ∷ rest) ≡ []
+pub chars_end : (byte : ℕ) (rest : List ℕ) → begins_char byte ≡ true → first_chars 0 (byte ∷ rest) ≡ []
 chars_end byte rest begins = ap (λ t. cond t [] (byte ∷ first_chars 0 rest)) begins
 
-chars_no : (byte : ℕ) (rest : List ℕ) (count : ℕ) → begins_char byte ≡ false → first_chars count (byte ∷ rest) ≡ byte ∷ first_chars count rest
+pub chars_no : (byte : ℕ) (rest : List ℕ) (count : ℕ) → begins_char byte ≡ false → first_chars count (byte ∷ rest) ≡ byte ∷ first_chars count rest
 chars_no byte rest count inside =
     ap (λ t. cond t (cond (count == 0) [] (byte ∷ first_chars (count - 1) rest)) (byte ∷ first_chars count rest)) inside
 
@@ -30,7 +30,7 @@ count_no byte rest inside = sum_by-cons (λ b. cond (begins_char b) 1 0) byte re
 pub char_count-append : (a b : List ℕ) → char_count (a ++ b) ≡ char_count a + char_count b
 char_count-append a b = sum_by-append (λ b. cond (begins_char b) 1 0) a b
 
-le_or_lt : (m n : ℕ) → (m ≤ n) ⊎ (n < m)
+pub le_or_lt : (m n : ℕ) → (m ≤ n) ⊎ (n < m)
 le_or_lt m n = elim (cases_lt n m) [ inl less ↦ inr less | inr more ↦ inl more ]
 
 -- what becomes of the text behind a byte
@@ -80,7 +80,7 @@ fills-cons false z byte a b count inside same more full =
       ap char_count front ∙ omega (arith, count_no byte (first_chars count a) inside, filled.1),
     )
 
-fills : (a b : List ℕ) (count : ℕ) → Fills count a b
+pub fills : (a b : List ℕ) (count : ℕ) → Fills count a b
 fills [] b count full = absurd (omega arith)
 fills (byte ∷ a) b count full = fills-cons (begins_char byte) (count == 0) byte a b count refl refl (λ n. fills a b n) full
 
@@ -88,7 +88,7 @@ fills (byte ∷ a) b count full = fills-cons (begins_char byte) (count == 0) byt
 pub first_chars-full : (count : ℕ) (a b : List ℕ) → count < char_count a → first_chars count (a ++ b) ≡ first_chars count a
 first_chars-full count a b full = (fills a b count full).0
 
-whole : (count : ℕ) (a : List ℕ) → char_count a ≤ count → first_chars count a ≡ a
+pub whole : (count : ℕ) (a : List ℕ) → char_count a ≤ count → first_chars count a ≡ a
 whole count a fits = ap (first_chars count) (sym (append-nil a)) ∙ first_chars-append count a [] fits ∙ append-nil a
 
 -- the text begins with a character, or is empty

@@ -1,8 +1,12 @@
 pub mod CharLemmas
 pub mod JoinLemmas
+pub mod ShortLemmas
 pub mod ProtoLemmas
 pub mod ModuleLemmas
 pub mod SpaceLemmas
+pub mod WordLemmas
+pub mod FrontLemmas
+pub mod ShowLemmas
 pub mod RuleLemmas
 pub mod ShutdownLemmas
 pub mod StackLemmas

@@ -10,7 +10,9 @@ use Rattle.soc_sigrules.specs.declared.rule.Rule.{Rule}
 use Rattle.soc_sigrules.specs.declared.rule.Rule.TheVariants.{OutOfMemory, Abort, Shutdown, ShutdownHang, Ipc, StackOverflow, Hang, BadHardware, Spaces, Cut}
 use Rattle.soc_sigrules.specs.Stacks.{proto_of, stack_texts, text_of}
 use Rattle.soc_sigrules.specs.Rules.{apply, has_watchdog, noted, note_of, after_rule, after_all, after_rules, rules}
-use Rattle.soc_sigrules.specs.Signatures.{signature_of}
+use Rattle.soc_sigrules.specs.Signatures.{StackState, stack_state, signature_of}
+use Rattle.soc_sigrules.specs.inner.Fronts.{front_text}
+use Rattle.soc_sigrules.proofs.ShowLemmas.{front-same}
 
 all-step : (watched : Bool) (input : SigInput) (so_far : Marked) (rule : Rule) (more : List Rule) → after_all watched input so_far (rule ∷ more) ≡ after_all watched input (after_rule watched input so_far rule) more
 unfolding after_all
@@ -60,14 +62,16 @@ all-same watched input frames so_far (rule ∷ more) =
 made : Marked → List ℕ → Signature
 made marked proto = record { text = marked.text; proto = proto; notes = marked.notes }
 
--- the signature by what was kept of the frames
-pub signed : (lists : ListTexts) (frames texts : List (List ℕ)) (input : SigInput) (watched : Bool) (proto text : List ℕ) (marked : Marked) → watched ≡ has_watchdog frames
-    → texts ≡ stack_texts lists frames → proto ≡ proto_of frames → text ≡ text_of input.thread_found texts → marked ≡ after_rules watched input text
+-- the signature by what is held of the texts
+pub signed : (lists : ListTexts) (frames : List (List ℕ)) (texts : StackState) (input : SigInput) (watched : Bool) (proto text : List ℕ) (marked : Marked) → watched ≡ has_watchdog frames
+    → texts ≡ stack_state lists (stack_texts lists frames) → proto ≡ proto_of frames → text ≡ front_text input.thread_found texts → marked ≡ after_rules watched input text
     → ◌≡◌ {A = Signature} (record { text = marked.text; proto = proto; notes = marked.notes }) (signature_of lists (record input { frames = frames }))
 unfolding made
 signed lists frames texts input watched proto text marked is_watched is_texts is_proto is_text is_marked =
-    let reached : marked ≡ after_rules (has_watchdog frames) (record input { frames = frames }) (text_of input.thread_found (stack_texts lists frames)) =
-    is_marked ∙ ap (after_rules watched input) (is_text ∙ ap (text_of input.thread_found) is_texts)
-    ∙ ap (λ w. after_rules w input (text_of input.thread_found (stack_texts lists frames))) is_watched
-    ∙ all-same (has_watchdog frames) input frames (record { text = text_of input.thread_found (stack_texts lists frames); notes = [] }) rules in
-    ap (λ (m : Marked). made m proto) reached ∙ ap (made (after_rules (has_watchdog frames) (record input { frames = frames }) (text_of input.thread_found (stack_texts lists frames)))) is_proto
+    let all = text_of input.thread_found (stack_texts lists frames) in
+    let reached : marked ≡ after_rules (has_watchdog frames) (record input { frames = frames }) all =
+    is_marked ∙ ap (after_rules watched input) (is_text ∙ ap (front_text input.thread_found) is_texts)
+    ∙ front-same watched input input.thread_found lists (stack_texts lists frames)
+    ∙ ap (λ w. after_rules w input all) is_watched
+    ∙ all-same (has_watchdog frames) input frames (record { text = all; notes = [] }) rules in
+    ap (λ (m : Marked). made m proto) reached ∙ ap (made (after_rules (has_watchdog frames) (record input { frames = frames }) all)) is_proto

@@ -1,30 +1,13 @@
 -- The texts that a signature is made of, one frame more.
-use Rattle.std.proofs.Common.{◌≡◌, ℕ, suc, ◌+◌, ◌-◌, ◌<◌, ◌≤◌, ◌==◌, Bool, true, false, cond, ◌&&◌, List, [], ◌∷◌, ◌++◌, length, map, take, drop, Option, Some, None, refl, sym, ap, ◌∙◌, arith, append-nil, true≢false}
-use Rattle.std.specs.Prelude.{not, ◌||◌, filter, nat_lt, slice_get, unwrap_or}
+use Rattle.std.proofs.Common.{◌≡◌, ℕ, suc, ◌+◌, ◌<◌, ◌≤◌, ◌==◌, Bool, true, false, cond, ◌&&◌, List, [], ◌∷◌, ◌++◌, length, map, take, drop, Option, Some, None, refl, sym, ap, ◌∙◌, arith, append-nil, true≢false}
+use Rattle.std.specs.Prelude.{not, ◌||◌, filter, nat_lt, unwrap_or}
 use Rattle.std.specs.List.{list_all, list_any, last_or, prefix_len, position, position_or_len}
-use Rattle.std.specs.Str.{bytes_eq}
 use Rattle.std.proofs.lemmas.Bool.Decides.{nat_tests}
 use Rattle.std.proofs.lemmas.List.{map-append, drop-append-le, drop_at}
 use Rattle.std.proofs.lemmas.List.Folds.{list_any-append, position_or_len_push}
 use Rattle.soc_siglists.specs.Lists.{ListTexts, is_irrelevant, is_prefix, is_sentinel}
 use Rattle.soc_sigrules.specs.Stacks.{Kept, kept_of, is_text, without_repeats, stack_texts}
-use Rattle.soc_sigrules.specs.inner.Steps.{is_repeated, texts_with}
-
--- ---- the last text
-
-last_there : {A : Type 0} (before : Option A) (x : A) (xs : List A) → last_or before (x ∷ xs) ≡ slice_get (x ∷ xs) (length xs)
-last_there before x [] = refl
-last_there before x (y ∷ ys) = last_there (Some x) y ys
-
-some_last : {A : Type 0} (x : A) (xs : List A) → length (x ∷ xs) - 1 ≡ length xs
-some_last x xs = omega arith
-
-last_is : {A : Type 0} (xs : List A) (x : A) → slice_get xs (length xs - 1) ≡ Some x → last_or None xs ≡ Some x
-last_is [] x there = there
-last_is (y ∷ ys) x there = last_there None y ys ∙ ap (slice_get (y ∷ ys)) (sym (some_last y ys)) ∙ there
-
-pub last_test : (texts : List (List ℕ)) (other text : List ℕ) → slice_get texts (length texts - 1) ≡ Some other → bytes_eq other text ≡ is_text (last_or None texts) text
-last_test texts other text there = ap (λ (o : Option (List ℕ)). is_text o text) (sym (last_is texts other there))
+use Rattle.soc_sigrules.specs.inner.Steps.{is_repeated, all_with}
 
 -- ---- up to the first that is no prefix
 
@@ -142,7 +125,7 @@ filter-push p (x ∷ xs) y = filter-step (p x) p x xs y refl (filter-push p xs y
 
 -- the text that a frame adds behind these
 abbrev new_texts : ListTexts → List (List ℕ) → List ℕ → List (List ℕ)
-new_texts lists texts frame = cond (is_irrelevant lists frame || is_repeated texts frame) [] ((kept_of frame).text ∷ [])
+new_texts lists texts frame = cond (is_irrelevant lists frame || is_repeated (last_or None texts) frame) [] ((kept_of frame).text ∷ [])
 
 kept_map : (many : List (List ℕ)) (frame : List ℕ) → map kept_of (many ++ frame ∷ []) ≡ map kept_of many ++ kept_of frame ∷ []
 kept_map many frame = map-append kept_of many (frame ∷ [])
@@ -155,7 +138,7 @@ kept-step true lists frames frame is =
     ap (λ (fs : List (List ℕ)). without_repeats None (map kept_of fs))
     (filter-push relevant frames frame ∙ ap (λ t. filter relevant frames ++ cond (not t) (frame ∷ []) []) is ∙ append-nil (filter relevant frames))
     ∙ sym (append-nil texts)
-    ∙ ap (λ t. texts ++ cond (t || is_repeated texts frame) [] ((kept_of frame).text ∷ [])) (sym is)
+    ∙ ap (λ t. texts ++ cond (t || is_repeated (last_or None texts) frame) [] ((kept_of frame).text ∷ [])) (sym is)
 kept-step false lists frames frame is =
     let relevant = λ (f : List ℕ). not (is_irrelevant lists f) in
     let texts = kept_texts lists frames in
@@ -163,7 +146,7 @@ kept-step false lists frames frame is =
     (filter-push relevant frames frame ∙ ap (λ t. filter relevant frames ++ cond (not t) (frame ∷ []) []) is)
     ∙ ap (without_repeats None) (kept_map (filter relevant frames) frame)
     ∙ without_repeats-push None (map kept_of (filter relevant frames)) (kept_of frame)
-    ∙ ap (λ t. texts ++ cond (t || is_repeated texts frame) [] ((kept_of frame).text ∷ [])) (sym is)
+    ∙ ap (λ t. texts ++ cond (t || is_repeated (last_or None texts) frame) [] ((kept_of frame).text ∷ [])) (sym is)
 
 kept-push : (lists : ListTexts) (frames : List (List ℕ)) (frame : List ℕ)
     → kept_texts lists (frames ++ frame ∷ []) ≡ kept_texts lists frames ++ new_texts lists (kept_texts lists frames) frame
@@ -171,14 +154,14 @@ kept-push lists frames frame = kept-step (is_irrelevant lists frame) lists frame
 
 -- the texts up to the first that is no prefix, with what a frame adds
 step-new : (all none : Bool) (lists : ListTexts) (texts : List (List ℕ)) (frame : List ℕ) → list_all (is_prefix lists) texts ≡ all
-    → (is_irrelevant lists frame || is_repeated texts frame) ≡ none
-    → through (is_prefix lists) (texts ++ new_texts lists texts frame) ≡ texts_with lists (through (is_prefix lists) texts) frame
+    → (is_irrelevant lists frame || is_repeated (last_or None texts) frame) ≡ none
+    → through (is_prefix lists) (texts ++ new_texts lists texts frame) ≡ all_with lists (through (is_prefix lists) texts) frame
 step-new false none lists texts frame ended same =
     let p = is_prefix lists in
     let cut = through p texts in
     let ending : list_all p cut ≡ false = through_same p texts ∙ ended in
     through_ended p texts (new_texts lists texts frame) ended
-    ∙ ap (λ t. cond (not t || (is_irrelevant lists frame || is_repeated cut frame)) cut (cut ++ (kept_of frame).text ∷ [])) (sym ending)
+    ∙ ap (λ t. cond (not t || (is_irrelevant lists frame || is_repeated (last_or None cut) frame)) cut (cut ++ (kept_of frame).text ∷ [])) (sym ending)
 step-new true true lists texts frame all same =
     let p = is_prefix lists in
     let whole = through_all p texts all in
@@ -186,7 +169,7 @@ step-new true true lists texts frame all same =
     ∙ ap (through p) (append-nil texts) ∙ whole
     ∙ ap (λ t. cond (not t || true) texts (texts ++ (kept_of frame).text ∷ [])) (sym all)
     ∙ ap (λ t. cond (not (list_all p texts) || t) texts (texts ++ (kept_of frame).text ∷ [])) (sym same)
-    ∙ ap (λ (ts : List (List ℕ)). texts_with lists ts frame) (sym whole)
+    ∙ ap (λ (ts : List (List ℕ)). all_with lists ts frame) (sym whole)
 step-new true false lists texts frame all same =
     let p = is_prefix lists in
     let whole = through_all p texts all in
@@ -194,11 +177,11 @@ step-new true false lists texts frame all same =
     ∙ through_push p texts (kept_of frame).text all
     ∙ ap (λ t. cond (not t || false) texts (texts ++ (kept_of frame).text ∷ [])) (sym all)
     ∙ ap (λ t. cond (not (list_all p texts) || t) texts (texts ++ (kept_of frame).text ∷ [])) (sym same)
-    ∙ ap (λ (ts : List (List ℕ)). texts_with lists ts frame) (sym whole)
+    ∙ ap (λ (ts : List (List ℕ)). all_with lists ts frame) (sym whole)
 
 step : (lists : ListTexts) (texts : List (List ℕ)) (frame : List ℕ)
-    → through (is_prefix lists) (texts ++ new_texts lists texts frame) ≡ texts_with lists (through (is_prefix lists) texts) frame
-step lists texts frame = step-new (list_all (is_prefix lists) texts) (is_irrelevant lists frame || is_repeated texts frame) lists texts frame refl refl
+    → through (is_prefix lists) (texts ++ new_texts lists texts frame) ≡ all_with lists (through (is_prefix lists) texts) frame
+step lists texts frame = step-new (list_all (is_prefix lists) texts) (is_irrelevant lists frame || is_repeated (last_or None texts) frame) lists texts frame refl refl
 
 -- ---- from the first sentinel on
 
@@ -276,7 +259,7 @@ begun_texts false lists frames = refl
 -- the texts of a signature, with one frame more
 pub stack-push : (lists : ListTexts) (frames : List (List ℕ)) (frame : List ℕ)
     → stack_texts lists (frames ++ frame ∷ [])
-    ≡ texts_with lists (cond (not (list_any (is_sentinel lists) frames) && is_sentinel lists frame) [] (stack_texts lists frames)) frame
+    ≡ all_with lists (cond (not (list_any (is_sentinel lists) frames) && is_sentinel lists frame) [] (stack_texts lists frames)) frame
 stack-push lists frames frame =
     let p = is_sentinel lists in
     let restarts = not (list_any p frames) && p frame in
@@ -284,4 +267,4 @@ stack-push lists frames frame =
     ap (λ (fs : List (List ℕ)). through (is_prefix lists) (kept_texts lists fs)) (begun-push (list_any p frames) (p frame) p frames frame refl refl)
     ∙ ap (through (is_prefix lists)) (kept-push lists before frame)
     ∙ step lists (kept_texts lists before) frame
-    ∙ ap (λ (ts : List (List ℕ)). texts_with lists ts frame) (begun_texts restarts lists (begun p frames))
+    ∙ ap (λ (ts : List (List ℕ)). all_with lists ts frame) (begun_texts restarts lists (begun p frames))

@@ -1,17 +1,20 @@
 -- The summary of frames, one frame more.
-use Rattle.std.proofs.Common.{◌≡◌, ℕ, ◌-◌, ◌==◌, ◌&&◌, Bool, true, false, cond, List, [], ◌∷◌, ◌++◌, length, refl, sym, ap, ◌∙◌, arith, append-nil, append_assoc, true≢false}
+use Rattle.std.proofs.Common.{◌≡◌, ℕ, ◌-◌, ◌==◌, ◌&&◌, Bool, true, false, cond, List, [], ◌∷◌, ◌++◌, length, None, refl, sym, ap, ◌∙◌, arith, append-nil, append_assoc, true≢false}
 use Rattle.std.specs.Prelude.{◌||◌, not, nat_lt}
+use Rattle.std.specs.List.{last_or}
 use Rattle.std.specs.Str.{bytes_eq}
 use Rattle.std.proofs.lemmas.Bool.Decides.{nat_tests}
 use Rattle.std.proofs.lemmas.Bool.{eqb-true}
 use Rattle.std.proofs.lemmas.List.{length_push, nil_from_length}
-use Rattle.soc_siglists.specs.Lists.{ListTexts, is_irrelevant, is_sentinel, matches_one}
+use Rattle.soc_siglists.specs.Lists.{ListTexts, is_irrelevant, is_prefix, is_sentinel, matches_one}
 use Rattle.soc_sigrules.specs.Chars.{char_count, first_chars, joined}
-use Rattle.soc_sigrules.specs.Stacks.{kept_of, separator, proto_of}
+use Rattle.soc_sigrules.specs.Stacks.{kept_of, separator, proto_of, stack_texts}
 use Rattle.soc_sigrules.specs.Rules.{watchdog}
-use Rattle.soc_sigrules.specs.Signatures.{Summary, summary_of}
-use Rattle.soc_sigrules.specs.inner.Steps.{ends, is_repeated, is_settled, proto_with, texts_with, with_frame}
+use Rattle.soc_sigrules.specs.Signatures.{StackState, stack_state, Summary, summary_of}
+use Rattle.soc_sigrules.specs.inner.Fronts.{no_texts, with_text}
+use Rattle.soc_sigrules.specs.inner.Steps.{all_with, begins_here, ends, is_repeated, is_settled, proto_with, texts_before, texts_with, with_frame}
 use Rattle.soc_sigrules.proofs.CharLemmas.{first_chars-again, first_chars-append}
+use Rattle.soc_sigrules.proofs.FrontLemmas.{state-push}
 use Rattle.soc_sigrules.proofs.JoinLemmas.{push_first, push_later}
 use Rattle.soc_sigrules.proofs.StackLemmas.{stack-push, any-push, or_false}
 
@@ -24,17 +27,40 @@ proto-push (first ∷ frames) frame =
     ∙ sym (first_chars-again 2000 (joined separator all) (separator ++ frame) refl)
     ∙ ap (λ t. first_chars 2000 (proto_of all ++ cond t (separator ++ frame) frame)) (sym some)
 
-same_summary : (lists : ListTexts) (has has' watched watched' sentinel sentinel' : Bool) (proto proto' : List ℕ) (texts texts' : List (List ℕ)) → has ≡ has' → proto ≡ proto' → watched ≡ watched'
+same_summary : (lists : ListTexts) (has has' watched watched' sentinel sentinel' : Bool) (proto proto' : List ℕ) (texts texts' : StackState) → has ≡ has' → proto ≡ proto' → watched ≡ watched'
     → sentinel ≡ sentinel' → texts ≡ texts'
     → ◌≡◌ {A = Summary} (record { lists = lists; has_frames = has; proto = proto; watched = watched; has_sentinel = sentinel; texts = texts })
     (record { lists = lists; has_frames = has'; proto = proto'; watched = watched'; has_sentinel = sentinel'; texts = texts' })
 same_summary lists has has' watched watched' sentinel sentinel' proto proto' texts texts' e f g h i = cc
 
+-- what is held of the texts, with one frame more
+state-cond : (b : Bool) (lists : ListTexts) (texts : List (List ℕ)) (text : List ℕ)
+    → stack_state lists (cond b texts (texts ++ text ∷ [])) ≡ cond b (stack_state lists texts) (with_text (stack_state lists texts) text (is_prefix lists text))
+state-cond true lists texts text = refl
+state-cond false lists texts text = state-push lists texts text
+
+state-with : (lists : ListTexts) (texts : List (List ℕ)) (frame : List ℕ) → stack_state lists (all_with lists texts frame) ≡ texts_with lists (stack_state lists texts) frame
+state-with lists texts frame =
+    state-cond (ends lists texts || (is_irrelevant lists frame || is_repeated (last_or None texts) frame)) lists texts (kept_of frame).text
+
+state-before : (b : Bool) (lists : ListTexts) (texts : List (List ℕ)) → stack_state lists (cond b [] texts) ≡ cond b no_texts (stack_state lists texts)
+state-before true lists texts = refl
+state-before false lists texts = refl
+
+texts-push : (lists : ListTexts) (frames : List (List ℕ)) (frame : List ℕ)
+    → stack_state lists (stack_texts lists (frames ++ frame ∷ [])) ≡ texts_with lists (texts_before (summary_of lists frames) frame) frame
+texts-push lists frames frame =
+    let restarts = begins_here (summary_of lists frames) frame in
+    let texts = stack_texts lists frames in
+    ap (stack_state lists) (stack-push lists frames frame)
+    ∙ state-with lists (cond restarts [] texts) frame
+    ∙ ap (λ (s : StackState). texts_with lists s frame) (state-before restarts lists texts)
+
 pub summary-push : (lists : ListTexts) (frames : List (List ℕ)) (frame : List ℕ) → summary_of lists (frames ++ frame ∷ []) ≡ with_frame (summary_of lists frames) frame
 summary-push lists frames frame =
     let some : nat_lt 0 (length (frames ++ frame ∷ [])) ≡ true = grind (arith, nat_tests, length_push {X = List ℕ}) in
     same_summary lists _ _ _ _ _ _ _ _ _ _ some (proto-push frames frame) (any-push (λ f. bytes_eq f watchdog) frames frame) (any-push (is_sentinel lists) frames frame)
-    (stack-push lists frames frame)
+    (texts-push lists frames frame)
 
 -- for any frames that gave the summary
 pub frames-push : (old new : Summary) (frame : List ℕ) → new ≡ with_frame old frame → (lists : ListTexts) (frames : List (List ℕ)) → old ≡ summary_of lists frames
@@ -63,15 +89,15 @@ no_sentinels lists frame none =
     ap (λ (texts : List (List ℕ)). matches_one texts frame) (nil_from_length lists.sentinel empty)
 
 -- a sentinel was met, or none can be
-past_sentinels : (has met none : Bool) (texts : List (List ℕ)) → (has || none) ≡ true → (none ≡ true → met ≡ false) → ((has || met) ≡ has) × (cond (not has && met) [] texts ≡ texts)
+past_sentinels : (has met none : Bool) (texts : StackState) → (has || none) ≡ true → (none ≡ true → met ≡ false) → ((has || met) ≡ has) × (cond (not has && met) no_texts texts ≡ texts)
 past_sentinels true met none texts h k = (refl, refl)
 past_sentinels false true true texts h k = absurd (true≢false (k refl))
 past_sentinels false false true texts h k = (refl, refl)
 past_sentinels false met false texts h k = absurd (true≢false (sym h))
 
-ended_stays : (lists : ListTexts) (texts : List (List ℕ)) (frame : List ℕ) → ends lists texts ≡ true → texts_with lists texts frame ≡ texts
+ended_stays : (lists : ListTexts) (texts : StackState) (frame : List ℕ) → texts.is_ended ≡ true → texts_with lists texts frame ≡ texts
 ended_stays lists texts frame ended =
-    ap (λ t. cond (t || (is_irrelevant lists frame || is_repeated texts frame)) texts (texts ++ (kept_of frame).text ∷ [])) ended
+    ap (λ t. cond (t || (is_irrelevant lists frame || is_repeated texts.last frame)) texts (with_text texts (kept_of frame).text (is_prefix lists (kept_of frame).text))) ended
 
 settled_parts : (a b c d : Bool) → (a && ((b && c) && d)) ≡ true → (a ≡ true) × (b ≡ true) × (c ≡ true) × (d ≡ true)
 settled_parts true true true true h = (refl, refl, refl, refl)
@@ -83,11 +109,11 @@ settled_parts false b c d h = absurd (true≢false (sym h))
 -- no other frame changes it
 settled_stays : (s : Summary) (frame : List ℕ) → is_settled s ≡ true → bytes_eq frame watchdog ≡ false → s ≡ with_frame s frame
 settled_stays s frame settled other =
-    let parts = settled_parts (ends s.lists s.texts) s.has_frames (char_count s.proto == 2000) (s.has_sentinel || (length s.lists.sentinel == 0)) settled in
+    let parts = settled_parts s.texts.is_ended s.has_frames (char_count s.proto == 2000) (s.has_sentinel || (length s.lists.sentinel == 0)) settled in
     let past = past_sentinels s.has_sentinel (is_sentinel s.lists frame) (length s.lists.sentinel == 0) s.texts parts.3 (no_sentinels s.lists frame) in
     same_summary s.lists _ _ _ _ _ _ _ _ _ _ parts.1 (sym (full_stays s.proto frame s.has_frames parts.1 parts.2))
     (sym (ap (λ t. s.watched || t) other ∙ or_false s.watched)) (sym past.0)
-    (sym (ap (λ texts. texts_with s.lists texts frame) past.1 ∙ ended_stays s.lists s.texts frame parts.0))
+    (sym (ap (λ (texts : StackState). texts_with s.lists texts frame) past.1 ∙ ended_stays s.lists s.texts frame parts.0))
 
 pub settled_frames : (s : Summary) (lists : ListTexts) (frames : List (List ℕ)) (frame : List ℕ) → is_settled s ≡ true → bytes_eq frame watchdog ≡ false
     → s ≡ summary_of lists frames → s ≡ summary_of lists (frames ++ frame ∷ [])

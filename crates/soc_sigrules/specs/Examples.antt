@@ -1,5 +1,5 @@
 -- Worked examples.
-use Rattle.std.specs.Prelude.{◌≡◌, [], ◌∷◌, codes, refl, true, false, Some, None}
+use Rattle.std.specs.Prelude.{◌≡◌, [], ◌∷◌, codes, refl, true, Some, None}
 use Rattle.soc_sigrules.specs.Chars.{first_chars, at_most}
 use Rattle.soc_sigrules.specs.Modules.{module_text}
 use Rattle.soc_sigrules.specs.Rules.{memory_text}

@@ -1,4 +1,5 @@
--- Words of private contracts and of proofs: one frame more, one word more.
+-- Words of private contracts and of proofs: one frame more, one text more, one word more.
+pub mod Fronts
 pub mod Protos
 pub mod Steps
 pub mod Words

@@ -1,10 +1,10 @@
 //! Signatures, by their frames one after another.
 ghost use Rattle.std.specs.Prelude.{◌≡◌, true, false, ◌++◌, ◌∷◌, ◌||◌, [], ℕ, List, IfOk, OnOk, IsTrue};
 ghost use Rattle.std.specs.Str.{bytes_eq};
-ghost use Rattle.soc_siglists.specs.Lists.{ListTexts, is_sentinel};
+ghost use Rattle.soc_siglists.specs.Lists.{ListTexts, is_prefix, is_sentinel};
 ghost use Rattle.soc_sigrules.specs.Rules.{watchdog, after_rule, after_rules};
-ghost use Rattle.soc_sigrules.specs.Stacks.{text_of};
 ghost use Rattle.soc_sigrules.specs.Signatures.{summary_of, signature_of};
+ghost use Rattle.soc_sigrules.specs.inner.Fronts.{with_text};
 ghost use Rattle.soc_sigrules.specs.inner.Steps.{proto_with, texts_with, texts_before, is_settled, with_frame};
 
 use crate::crash::{Crash, Marked};
@@ -12,7 +12,7 @@ use crate::input::{SigInput, Signature};
 use crate::modules::module_text;
 use crate::proto::Proto;
 use crate::rule::{RULES, Rule};
-use crate::stack::{is_last, stack_text};
+use crate::stack::StackTexts;
 use soc_raw::{NoMemory, Text, TextList};
 use soc_siglists::{ListMatchers, Lists};
 use std::alloc::Global;
@@ -30,22 +30,15 @@ pub struct SignatureBuilder<'a> {
     proto: Proto,
     watched: bool,
     has_sentinel: bool,
-    texts: TextList,
-    /// Whether the last text is no prefix, so that nothing follows it.
-    is_ended: bool,
+    texts: StackTexts,
 }
 
 impl<'a> Model for SignatureBuilder<'a> {
-    ghost use Rattle.std.specs.Prelude.{◌≡◌};
     ghost use Rattle.soc_sigrules.specs.Signatures.{Summary};
 
     ghost Value = { Summary };
 
-    ghost use Rattle.soc_sigrules.specs.inner.Steps.{ends};
-
     ghost view = { λ b. record { lists = b.lists; has_frames = b.proto.has_frames; proto = b.proto.text; watched = b.watched; has_sentinel = b.has_sentinel; texts = b.texts } };
-
-    ghost invariant = { λ b. b.is_ended ≡ ends b.lists b.texts };
 }
 
 impl<'a> SignatureBuilder<'a> {
@@ -59,8 +52,7 @@ impl<'a> SignatureBuilder<'a> {
             proto: Proto::new(alloc),
             watched: false,
             has_sentinel: false,
-            texts: TextList::new(alloc),
-            is_ended: false,
+            texts: StackTexts::new(alloc),
         })
     }
 
@@ -88,32 +80,29 @@ impl<'a> SignatureBuilder<'a> {
             return Ok(());
         }
         self.has_sentinel = true;
-        self.texts = TextList::new(self.alloc);
-        self.is_ended = false;
+        self.texts = StackTexts::new(self.alloc);
         Ok(())
     }
 
     /// Adds a text at the end.
     fn append(&mut self, text: &str) -> Result<(), NoMemory>
-        ensures { OnOk result (self.new ≡ record self.old { texts = self.old.texts ++ text.now ∷ [] }) }
+        ensures { OnOk result (self.new ≡ record self.old { texts = with_text self.old.texts text.now (is_prefix self.old.lists text.now) }) }
     {
         let is_prefix = self.lists.is_prefix(self.alloc, text)?;
-        self.texts.push(Text::of(self.alloc, text)?)?;
-        self.is_ended = self.is_ended || !is_prefix;
-        Ok(())
+        self.texts.push(self.alloc, text, is_prefix)
     }
 
     /// Adds what is kept of a frame.
     fn keep(&mut self, frame: &str) -> Result<(), NoMemory>
         ensures { OnOk result (self.new ≡ record self.old { texts = texts_with self.old.lists self.old.texts frame.now }) }
     {
-        if self.is_ended || self.lists.is_irrelevant(self.alloc, frame)? {
+        if self.texts.is_ended() || self.lists.is_irrelevant(self.alloc, frame)? {
             return Ok(());
         }
         let Some(module) = module_text(frame) else {
             return self.append(frame);
         };
-        if is_last(&self.texts, module) {
+        if self.texts.is_last(module) {
             return Ok(());
         }
         self.append(module)
@@ -125,7 +114,9 @@ impl<'a> SignatureBuilder<'a> {
         ensures value { result ≡ is_settled self.now }
         ensures frames { IsTrue result → (lists : ListTexts) (frames : List (List ℕ)) (frame : List ℕ) → bytes_eq frame watchdog ≡ false → self.now ≡ summary_of lists frames → self.now ≡ summary_of lists (frames ++ frame ∷ []) }
     {
-        self.is_ended && self.proto.is_full() && (self.has_sentinel || self.lists.has_no_sentinel())
+        self.texts.is_ended()
+            && self.proto.is_full()
+            && (self.has_sentinel || self.lists.has_no_sentinel())
     }
 
     /// Adds the text of the next frame.
@@ -148,7 +139,7 @@ impl<'a> SignatureBuilder<'a> {
             input,
             watched: self.watched,
         };
-        let text = stack_text(self.alloc, input.thread_found, &self.texts)?;
+        let text = self.texts.into_text(self.alloc, input.thread_found)?;
         let marked = apply_rules(self.alloc, crash, text)?;
         Ok(Signature {
             text: marked.text,

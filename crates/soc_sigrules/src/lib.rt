@@ -11,6 +11,7 @@ mod modules;
 mod proto;
 mod rule;
 mod rules;
+mod short;
 mod shutdown;
 mod spaces;
 mod stack;

@@ -8,7 +8,8 @@ use soc_raw::{NoMemory, Text};
 use soc_text::is_blank;
 use std::alloc::Global;
 
-const SPACE: &str = " ";
+/// What stands between words.
+pub const SPACE: &str = " ";
 
 /// Whether the byte is a space, a tab, a carriage return or a line feed.
 fn is_gap(byte: u8) -> bool
@@ -32,7 +33,7 @@ fn word_len(text: &[u8]) -> usize
 }
 
 /// The first word, and what stands behind it.
-fn next_word(text: &str) -> Option<(&str, &str)>
+pub fn next_word(text: &str) -> Option<(&str, &str)>
     ensures { MatchOption result (words text.now ≡ []) (λ parts. IsFirstWord text.now parts.0.now parts.1.now) }
 {
     let behind = &text[gaps_len(text.as_bytes())..];

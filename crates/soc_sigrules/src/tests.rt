@@ -94,6 +94,42 @@ fn stacks(rt: HostRuntime) -> Result<(), Fail> {
     Ok(())
 }
 
+/// A piece so many times, and what stands behind it.
+type Long = (&'static str, usize, &'static str);
+
+fn long(alloc: Global, parts: Long) -> Result<String, NoMemory> {
+    let mut text = String::new(alloc);
+    for _ in 0..parts.1 {
+        text.push_str(parts.0)?;
+    }
+    text.push_str(parts.2)?;
+    Ok(text)
+}
+
+/// Frames that are prefixes where they begin with `x` or a blank, and the signature: many blanks, many frames, 255
+/// characters and more, and a blank as the 256th.
+const LONGS: [(Long, Long); 7] = [
+    ((" ", 300, "x \t x; ;x"), ("", 0, "x x | | x")),
+    (("x;", 100, "y"), ("x | ", 63, "...")),
+    (("x", 251, ";y"), ("x", 251, " | y")),
+    (("x", 252, ";y"), ("x", 252, "...")),
+    (("x", 255, " "), ("x", 255, "")),
+    (("x", 255, ";y"), ("x", 252, "...")),
+    (("x", 255, " y"), ("x", 252, "...")),
+];
+
+#[test]
+fn longs(rt: HostRuntime) -> Result<(), Fail> {
+    let alloc = rt.alloc();
+    for (frames, want) in &LONGS {
+        let frames = long(alloc, *frames)?;
+        let want = long(alloc, *want)?;
+        let found = signed(alloc, ["", "[x ]", ""], &crash(alloc, frames.as_str())?)?;
+        assert_eq!(rt; found.text.as_str(), want.as_str());
+    }
+    Ok(())
+}
+
 /// Sizes of allocations that failed, and signatures.
 const SIZES: [(&str, &str); 8] = [
     ("262144", "OOM | small"),

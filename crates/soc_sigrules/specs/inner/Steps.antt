@@ -1,12 +1,13 @@
 -- What one frame more does to the summary of those so far.
-use Rattle.std.specs.Prelude.{ℕ, ◌==◌, ◌&&◌, ◌||◌, not, Bool, true, if◌then◌else◌, List, [], ◌∷◌, ◌++◌, length, None}
+use Rattle.std.specs.Prelude.{ℕ, ◌==◌, ◌&&◌, ◌||◌, not, Bool, true, if◌then◌else◌, List, ◌∷◌, [], ◌++◌, length, Option, None}
 use Rattle.std.specs.List.{list_all, last_or}
 use Rattle.std.specs.Str.{bytes_eq}
 use Rattle.soc_siglists.specs.Lists.{ListTexts, is_irrelevant, is_prefix, is_sentinel}
 use Rattle.soc_sigrules.specs.Chars.{char_count, first_chars}
 use Rattle.soc_sigrules.specs.Stacks.{separator, kept_of, is_text}
 use Rattle.soc_sigrules.specs.Rules.{watchdog}
-use Rattle.soc_sigrules.specs.Signatures.{Summary}
+use Rattle.soc_sigrules.specs.Signatures.{StackState, Summary}
+use Rattle.soc_sigrules.specs.inner.Fronts.{no_texts, with_text}
 
 -- all frames with one more
 abbrev pub proto_with : Bool → List ℕ → List ℕ → List ℕ
@@ -17,20 +18,27 @@ abbrev pub ends : ListTexts → List (List ℕ) → Bool
 ends lists texts = not (list_all (is_prefix lists) texts)
 
 -- only the frame's module is known, and it is the last text
-abbrev pub is_repeated : List (List ℕ) → List ℕ → Bool
-is_repeated texts frame = (kept_of frame).is_module && is_text (last_or None texts) (kept_of frame).text
+abbrev pub is_repeated : Option (List ℕ) → List ℕ → Bool
+is_repeated last frame = (kept_of frame).is_module && is_text last (kept_of frame).text
 
--- the texts with what is kept of one more frame
-abbrev pub texts_with : ListTexts → List (List ℕ) → List ℕ → List (List ℕ)
+-- all texts with what is kept of one more frame
+abbrev pub all_with : ListTexts → List (List ℕ) → List ℕ → List (List ℕ)
+all_with lists texts frame =
+    if ends lists texts || (is_irrelevant lists frame || is_repeated (last_or None texts) frame) then texts else texts ++ (kept_of frame).text ∷ []
+
+-- the same of what is held of them
+abbrev pub texts_with : ListTexts → StackState → List ℕ → StackState
 texts_with lists texts frame =
-    if ends lists texts || (is_irrelevant lists frame || is_repeated texts frame) then texts else texts ++ (kept_of frame).text ∷ []
+    if texts.is_ended || (is_irrelevant lists frame || is_repeated texts.last frame)
+    then texts
+    else with_text texts (kept_of frame).text (is_prefix lists (kept_of frame).text)
 
 -- the first sentinel is met: what stands before it is forgotten
 abbrev pub begins_here : Summary → List ℕ → Bool
 begins_here summary frame = not summary.has_sentinel && is_sentinel summary.lists frame
 
-abbrev pub texts_before : Summary → List ℕ → List (List ℕ)
-texts_before summary frame = if begins_here summary frame then [] else summary.texts
+abbrev pub texts_before : Summary → List ℕ → StackState
+texts_before summary frame = if begins_here summary frame then no_texts else summary.texts
 
 abbrev pub with_frame : Summary → List ℕ → Summary
 with_frame summary frame = record {
@@ -46,5 +54,5 @@ with_frame summary frame = record {
 -- they are fill what is kept of them
 abbrev pub is_settled : Summary → Bool
 is_settled summary =
-    ends summary.lists summary.texts
+    summary.texts.is_ended
     && ((summary.has_frames && (char_count summary.proto == 2000)) && (summary.has_sentinel || (length summary.lists.sentinel == 0)))

@@ -3,6 +3,9 @@ use Rattle.std.proofs.lemmas.Result.{IfOk-weaker}
 use Rattle.soc_sigrules.specs.Signatures.{signature_of}
 use Rattle.soc_sigrules.proofs.builder.signature.Goals as goal
 
+pub loop-frame-init : goal.loop-frame-init
+loop-frame-init c = ([], c.into_iter-frame-iterator.ensures.into_iter_gives, c.in_ok-builder.ensures)
+
 pub loop-frame-preserved : goal.loop-frame-preserved
 loop-frame-preserved c =
     let pushed = c.loop-frame.invariant.0 in
