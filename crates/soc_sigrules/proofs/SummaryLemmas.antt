@@ -72,6 +72,15 @@ pub unwatched : (summary : Summary) (is_watchdog : Bool) → false ≡ is_watchd
 unwatched summary is_watchdog is =
     ap (λ w. record summary { watched = w }) (sym (or_false summary.watched)) ∙ ap (λ t. record summary { watched = summary.watched || t }) is
 
+or_true : (b : Bool) → (b || true) ≡ true
+or_true true = refl
+or_true false = refl
+
+-- the watchdog's frame
+pub watched : (summary : Summary) (is_watchdog : Bool) → true ≡ is_watchdog → record summary { watched = true } ≡ record summary { watched = summary.watched || is_watchdog }
+watched summary is_watchdog is =
+    ap (λ w. record summary { watched = w }) (sym (or_true summary.watched)) ∙ ap (λ t. record summary { watched = summary.watched || t }) is
+
 -- ---- a summary that is settled
 
 full_stays : (proto frame : List ℕ) (has : Bool) → has ≡ true → (char_count proto == 2000) ≡ true → proto_with has proto frame ≡ proto
