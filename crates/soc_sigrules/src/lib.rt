@@ -15,8 +15,6 @@ mod short;
 mod shutdown;
 mod spaces;
 mod stack;
-#[cfg(test)]
-mod tests;
 
 pub use builder::{SignatureBuilder, signature};
 pub use input::{SigInput, Signature};

@@ -1,4 +1,4 @@
-//! Tests of what a report is made of: walks, frame texts, lists, and the reports themselves.
+//! Tests of what a report is made of: walks, frame texts, lists, signatures, and the reports themselves.
 #![tactic(auto)]
 
 #[cfg(test)]
@@ -7,6 +7,8 @@ mod frames;
 mod report;
 #[cfg(test)]
 mod siglists;
+#[cfg(test)]
+mod sigrules;
 #[cfg(test)]
 mod step;
 #[cfg(test)]

@@ -1,7 +1,7 @@
 //! Signatures of made crashes.
-use crate::{SigInput, Signature, signature};
 use soc_raw::{NoMemory, Text, TextList};
 use soc_siglists::{Lists, RegexMaker};
+use soc_sigrules::{SigInput, Signature, signature};
 use std::alloc::Global;
 use std::process::Abort;
 use std::test::Fail;
