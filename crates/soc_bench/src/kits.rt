@@ -8,6 +8,9 @@ use std::alloc::Global;
 use std::fs;
 use std::rt::Files;
 
+/// A prefix of the module names in made dumps, so that each of their frames goes into the signature.
+const MADE_NAMES: &str = "xxxx\n";
+
 /// The texts of made lists, and of symbol files that are given by their paths in the folder `symbols`.
 pub fn kit_text<R: Files + AllocGlobal>(rt: &R, paths: &[String]) -> Result<KitText, Fault> {
     let alloc = rt.alloc();
@@ -20,7 +23,9 @@ pub fn kit_text<R: Files + AllocGlobal>(rt: &R, paths: &[String]) -> Result<KitT
     }
     put_text(alloc, &mut files, "symbols.txt", list)?;
     put_text(alloc, &mut files, "irrelevant.txt", irrelevant_list(alloc)?)?;
-    put_text(alloc, &mut files, "prefix.txt", prefix_list(alloc)?)?;
+    let mut prefixes = prefix_list(alloc)?;
+    prefixes.push_str(MADE_NAMES)?;
+    put_text(alloc, &mut files, "prefix.txt", prefixes)?;
     let mut tree = MemTree::new(files, Numbers::new(Vec::new(alloc)));
     match KitText::read(alloc, &mut tree) {
         Ok(texts) => Ok(texts),
