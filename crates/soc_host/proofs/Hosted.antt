@@ -1,5 +1,5 @@
 -- The service by what its words and its files say.
-use Rattle.std.proofs.Common.{◌≡◌, ℕ, List, Option, Some, Result, Ok, refl, sym, subst, inl, inr, arith}
+use Rattle.std.proofs.Common.{◌≡◌, ◌⊎◌, ℕ, List, Option, None, Some, Result, Ok, refl, sym, subst, inl, inr, arith}
 use Rattle.std.specs.Prelude.{IfOk}
 use Rattle.soc_raw.specs.Record.{Crash}
 use Rattle.soc_schema.specs.declared.value.Cell.{Cell}
@@ -12,14 +12,17 @@ use Rattle.soc_serve.specs.declared.ending.RunEnd.TheVariants as R
 use Rattle.soc_serve.specs.declared.setup.Setup.{Setup}
 use Rattle.soc_serve.specs.Ends as run
 use Rattle.soc_serve.specs.Opening.{OpensNot}
-use Rattle.soc_serve.specs.Outside.{Outside, Surroundings}
+use Rattle.soc_serve.specs.Outside.{Outside, StaysQuiet, Surroundings}
 use Rattle.soc_serve.specs.Replay.{digest_of, rows_of}
+use Rattle.soc_serve.specs.Tasks.{LeavesTexts}
+use Rattle.soc_serve.specs.inner.Refusals.{TellsUsage}
 use Rattle.soc_host.specs.declared.ending.HostEnd.{HostEnd}
 use Rattle.soc_host.specs.declared.ending.HostEnd.TheVariants as H
 use Rattle.soc_host.specs.declared.lines.LinesFault.TheVariants as L
 use Rattle.soc_host.specs.declared.sweep.SweepFault.TheVariants as S
 use Rattle.soc_host.specs.Ends.{status_of}
-use Rattle.soc_host.specs.Hosts.{EndsEarly, Hosts, HostsSaid, HostsTask, HostsWords}
+use Rattle.soc_host.specs.Hosts.{EndsEarly, Hosts, HostsSaid, HostsTask, HostsWords, IsServe, TellsOnly}
+use Rattle.soc_host.specs.Storm.{Storms}
 use Rattle.soc_host.specs.inner.Hosting.{HostsFiles}
 use Rattle.soc_host.specs.inner.Serving.{ServesDesk}
 
@@ -75,10 +78,53 @@ blames_neither row_of digest setup kept before after (H.Lines L.NoMemory) serves
 blames_neither row_of digest setup kept before after H.Failed serves = ((λ is. omega (arith, is)), (λ is. omega (arith, is)))
 blames_neither row_of digest setup kept before after H.Done serves = ((λ is. omega (arith, is)), (λ is. omega (arith, is)))
 
+-- the usage line was written, or a front of it
+usage_told : (before after : Outside) (end : RunEnd) → LeavesTexts before after → StaysQuiet before.around after.around → TellsUsage before.around.streams after.around.streams end
+    → TellsOnly before after (H.Before end)
+usage_told before after R.Usage texts quiet tells = record { texts = texts; quiet = quiet; line = tells }
+usage_told before after R.LineFault texts quiet tells = record { texts = texts; quiet = quiet; line = tells }
+usage_told before after R.NoMemory texts quiet never = absurd never
+usage_told before after (R.Served _ _) texts quiet never = absurd never
+usage_told before after R.Written texts quiet never = absurd never
+usage_told before after R.TextRefused texts quiet never = absurd never
+usage_told before after R.JournalRefused texts quiet never = absurd never
+usage_told before after R.TreeFault texts quiet never = absurd never
+usage_told before after R.MakerFault texts quiet never = absurd never
+usage_told before after R.OpenFault texts quiet never = absurd never
+
+pub no_words : (said : Option Words) (kept : ℕ) (before after : Outside) (end : RunEnd) → said ≡ None → LeavesTexts before after → StaysQuiet before.around after.around
+    → TellsUsage before.around.streams after.around.streams end → HostsWords said kept before after (H.Before end)
+no_words said kept before after end is texts quiet tells =
+    inl (subst (λ (s : Option Words). HostsSaid s kept before after (H.Before end)) (sym is) (usage_told before after end texts quiet tells))
+
+other_task : (words : Words) (task : Task) (kept : ℕ) (before after : Outside) (end : HostEnd) → (task ≡ T.Check) ⊎ ((task ≡ T.Make) ⊎ (task ≡ T.Replay)) → TellsOnly before after end
+    → HostsTask words task kept before after end
+other_task words task kept before after end (inl is) tells = subst (λ (t : Task). HostsTask words t kept before after end) (sym is) tells
+other_task words task kept before after end (inr (inl is)) tells = subst (λ (t : Task). HostsTask words t kept before after end) (sym is) tells
+other_task words task kept before after end (inr (inr is)) tells = subst (λ (t : Task). HostsTask words t kept before after end) (sym is) tells
+
+pub other_words : (said : Option Words) (words : Words) (kept : ℕ) (before after : Outside) (end : RunEnd) → said ≡ Some words
+    → (words.command ≡ T.Check) ⊎ ((words.command ≡ T.Make) ⊎ (words.command ≡ T.Replay)) → LeavesTexts before after → StaysQuiet before.around after.around
+    → TellsUsage before.around.streams after.around.streams end → HostsWords said kept before after (H.Before end)
+other_words said words kept before after end is other texts quiet tells =
+    inl (subst (λ (s : Option Words). HostsSaid s kept before after (H.Before end)) (sym is)
+    (other_task words words.command kept before after (H.Before end) other (usage_told before after end texts quiet tells)))
+
 pub hosts_words : (said : Option Words) (words : Words) (kept : ℕ) (before after : Outside) (end : HostEnd) → said ≡ Some words → words.command ≡ T.Serve → Hosts kept before after end
     → HostsWords said kept before after end
 hosts_words said words kept before after end is serve hosts =
-    inl (subst (λ (s : Option Words). HostsSaid s kept before after end) (sym is) (subst (λ (task : Task). HostsTask task kept before after end) (sym serve) hosts))
+    inl (subst (λ (s : Option Words). HostsSaid s kept before after end) (sym is) (subst (λ (task : Task). HostsTask words task kept before after end) (sym serve) hosts))
+
+pub storms_words : (said : Option Words) (words : Words) (kept : ℕ) (before after : Outside) (end : HostEnd) → said ≡ Some words → words.command ≡ T.Storm → Storms words.count before after end
+    → HostsWords said kept before after end
+storms_words said words kept before after end is storm storms =
+    inl (subst (λ (s : Option Words). HostsSaid s kept before after end) (sym is) (subst (λ (task : Task). HostsTask words task kept before after end) (sym storm) storms))
+
+pub is_serve : (said : Option Words) (words : Words) → said ≡ Some words → words.command ≡ T.Serve → IsServe said
+is_serve said words is serve = subst IsServe (sym is) serve
+
+pub no_serve : (said : Option Words) (words : Words) → said ≡ Some words → words.command ≡ T.Storm → IsServe said → ⊥
+no_serve said words is storm serve = let serves : words.command ≡ T.Serve = subst IsServe is serve in cc
 
 -- what an `Ok` is said of
 pub ok_of : {A E : Type 0} (P : A → Type 0) (result : Result A E) (value : A) → result ≡ Ok value → IfOk result P → P value

@@ -71,7 +71,7 @@ pub record Ended (row_of : Crash → List Cell) (digest : Option (List ℕ)) (li
   pub same_limits : limits' ≡ limits
   pub from_opened : GoesOn opened' disk' → GoesOn opened disk'
 
-same_basis : (row_of row_of' : Crash → List Cell) (digest digest' : Option (List ℕ)) (told : Bool) (limits limits' : Limits) → row_of' ≡ row_of → digest' ≡ digest → limits' ≡ limits
+pub same_basis : (row_of row_of' : Crash → List Cell) (digest digest' : Option (List ℕ)) (told : Bool) (limits limits' : Limits) → row_of' ≡ row_of → digest' ≡ digest → limits' ≡ limits
     → desk_basis row_of' digest' limits' told ≡ desk_basis row_of digest limits told
 same_basis row_of row_of' digest digest' told limits limits' same_rows same_digest same_limits =
     ap (λ r. desk_basis r digest' limits' told) same_rows ∙ (ap (λ d. desk_basis row_of d limits' told) same_digest ∙ ap (λ l. desk_basis row_of digest l told) same_limits)

@@ -29,6 +29,7 @@ use Rattle.soc_serve.specs.Tasks.{TellsHow, WantsMemory}
 use Rattle.soc_host.specs.declared.ending.HostEnd.{HostEnd}
 use Rattle.soc_host.specs.declared.ending.HostEnd.TheVariants as H
 use Rattle.soc_host.specs.Lines.{CutsLines, counts_text}
+use Rattle.soc_host.specs.Storm.{Storms}
 use Rattle.soc_host.specs.Sweep.{FailsSweep, Sweeps}
 
 -- what the objects outside tell to the service, for any outlook of the clock and the draws
@@ -94,17 +95,17 @@ abbrev pub TellsOnly : Outside → Outside → HostEnd → Type 0
 TellsOnly before after (H.Before end) = TellsHow before after end
 TellsOnly before after _ = ⊥
 
--- a command, by the service's end; all but `serve` are carried by another call
-abbrev pub HostsTask : Task → ℕ → Outside → Outside → HostEnd → Type 0
-HostsTask T.Serve kept before after end = Hosts kept before after end
-HostsTask T.Check kept before after end = TellsOnly before after end
-HostsTask T.Make kept before after end = TellsOnly before after end
-HostsTask T.Replay kept before after end = TellsOnly before after end
-HostsTask T.Storm kept before after end = TellsOnly before after end
+-- a command, by the service's end; the others are carried by another call
+abbrev pub HostsTask : Words → Task → ℕ → Outside → Outside → HostEnd → Type 0
+HostsTask words T.Serve kept before after end = Hosts kept before after end
+HostsTask words T.Storm kept before after end = Storms words.count before after end
+HostsTask words T.Check kept before after end = TellsOnly before after end
+HostsTask words T.Make kept before after end = TellsOnly before after end
+HostsTask words T.Replay kept before after end = TellsOnly before after end
 
 abbrev pub HostsSaid : Option Words → ℕ → Outside → Outside → HostEnd → Type 0
 HostsSaid None kept before after end = TellsOnly before after end
-HostsSaid (Some words) kept before after end = HostsTask words.command kept before after end
+HostsSaid (Some words) kept before after end = HostsTask words words.command kept before after end
 
 abbrev pub WantsMemoryFirst : Outside → Outside → HostEnd → Type 0
 WantsMemoryFirst before after (H.Before end) = WantsMemory before after end
@@ -113,3 +114,10 @@ WantsMemoryFirst before after _ = ⊥
 -- the service by what its words say, of whose turns so many changes and stops count as kept
 abbrev pub HostsWords : Option Words → ℕ → Outside → Outside → HostEnd → Type 0
 HostsWords said kept before after end = HostsSaid said kept before after end ⊎ WantsMemoryFirst before after end
+
+-- ---- the listener that is handed in
+
+-- only `serve` hands out the connections of the listener that it is given
+abbrev pub IsServe : Option Words → Type 0
+IsServe None = ⊥
+IsServe (Some words) = words.command ≡ T.Serve

@@ -1,5 +1,6 @@
 pub mod Ends
 pub mod Hosts
 pub mod Lines
+pub mod Storm
 pub mod Sweep
 pub mod inner

@@ -1,3 +1,4 @@
 pub mod Hosting
 pub mod Serving
+pub mod Storm
 pub mod Sweeping

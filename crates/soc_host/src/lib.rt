@@ -2,12 +2,13 @@
 #![tactic(auto)]
 
 mod ending;
+mod files;
 mod hosting;
 mod lines;
 mod serving;
+mod storm;
+mod summary;
 mod sweep;
-#[cfg(test)]
-mod tests;
 
 pub use ending::HostEnd;
 pub use hosting::run_hall;

@@ -5,7 +5,7 @@ ghost use Rattle.soc_serve.specs.Check.{count_line};
 ghost use Rattle.soc_host.specs.Lines.{Tells, lines_of};
 
 use soc_edge::{Sink, write_all};
-use soc_raw::{Bytes, NoMemory};
+use soc_raw::NoMemory;
 use std::alloc::Global;
 
 /// What became of the lines.
@@ -37,17 +37,18 @@ pub(crate) fn tell_counts<K: Sink>(
     }
 }
 
-fn counts_text(alloc: Global, crashes: u32, reports: u32) -> Result<Bytes, NoMemory>
-    ensures { IfOk result (λ text. text ≡ lines_of crashes reports) }
+/// How many crashes are held, and how many of them have a report, each on a line.
+pub(crate) fn counts_text(alloc: Global, crashes: u32, reports: u32) -> Result<Vec<u8>, NoMemory>
+    ensures { IfOk result (λ text. text.items ≡ lines_of crashes reports) }
 {
     let mut text = Vec::new(alloc);
-    push_line(&mut text, b"crashes ", crashes)?;
-    push_line(&mut text, b"reports ", reports)?;
-    Ok(Bytes::from(text))
+    push_line(&mut text, b"crashes ", u64::from(crashes))?;
+    push_line(&mut text, b"reports ", u64::from(reports))?;
+    Ok(text)
 }
 
 /// Adds a line with a name and a number.
-fn push_line(text: &mut Vec<u8>, name: &[u8], count: u32) -> Result<(), NoMemory>
+pub(crate) fn push_line(text: &mut Vec<u8>, name: &[u8], count: u64) -> Result<(), NoMemory>
     ensures { IfOk result (λ _. text.new.items ≡ text.old.items ++ count_line name.now count) }
 {
     let mut digits = itoa::Buffer::new();

@@ -36,7 +36,7 @@ pub(crate) fn sweep<D: Disk, R: Reporter>(book: &mut Book<'_, D, R>) -> Result<(
 }
 
 /// Processes what is due.
-fn drain<D: Disk, R: Reporter>(book: &mut Book<'_, D, R>) -> Result<(), SweepFault>
+pub(crate) fn drain<D: Disk, R: Reporter>(book: &mut Book<'_, D, R>) -> Result<(), SweepFault>
     ensures same_disk { book.new.vault.disk.ghost_name ≡ book.old.vault.disk.ghost_name }
     ensures limits { book.new.limits ≡ book.old.limits }
     ensures reporter { book.new.reporter.now ≡ book.old.reporter.now }

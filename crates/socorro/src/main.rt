@@ -48,15 +48,18 @@ fn main(rt: HostRuntime) -> ExitCode {
         Err(error) => return ExitCode::from(status_of(&error)),
     };
     let status = match Words::read(rt.alloc(), words.as_slice()) {
-        Ok(said) => match said.command {
-            Task::Serve => match draws_of(&rt) {
-                Some(draws) => {
+        Ok(said) => match draws_of(&rt, said.command) {
+            Some(draws) => match said.command {
+                Task::Serve | Task::Storm => {
                     let mut output = OutputStream::new(rt.stdout());
                     serve(&rt, &rt, words.as_slice(), &said, &mut output, draws)
                 }
-                None => READ_FAULT,
+                Task::Check | Task::Make | Task::Replay => {
+                    let (journal, tree) = (said.journal.as_str(), said.tree.as_str());
+                    run(&rt, words.as_slice(), journal, tree, draws)
+                }
             },
-            _ => run_said(&rt, words.as_slice(), &said),
+            None => READ_FAULT,
         },
         Err(WordsError::NotOurs) => run(&rt, words.as_slice(), JOURNAL, TREE, SystemDraws::none()),
         Err(WordsError::NoMemory) => NO_MEMORY,
@@ -64,27 +67,21 @@ fn main(rt: HostRuntime) -> ExitCode {
     ExitCode::from(status)
 }
 
-/// Runs a command that waits for nobody. Only `replay` needs a clock and random bytes.
-fn run_said(rt: &HostRuntime, words: &[String], said: &Words) -> u8 {
-    let draws = match said.command {
-        Task::Replay => match draws_of(rt) {
-            Some(draws) => draws,
-            None => return READ_FAULT,
-        },
-        _ => SystemDraws::none(),
-    };
-    run(rt, words, said.journal.as_str(), said.tree.as_str(), draws)
-}
-
-/// Random draws, where the system gives random bytes and its clock can be read.
-fn draws_of(rt: &HostRuntime) -> Option<SystemDraws> {
-    if !clock::can_be_read(rt) {
-        return None;
+/// Draws for the command. Only `replay` and `serve` need any, and a clock: there are none where the system gives no random
+/// bytes, or its clock can't be read.
+fn draws_of(rt: &HostRuntime, command: Task) -> Option<SystemDraws> {
+    match command {
+        Task::Replay | Task::Serve => {
+            if !clock::can_be_read(rt) {
+                return None;
+            }
+            SystemDraws::new(rt).ok()
+        }
+        Task::Check | Task::Make | Task::Storm => Some(SystemDraws::none()),
     }
-    SystemDraws::new(rt).ok()
 }
 
-/// Runs the service over an address, a journal's file and a folder of the system.
+/// Runs the service over an address, a journal's file and a folder of the system. A storm touches none of these.
 fn serve<R: Threads + Wait + Sync, K: Sink>(
     rt: &R,
     system: &HostRuntime,

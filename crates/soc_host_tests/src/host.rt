@@ -1,10 +1,13 @@
 //! The service over a listener in memory.
-use super::*;
+mod gates;
+mod storms;
+
 use soc_collect::Tally;
 use soc_edge::{BytesList, Ids16, MemClock, MemDisk, MemDraws, MemSink, MemTree, Numbers};
+use soc_host::run_hall;
 use soc_listen::{MemConn, MemListener};
 use soc_raw::{Blobs, Bytes, NoMemory, Text};
-use soc_service::OpenGate;
+use soc_service::{Gate, OpenGate};
 use soc_siglists::RegexMaker;
 use std::alloc::Global;
 use std::sync::Wait;
@@ -52,6 +55,17 @@ fn run<R: Threads + Wait + Sync>(
     words: &[&str],
     listener: MemListener,
 ) -> Result<Ran, NoMemory> {
+    run_by(rt, alloc, words, listener, &OpenGate)
+}
+
+// The same with a gate.
+fn run_by<R: Threads + Wait + Sync, G: Gate + Sync>(
+    rt: &R,
+    alloc: Global,
+    words: &[&str],
+    listener: MemListener,
+    gate: &G,
+) -> Result<Ran, NoMemory> {
     let mut list = Vec::new(alloc);
     for word in words {
         list.push(String::from_str(alloc, word)?)?;
@@ -82,7 +96,7 @@ fn run<R: Threads + Wait + Sync>(
         &mut clock,
         &mut draws,
         &mut maker,
-        &OpenGate,
+        gate,
         &mut served,
     );
     Ok(Ran {
@@ -168,5 +182,17 @@ fn another_calls_command_is_not_served(rt: HostRuntime) -> Result<(), Fail> {
     assert!(rt; ran.output.bytes().starts_with(b"usage: "));
     assert!(rt; !ends_with(&ran.listener, 0, b""));
     assert_eq!(rt; ran.served.connections(), 0);
+    Ok(())
+}
+
+#[test]
+fn turns_of_four_collectors_that_change_nothing(rt: HostRuntime) -> Result<(), Fail> {
+    let words = ["serve", "--collectors", "4", "--processors", "1"];
+    let silent = listener(rt.alloc(), &[b"".as_slice(); 400], &[])?;
+    let ran = run(&rt, rt.alloc(), &words, silent)?;
+    assert_eq!(rt; ran.status, 0);
+    assert_eq!(rt; ran.output.bytes(), b"crashes 0\nreports 0\n".as_slice());
+    assert_eq!(rt; ran.served.connections(), 400);
+    assert_eq!(rt; ran.served.kept(), 0);
     Ok(())
 }
