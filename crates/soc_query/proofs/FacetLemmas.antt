@@ -1,12 +1,12 @@
 -- Counting a posting against the selected places is counting the selected rows.
-use Rattle.std.proofs.Common.{◌≡◌, ◌≤◌, append-nil, ltb, get_or, take, ◌++◌, ℕ, ◌+◌, ◌<◌, Bool, true, false, cond, List, [], ◌∷◌, Some, suc, length, map, count_by, ap, sym, ◌∙◌, refl, arith, subst}
+use Rattle.std.proofs.Common.{◌≡◌, ◌≤◌, ltb, get_or, take, ◌++◌, ℕ, ◌+◌, ◌<◌, Bool, true, false, cond, List, [], ◌∷◌, Option, None, Some, suc, length, map, count_by, ap, sym, ◌∙◌, refl, arith, subst}
 use Rattle.std.specs.List.{filter, AllByRecursion}
-use Rattle.std.specs.Prelude.{◌||◌, slice_get}
+use Rattle.std.specs.Prelude.{◌||◌, slice_get, is_none, IfSome}
 use Rattle.std.proofs.lemmas.List.Sums.{length-filter}
 use Rattle.std.proofs.lemmas.Option.{slice_get_within, slice_get-get_or}
 use Rattle.std.proofs.lemmas.List.{map-append, take_all, take_more, get_or-map, length-map}
 use Rattle.std.proofs.lemmas.List.Elements.{filter_more}
-use Rattle.std.proofs.lemmas.Bool.{lt-ltb, le-ltb}
+use Rattle.std.proofs.lemmas.Bool.{lt-ltb}
 use Rattle.std.specs.Cmp.{IsTotalOrder}
 use Rattle.std.specs.Ordering.{nat_cmp}
 use Rattle.std.proofs.lemmas.Cmp.{on_total, back_total, nat_cmp_total}
@@ -16,8 +16,9 @@ use Rattle.soc_schema.specs.Rows.{value_of}
 use Rattle.soc_store.specs.Stored.{is_value, rows_with, places_of, values_of, some_has}
 use Rattle.soc_query.specs.declared.answer.Term.{Term}
 use Rattle.soc_query.specs.declared.leaders.Counted.{Counted}
-use Rattle.soc_query.specs.inner.Selections.{as_term}
+use Rattle.soc_query.specs.inner.Selections.{as_term, selected}
 use Rattle.soc_query.specs.Answers.{terms_of}
+use Rattle.soc_query.proofs.SelectionLemmas.{every_row}
 
 kept_matching : (set : ℕ → Bool) (test : ℕ × List Cell → Bool) (f : ℕ) (v : Value) (rows : List (ℕ × List Cell)) → AllByRecursion (λ s. set s.0 ≡ test s) rows
     → length (filter set (places_of f v rows)) ≡ length (rows_with f v (filter test rows))
@@ -101,3 +102,12 @@ term_more counted terms now i one t within here is so_far pushed =
     pushed ∙ ap (λ l. l ++ t ∷ []) so_far
     ∙ ap (λ u. take i (map as_term counted) ++ u ∷ []) (is ∙ (ap as_term (sym here) ∙ sym (get_or-map as_term counted i one (as_term one) within)))
     ∙ sym (take_more (map as_term counted) i (as_term one) (subst (λ n. i < n) (sym (length-map counted as_term)) within))
+
+-- where each row is selected
+pub count_whole : (set : Option (List (List ℕ))) (f : ℕ) (v : Value) (rows : List (ℕ × List Cell)) (n : ℕ) → is_none set ≡ true → n ≡ length (places_of f v rows) → n ≡ length (rows_with f v (filter (λ s. selected set s.0) rows))
+count_whole None f v rows n whole is = is ∙ length-map (rows_with f v rows) (λ s. s.0) ∙ ap (λ l. length (rows_with f v l)) (sym (every_row rows))
+count_whole (Some pages) f v rows n whole is = cc
+
+pub some_counted : (o : Option Value) (P Q : Value → Type 0) → ((v : Value) → P v → Q v) → IfSome o P → IfSome o Q
+some_counted None P Q step h = tt
+some_counted (Some v) P Q step h = step v h

@@ -1,8 +1,9 @@
 -- The first elements in order, while elements come one after another and the rest is cut off.
 use Rattle.std.proofs.Common.{◌≡◌, ℕ, zero, suc, ◌+◌, ◌<◌, ◌≤◌, Bool, true, false, cond, List, [], ◌∷◌, ◌++◌, Some, ltb, append-nil, ◌-◌, ⊎_elim, length, map, take, get_or, refl, sym, ap, ◌∙◌, arith, subst}
-use Rattle.std.specs.Prelude.{slice_get}
+use Rattle.std.specs.Prelude.{slice_get, IfSome}
 use Rattle.std.proofs.lemmas.Bool.{cases_lt, lt-ltb, le-ltb}
 use Rattle.soc_schema.specs.declared.value.Value.{Value}
+use Rattle.soc_schema.specs.declared.value.Value.TheVariants.{Flag}
 use Rattle.soc_schema.specs.declared.value.Cell.{Cell}
 use Rattle.soc_store.specs.Stored.{rows_with}
 use Rattle.std.proofs.lemmas.Bool.{true≢false}
@@ -222,6 +223,10 @@ pub led_over : (bar size : ℕ) (kept : List Counted) (c : Counted) (old : Leadi
 led_over bar size kept c old is bars some under =
     subst (λ l. l ≡ with_term (as_term c) l) is (sym (passed_over bar (led size kept) (as_term c) bars some under (no_longer size (in_order by_count (map as_term kept)))))
 
+pub led_passed : (bar size : ℕ) (kept : List Counted) (v : Value) (n : ℕ) (old : Leading) → led size kept ≡ old → IsBar bar (led size kept) → 0 < n → n ≤ bar → with_term (record { value = v; count = n }) old ≡ old
+led_passed bar size kept v n old is bars some under =
+    subst (λ l. with_term (record { value = v; count = n }) l ≡ l) is (passed_over bar (led size kept) (record { value = v; count = n }) bars some under (no_longer size (in_order by_count (map as_term kept))))
+
 pub bar_led : (bar size : ℕ) (kept now : List Counted) (c : Counted) → now ≡ kept ++ c ∷ [] → IsBar bar (led size kept) → bar < c.count → IsBar bar (led size now)
 bar_led bar size kept now c is bars above = subst (IsBar bar) (sym (led_more size kept now c is)) (bar_more bar (led size kept) (as_term c) bars above)
 
@@ -272,3 +277,11 @@ module _ (size f : ℕ) (rows : List (ℕ × List Cell)) (vs : List Value) (i : 
   value_passed none =
       let few : length (rows_with f v rows) ≤ 0 = omega (arith, none, count) in
       so_far ∙ ap (leading size) (sym (more false (le-ltb 0 (length (rows_with f v rows)) few) ∙ append-nil (terms_so_far f rows (take i vs))))
+
+-- a value that isn't wanted
+pub value_unwanted : (size f : ℕ) (rows : List (ℕ × List Cell)) (vs : List Value) (i : ℕ) (old : Leading) (n : ℕ) → old ≡ leading size (terms_so_far f rows (take i vs)) → i < length vs → IfSome (slice_get vs i) (λ v. n ≡ length (rows_with f v rows)) → (0 < n → (v : Value) → with_term (record { value = v; count = n }) old ≡ old) → old ≡ leading size (terms_so_far f rows (take (i + 1) vs))
+value_unwanted size f rows vs i old n so_far within counts unwanted =
+    let v : Value = get_or vs i (Flag true) in
+    let at : slice_get vs i ≡ Some v = slice_get-get_or vs i (Flag true) within in
+    let count : n ≡ length (rows_with f v rows) = subst (λ o. IfSome o (λ u. n ≡ length (rows_with f u rows))) at counts in
+    ⊎_elim (λ (some : 0 < n). value_offered size f rows vs i v at old so_far n count old (record { value = v; count = n }) some refl (sym (unwanted some v))) (λ (none : n ≤ 0). value_passed size f rows vs i v at old so_far n count none) (cases_lt 0 n)

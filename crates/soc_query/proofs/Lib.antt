@@ -12,6 +12,7 @@ pub mod OrderLemmas
 pub mod ProductLemmas
 pub mod QueryLemmas
 pub mod ReadingLemmas
+pub mod RunLemmas
 pub mod SeenLemmas
 pub mod SelectionLemmas
 pub mod SortLemmas

@@ -12,22 +12,19 @@ use Rattle.std.proofs.lemmas.Map.Lookups.{exact_bytes}
 use Rattle.std.specs.Str.{bytes_eq}
 use Rattle.std.specs.List.{AllByRecursion, list_all, list_any}
 use Rattle.std.specs.Ordering.{match_ordering}
-use Rattle.std.specs.declared.cmp.Ordering.{Ordering}
 use Rattle.std.specs.declared.cmp.Ordering.TheVariants.{Less, Equal, Greater}
 use Rattle.soc_schema.specs.declared.caller.Caller.{Caller}
 use Rattle.soc_schema.specs.declared.value.Value.{Value}
-use Rattle.soc_schema.specs.declared.value.Value.TheVariants.{Text, Number, Flag}
+use Rattle.soc_schema.specs.declared.value.Value.TheVariants.{Text}
 use Rattle.soc_schema.specs.declared.value.Cell.{Cell}
 use Rattle.soc_schema.specs.Fields.{product_field}
-use Rattle.soc_schema.specs.Permits.{shows}
 use Rattle.soc_schema.specs.Rows.{value_of}
 use Rattle.soc_store.specs.declared.counts.ProductCount.{ProductCount}
-use Rattle.soc_store.specs.Orders.{product_cmp, product_key, value_cmp}
+use Rattle.soc_store.specs.Orders.{product_cmp, product_key}
 use Rattle.soc_store.specs.Stored.{counted, counts_of, is_value, one_more, places_of, product_of, rows_with, tally, text_of, values_of}
-use Rattle.soc_store.specs.Tables.{alter}
 use Rattle.soc_query.specs.declared.condition.Condition.{Condition}
 use Rattle.soc_query.specs.Answers.{is_exact, meets, meets_alone, meets_one, passes, sees}
-use Rattle.soc_query.specs.inner.Products.{AskAlone, ProductSet, all_are_met, ask_of_products, count_in, has_product, is_asked, is_met, one_is_met}
+use Rattle.soc_query.specs.inner.Products.{AskAlone, ProductSet, ask_of_products, count_in, has_product, is_asked, is_met, one_is_met}
 use Rattle.soc_query.specs.inner.Selections.{Selects}
 use Rattle.soc_query.proofs.SelectionLemmas.{has_chosen}
 

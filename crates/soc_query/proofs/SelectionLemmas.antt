@@ -39,7 +39,7 @@ all_of_them (p ∷ ps) = ap (λ l. p ∷ l) (all_of_them ps)
 pub count_all : (places : List ℕ) → count_by (selected None) places ≡ length places
 count_all places = sym (length-filter (selected None) places) ∙ ap length (all_of_them places)
 
-every_row : (rows : List (ℕ × List Cell)) → filter (λ s. selected None s.0) rows ≡ rows
+pub every_row : (rows : List (ℕ × List Cell)) → filter (λ s. selected None s.0) rows ≡ rows
 every_row [] = refl
 every_row (s ∷ ss) = ap (λ l. s ∷ l) (every_row ss)
 
@@ -395,3 +395,28 @@ seen_more cs i c met now k within here exact at put seen f is =
 pub and_true : (a : Bool) → a ≡ (a && true)
 and_true true = refl
 and_true false = refl
+
+-- a run of the values: before it none is chosen, and behind it none
+none_in : {X : Type 0} (t : X → Bool) (xs : List X) (n : ℕ) → ((k : ℕ) (d : X) → k < n → t (get_or xs k d) ≡ false) → list_any t (take n xs) ≡ false
+none_in t [] zero none = refl
+none_in t [] (suc n) none = refl
+none_in t (x ∷ xs) zero none = refl
+none_in t (x ∷ xs) (suc n) none = rw (none 0 x (omega arith), none_in t xs n (λ k d lt. none (suc k) d (omega arith))) refl
+
+none_behind : {X : Type 0} (t : X → Bool) (xs : List X) (n : ℕ) → ((k : ℕ) (d : X) → n ≤ k → k < length xs → t (get_or xs k d) ≡ false) → list_any t (take n xs) ≡ list_any t xs
+none_behind t [] zero none = refl
+none_behind t [] (suc n) none = refl
+none_behind t (x ∷ xs) zero none = rw (none 0 x (omega arith) (omega arith), sym (none_behind t xs zero (λ k d _ lt. none (suc k) d (omega arith) (omega arith)))) refl
+none_behind t (x ∷ xs) (suc n) none = ap (λ b. t x || b) (none_behind t xs n (λ k d le lt. none (suc k) d (omega arith) (omega arith)))
+
+not_joined : (f : ℕ) (test : Value → Bool) (rows : List (ℕ × List Cell)) (p : ℕ) (v : Value) → test v ≡ false → inn p (chosen_places f test rows v) ≡ false
+not_joined f test rows p v out = ap (λ b. inn p (cond b (places_of f v rows) [])) out
+
+pub run_begun : (set : ℕ → Bool) (f : ℕ) (test : Value → Bool) (rows : List (ℕ × List Cell)) (vs : List Value) (n : ℕ) → ((p : ℕ) → set p ≡ false) → ((k : ℕ) (d : Value) → k < n → test (get_or vs k d) ≡ false) → Joins set (chosen_places f test rows) (take n vs)
+run_begun set f test rows vs n empty out p = empty p ∙ sym (none_in (λ v. inn p (chosen_places f test rows v)) vs n (λ k d lt. not_joined f test rows p (get_or vs k d) (out k d lt)))
+
+pub run_more : (old now : ℕ → Bool) (f : ℕ) (test : Value → Bool) (rows : List (ℕ × List Cell)) (vs : List Value) (i : ℕ) (v : Value) (more : List ℕ) → slice_get vs i ≡ Some v → ((d : Value) → test (get_or vs i d) ≡ true) → more ≡ places_of f v rows → ((p : ℕ) → now p ≡ (old p || inn p more)) → Joins old (chosen_places f test rows) (take i vs) → Joins now (chosen_places f test rows) (take (i + 1) vs)
+run_more old now f test rows vs i v more at takes = chosen_more old now f test rows vs i v more at (ap test (sym (here_at vs i v at).1) ∙ takes v)
+
+pub run_ended : (set : ℕ → Bool) (f : ℕ) (test : Value → Bool) (rows : List (ℕ × List Cell)) (vs : List Value) (n i : ℕ) → n ≤ i → ((k : ℕ) (d : Value) → n ≤ k → k < length vs → test (get_or vs k d) ≡ false) → Joins set (chosen_places f test rows) (take i vs) → Joins set (chosen_places f test rows) vs
+run_ended set f test rows vs n i all out so_far p = so_far p ∙ none_behind (λ v. inn p (chosen_places f test rows v)) vs i (λ k d le lt. not_joined f test rows p (get_or vs k d) (out k d (omega arith) lt))

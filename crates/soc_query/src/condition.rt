@@ -23,6 +23,7 @@ pub enum Comparison {
 impl Comparison {
     ghost use Rattle.std.specs.Prelude.{◌≡◌};
     ghost use Rattle.soc_query.specs.Queries.{is_equals, is_for_texts};
+    ghost use Rattle.soc_query.specs.inner.Runs.{is_run};
 
     /// Whether it looks into a text.
     pub(crate) fn is_for_texts(self) -> bool
@@ -31,6 +32,20 @@ impl Comparison {
         matches!(
             self,
             Comparison::Contains | Comparison::Starts | Comparison::Ends
+        )
+    }
+
+    /// Whether the values that compare so with an operand stand in one run of rising values.
+    pub(crate) fn is_run(self) -> bool
+        ensures { result ≡ is_run self }
+    {
+        matches!(
+            self,
+            Comparison::Below
+                | Comparison::AtMost
+                | Comparison::Above
+                | Comparison::AtLeast
+                | Comparison::Starts
         )
     }
 
@@ -150,7 +165,7 @@ impl Condition {
 }
 
 /// Whether the value compares so with the operand.
-fn compares(how: Comparison, operand: &Value, value: &Value) -> bool
+pub(crate) fn compares(how: Comparison, operand: &Value, value: &Value) -> bool
     ensures { result ≡ compares how operand.now value.now }
 {
     match how {

@@ -1,5 +1,5 @@
 //! Facets: the values of a field in the selected rows, with their counts.
-ghost use Rattle.std.specs.Prelude.{◌≡◌, ◌<◌, ◌&&◌, IfOk, length, map, take, slice_get, Some};
+ghost use Rattle.std.specs.Prelude.{◌≡◌, ◌<◌, ◌&&◌, IfOk, IfSome, length, map, take, slice_get};
 ghost use Rattle.std.specs.List.{filter};
 ghost use Rattle.soc_store.specs.Stored.{rows_with, values_of};
 ghost use Rattle.soc_query.specs.Answers.{facet_of, in_order, meets, sees, terms_of};
@@ -98,34 +98,38 @@ fn leading_values<'a>(
     ensures { IfOk result (λ leaders. leaders ≡ record { size = size; terms = take size (in_order by_count (terms_of field (filter (λ s. selected set.now s.0) store.now))) }) }
 {
     let mut leaders = Leaders::new(alloc, size);
+    let mut near = 0;
     for i in 0..store.values(field) {
-        let counted = counted_at(store, field, i, set, products);
-        if counted.count > 0 {
-            leaders.offer(counted)?;
+        let count = count_at(store, field, i, &mut near, set, products);
+        if leaders.wants(count) {
+            let (value, _, _) = store.term_near(field, i, &mut near);
+            leaders.offer(Counted { value, count })?;
         }
     }
     Ok(leaders)
 }
 
-/// The `i`th value of the field, and how many of the selected rows have it: by the running counts of products where
-/// these tell it, and else by its places.
-fn counted_at<'a>(
-    store: &'a Store,
+/// How many of the selected rows have the `i`th value of the field: by their number where each row is selected, by the
+/// running counts of products where these tell it, and else by its places.
+fn count_at(
+    store: &Store,
     field: Field,
     i: usize,
+    near: &mut usize,
     set: &Option<PlaceSet>,
     products: &Option<ProductSet<'_>>,
-) -> Counted<'a>
+) -> u64
     requires within { i < length (values_of field store.now) }
     requires alone { AskAlone (selected set.now) store.now products.now }
-    ensures value { slice_get (values_of field store.now) i ≡ Some result.value.now }
-    ensures count { result.count ≡ length (rows_with field result.value.now (filter (λ s. selected set.now s.0) store.now)) }
+    ensures { IfSome (slice_get (values_of field store.now) i) (λ v. result ≡ length (rows_with field v (filter (λ s. selected set.now s.0) store.now))) }
 {
-    let (value, places, counts) = store.term_at(field, i);
+    if set.is_none() {
+        return store.count_near(field, i, near) as u64;
+    }
+    let (_, places, counts) = store.term_near(field, i, near);
     let _rows = store.len();
-    let count = match products {
+    match products {
         Some(products) => products.count(counts),
         None => count_of(set, places) as u64,
-    };
-    Counted { value, count }
+    }
 }

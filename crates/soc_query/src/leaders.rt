@@ -1,6 +1,7 @@
 //! The values with the greatest counts among many.
-ghost use Rattle.std.specs.Prelude.{◌≡◌, ◌<◌, ◌≤◌, [], IfOk, OnOk, OnErr, length, map, take};
+ghost use Rattle.std.specs.Prelude.{◌≡◌, ◌<◌, ◌≤◌, true, false, [], IfOk, OnOk, OnErr, length, map, take};
 ghost use Rattle.std.specs.List.{AllByRecursion};
+ghost use Rattle.soc_schema.specs.declared.value.Value.{Value};
 ghost use Rattle.soc_query.specs.Answers.{in_order};
 ghost use Rattle.soc_query.specs.inner.Leaders.{by_count, with_term};
 ghost use Rattle.soc_query.specs.inner.Selections.{as_term};
@@ -52,6 +53,14 @@ impl<'a> Leaders<'a> {
             kept: Vec::new(alloc),
             bar: 0,
         }
+    }
+
+    /// Whether a value that so many rows have may be one of them.
+    pub(crate) fn wants(&self, count: u64) -> bool
+        ensures some { result ≡ true → 0 < count }
+        ensures none { result ≡ false → 0 < count → (v : Value) → with_term (record { value = v; count = count }) self.now ≡ self.now }
+    {
+        count > self.bar
     }
 
     /// Offers one more value.

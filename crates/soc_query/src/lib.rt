@@ -16,6 +16,7 @@ mod places;
 mod products;
 mod query;
 mod reading;
+mod runs;
 mod seen;
 mod selection;
 mod walk;

@@ -9,13 +9,15 @@ ghost use Rattle.soc_schema.specs.Permits.{shows};
 ghost use Rattle.std.specs.Ordering.{is_eq};
 ghost use Rattle.soc_store.specs.Orders.{value_cmp};
 ghost use Rattle.soc_store.specs.Stored.{PlacesRise, text_of};
-ghost use Rattle.soc_query.specs.Answers.{is_exact, meets, meets_alone, meets_one, sees};
+ghost use Rattle.soc_query.specs.Answers.{compares, is_exact, meets, meets_alone, meets_one, sees};
 ghost use Rattle.soc_query.specs.Places.{has};
+ghost use Rattle.soc_query.specs.inner.Runs.{is_run};
 ghost use Rattle.soc_query.specs.inner.Selections.{AreAmong, AreCandidates, Selects, chosen, has_value, selected};
 
-use crate::condition::Condition;
+use crate::condition::{Comparison, Condition, Test};
 use crate::places::PlaceSet;
 use crate::query::Query;
+use crate::runs::run_of;
 use soc_raw::NoMemory;
 use soc_schema::{Caller, Field, Products, Value, visible};
 use soc_store::Store;
@@ -260,9 +262,13 @@ pub(crate) fn narrowed(
 fn joined_places(alloc: Global, store: &Store, condition: &Condition) -> Result<PlaceSet, NoMemory>
     ensures { IfOk result (λ set. Selects (has set) (has_value condition.now) store.now) }
 {
-    match condition.test.operand() {
-        Some(value) => value_places(alloc, store, condition.field, value),
-        None => chosen_places(alloc, store, condition),
+    let field = condition.field;
+    match &condition.test {
+        Test::Compares(Comparison::Equals, value) => value_places(alloc, store, field, value),
+        Test::Compares(how, operand) if how.is_run() => {
+            run_places(alloc, store, field, *how, operand)
+        }
+        _ => chosen_places(alloc, store, condition),
     }
 }
 
@@ -281,14 +287,38 @@ fn value_places(
     Ok(set)
 }
 
+/// The places of the rows whose value is in a run. No other value is asked.
+fn run_places(
+    alloc: Global,
+    store: &Store,
+    field: Field,
+    how: Comparison,
+    operand: &Value,
+) -> Result<PlaceSet, NoMemory>
+    requires { is_run how ≡ true }
+    ensures { IfOk result (λ set. Selects (has set) (λ row. option_map_or (compares how operand.now) (value_of row field) false) store.now) }
+{
+    let mut set = PlaceSet::new(alloc);
+    let _rows = store.len();
+    let _values = store.values(field);
+    let run = run_of(store, field, how, operand);
+    let mut near = 0;
+    for i in run.first..run.end {
+        let (_, places, _) = store.term_near(field, i, &mut near);
+        set.add_all(places)?;
+    }
+    Ok(set)
+}
+
 /// The places of the rows whose value is chosen; each value is asked once.
 fn chosen_places(alloc: Global, store: &Store, condition: &Condition) -> Result<PlaceSet, NoMemory>
     ensures { IfOk result (λ set. Selects (has set) (has_value condition.now) store.now) }
 {
     let mut set = PlaceSet::new(alloc);
     let _rows = store.len();
+    let mut near = 0;
     for i in 0..store.values(condition.field) {
-        let (value, places, _) = store.term_at(condition.field, i);
+        let (value, places, _) = store.term_near(condition.field, i, &mut near);
         if condition.test.chooses(value) {
             set.add_all(places)?;
         }

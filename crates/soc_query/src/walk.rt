@@ -65,9 +65,10 @@ fn walk_values<'a, L: Ledger>(
 {
     let values = store.values(first_sort(sorts).field);
     let mut enough = is_enough(rows.len(), query);
+    let mut near = 0;
     let mut i = 0;
     while i < values && !enough {
-        add_nth(alloc, store, sorts, set, i, rows, steps)?;
+        add_nth(alloc, store, sorts, set, i, &mut near, rows, steps)?;
         enough = is_enough(rows.len(), query);
         i += 1;
     }
@@ -81,6 +82,7 @@ fn add_nth<'a, L: Ledger>(
     sorts: &[Sort],
     set: &Option<PlaceSet>,
     i: usize,
+    near: &mut usize,
     rows: &mut Vec<&'a Row>,
     steps: &mut Steps<L>,
 ) -> Result<(), NoMemory>
@@ -89,7 +91,7 @@ fn add_nth<'a, L: Ledger>(
         × OnOk result (map (λ row. row.now) rows.new.items ≡ map (λ row. row.now) rows.old.items ++ in_order (row_order (others_of sorts.now)) (valued v sorts.now (map (λ s. s.1) (filter (λ s. selected set.now s.0) store.now))))
         × (steps.new ≤ steps.old + length (valued v sorts.now (map (λ s. s.1) (filter (λ s. selected set.now s.0) store.now)))) }
 {
-    let places = nth_places(store, first_sort(sorts), i);
+    let places = nth_places(store, first_sort(sorts), i, near);
     add_group(alloc, store, set, other_sorts(sorts), places, rows, steps)
 }
 
@@ -150,12 +152,12 @@ fn is_enough(rows: usize, query: &Query) -> bool
 }
 
 /// The places of the rows that have the `i`th value of a field, in the order that is asked.
-fn nth_places(store: &Store, sort: Sort, i: usize) -> &[u32]
+fn nth_places<'a>(store: &'a Store, sort: Sort, i: usize, near: &mut usize) -> &'a [u32]
     requires { i < length (values_of sort.field store.now) }
     ensures { (v : Value) × (slice_get (walk_of sort.falling (values_of sort.field store.now)) i ≡ Some v) × (result.now ≡ places_of sort.field v store.now) }
 {
     let index = walk_index(store.values(sort.field), sort.falling, i);
-    let (_, places, _) = store.term_at(sort.field, index);
+    let (_, places, _) = store.term_near(sort.field, index, near);
     places
 }
 

@@ -1,7 +1,9 @@
 -- What counting one more leaves.
 use Rattle.std.proofs.Common.{◌≡◌, ℕ, ◌+◌, ◌-◌, ◌<◌, ◌≤◌, ltb, [], List, Option, None, Some, Ok, Err, length, set, get_or, ap, sym, subst, ◌∙◌, refl, arith, ◌∷◌}
 use Rattle.std.specs.Prelude.{insert, remove}
-use Rattle.std.proofs.lemmas.List.{get_or_default}
+use Rattle.smallvec.specs.SmallVec.{SmallVec, with_items}
+use Rattle.smallvec.proofs.SmallVecLemmas.{items-with_items}
+use Rattle.std.proofs.lemmas.List.{get_or_default, length-set}
 use Rattle.soc_store.specs.Orders.{product_cmp}
 use Rattle.soc_store.specs.Stored.{counted, one_more}
 use Rattle.soc_store.specs.inner.Postings.{uncounted, one_less, AreCounts}
@@ -90,3 +92,31 @@ module _ (found cs : List ProductCount) (p : Option (List ℕ)) (i : ℕ) (same 
   uncounted_gap place =
       let here : FindsKey product product_cmp p cs (Err i) = subst (λ es. FindsKey product product_cmp p es (Err i)) same place in
       sym (prune_gap product product_total p one_less cs i here.0 here.1)
+
+-- the same where a count is written through a slice
+module _ (v : SmallVec ProductCount) (found shown lent : List ProductCount) (p : Option (List ℕ)) (i : ℕ) (c d : ProductCount) (f : found ≡ v.items) (s : shown ≡ v.items) (l : lent ≡ v.items)
+    (rising : Rising (λ (c : ProductCount). c.product) product_cmp v.items) (place : FindsKey (λ (c : ProductCount). c.product) product_cmp p found (Ok i)) (at_c : c ≡ get_or shown i c) (at_d : d ≡ get_or lent i d) where
+  written : (e : ProductCount) → (with_items v (set lent i e)).items ≡ set v.items i e
+  written e = items-with_items v (set lent i e) (length-set lent i e ∙ ap length l) ∙ ap (λ (cs : List ProductCount). set cs i e) l
+
+  c_there : c ≡ get_or v.items i c
+  c_there = subst (λ (cs : List ProductCount). c ≡ get_or cs i c) s at_c
+
+  d_there : d ≡ get_or v.items i d
+  d_there = subst (λ (cs : List ProductCount). d ≡ get_or cs i d) l at_d
+
+  same_there : (e : ProductCount) → get_or lent i e ≡ d
+  same_there e =
+      let lt : i < length lent = subst (λ (cs : List ProductCount). i < length cs) (f ∙ sym l) place.0 in
+      get_or_default lent i e d lt ∙ sym at_d
+
+  pub counted_written : (e : ProductCount) (more : ℕ) → more ≡ (get_or shown i c).count + 1 → (with_items v (set lent i (record { product = (get_or lent i e).product; count = more }))).items ≡ counted p v.items
+  counted_written e more is =
+      ap (λ (u : ProductCount). (with_items v (set lent i (record { product = u.product; count = more }))).items) (same_there e)
+      ∙ written (record { product = d.product; count = more }) ∙ counted_found found v.items p i c d more f rising place c_there d_there (is ∙ ap (λ (e : ProductCount). e.count + 1) (sym at_c))
+
+  pub uncounted_written : (e g : ProductCount) → 1 < (get_or shown i c).count → (with_items v (set lent i (record { product = (get_or lent i e).product; count = (get_or lent i g).count - 1 }))).items ≡ uncounted p v.items
+  uncounted_written e g more =
+      ap (λ (u : ProductCount). (with_items v (set lent i (record { product = u.product; count = (get_or lent i g).count - 1 }))).items) (same_there e)
+      ∙ ap (λ (u : ProductCount). (with_items v (set lent i (record { product = d.product; count = u.count - 1 }))).items) (same_there g)
+      ∙ written (record { product = d.product; count = d.count - 1 }) ∙ uncounted_less found v.items p i f c d rising place c_there d_there (subst (λ (e : ProductCount). 1 < e.count) (sym at_c) more)

@@ -4,7 +4,6 @@ use Rattle.std.specs.Prelude.{insert, remove, slice_get, option_map}
 use Rattle.std.proofs.lemmas.Option.{slice_get-map, slice_get-get_or}
 use Rattle.std.specs.declared.cmp.Ordering.TheVariants.{Less, Equal, Greater}
 use Rattle.std.specs.List.{AllWithin, AllByRecursion}
-use Rattle.std.proofs.lemmas.List.{get_or-map, length-map, map-set}
 use Rattle.soc_schema.specs.declared.value.Value.{Value}
 use Rattle.soc_store.specs.Orders.{value_cmp}
 use Rattle.soc_store.specs.Tables.{Rising, FindsKey}
@@ -112,85 +111,85 @@ remove-set [] i x = refl
 remove-set (y ∷ ys) zero x = refl
 remove-set (y ∷ ys) (suc i) x = ap (λ t. y ∷ t) (remove-set ys i x)
 
-module _ {B : Type 0} (val : B → Posting) (bs : List B) (v : Value) (i : ℕ) where
-  at_map : (b : B) → i < length bs → b ≡ get_or bs i b → val b ≡ get_or (map val bs) i (val b)
-  at_map b lt is = ap val is ∙ sym (get_or-map val bs i b (val b) lt)
-
-  there : (b : B) → FindsKey (λ (t : Posting). t.value) value_cmp v (map val bs) (Ok i) → b ≡ get_or bs i b → val b ≡ get_or (map val bs) i (val b)
-  there b place is = at_map b (subst (λ n. i < n) (length-map bs val) place.0) is
-
-  in_map : i < length bs → i < length (map val bs)
-  in_map lt = subst (λ n. i < n) (sym (length-map bs val)) lt
-
+module _ (ts : List Posting) (v : Value) (i : ℕ) where
   -- a step of a binary search
-  pub less_terms : (b : B) → Rising (λ (t : Posting). t.value) value_cmp (map val bs) → i < length bs → b ≡ get_or bs i b → value_cmp (val b).value v ≡ Less → AllWithin (λ (t : Posting). value_cmp t.value v ≡ Less) (map val bs) 0 (i + 1)
-  less_terms b rising lt is less = below_from value value_total v (map val bs) i (val b) rising (in_map lt) (subst (λ u. value_cmp (value u) v ≡ Less) (at_map b lt is) less)
+  pub less_terms : (t : Posting) → Rising (λ (t : Posting). t.value) value_cmp ts → i < length ts → t ≡ get_or ts i t → value_cmp t.value v ≡ Less → AllWithin (λ (t : Posting). value_cmp t.value v ≡ Less) ts 0 (i + 1)
+  less_terms t rising lt is less = below_from value value_total v ts i t rising lt (subst (λ u. value_cmp (value u) v ≡ Less) is less)
 
-  pub greater_terms : (b : B) → Rising (λ (t : Posting). t.value) value_cmp (map val bs) → i < length bs → b ≡ get_or bs i b → value_cmp (val b).value v ≡ Greater → AllWithin (λ (t : Posting). value_cmp t.value v ≡ Greater) (map val bs) i (length (map val bs))
-  greater_terms b rising lt is greater = above_from value value_total v (map val bs) i (val b) rising (in_map lt) (subst (λ u. value_cmp (value u) v ≡ Greater) (at_map b lt is) greater)
+  pub greater_terms : (t : Posting) → Rising (λ (t : Posting). t.value) value_cmp ts → i < length ts → t ≡ get_or ts i t → value_cmp t.value v ≡ Greater → AllWithin (λ (t : Posting). value_cmp t.value v ≡ Greater) ts i (length ts)
+  greater_terms t rising lt is greater = above_from value value_total v ts i t rising lt (subst (λ u. value_cmp (value u) v ≡ Greater) is greater)
 
-  pub equal_terms : (b : B) → i < length bs → b ≡ get_or bs i b → value_cmp (val b).value v ≡ Equal → FindsKey (λ (t : Posting). t.value) value_cmp v (map val bs) (Ok i)
-  equal_terms b lt is equal = (in_map lt, equal_at value value_total v (map val bs) i (val b) (in_map lt) (at_map b lt is) equal)
+  pub equal_terms : (t : Posting) → i < length ts → t ≡ get_or ts i t → value_cmp t.value v ≡ Equal → FindsKey (λ (t : Posting). t.value) value_cmp v ts (Ok i)
+  equal_terms t lt is equal = (lt, equal_at value value_total v ts i t lt is equal)
+
+  tied : (t : Posting) → FindsKey (λ (t : Posting). t.value) value_cmp v ts (Ok i) → t ≡ get_or ts i t → value_cmp t.value v ≡ Equal
+  tied t place is = subst (λ u. value_cmp (value u) v ≡ Equal) (sym is) (place.1 t)
 
   -- the posting that is there gets one more row
-  pub added_found : (p : ℕ) (k : Option (List ℕ)) (b b' : B) → Rising (λ (t : Posting). t.value) value_cmp (map val bs) → FindsKey (λ (t : Posting). t.value) value_cmp v (map val bs) (Ok i)
-      → b ≡ get_or bs i b → val b' ≡ posted (val b).value p k (Some (val b)) → map val (set bs i b') ≡ with_posting (Some v) p k (map val bs)
-  added_found p k b b' rising place is new =
-      let at = there b place is in
-      let tied : value_cmp (val b).value v ≡ Equal = subst (λ u. value_cmp (value u) v ≡ Equal) (sym at) (place.1 (val b)) in
-      map-set val bs i b'
-      ∙ ap (λ t. set (map val bs) i t) (new ∙ ap (λ u. posted u p k (Some (val b))) (value_exact (val b).value v tied))
-      ∙ sym (alter_found value value_total v (posted v p k) (map val bs) i (val b) rising place.0 at tied)
+  pub added_found : (p : ℕ) (k : Option (List ℕ)) (t t' : Posting) → Rising (λ (t : Posting). t.value) value_cmp ts → FindsKey (λ (t : Posting). t.value) value_cmp v ts (Ok i)
+      → t ≡ get_or ts i t → t' ≡ posted t.value p k (Some t) → set ts i t' ≡ with_posting (Some v) p k ts
+  added_found p k t t' rising place is new =
+      ap (λ u. set ts i u) (new ∙ ap (λ u. posted u p k (Some t)) (value_exact t.value v (tied t place is)))
+      ∙ sym (alter_found value value_total v (posted v p k) ts i t rising place.0 is (tied t place is))
 
   -- or nothing
-  pub kept_found : (b b' : B) → FindsKey (λ (t : Posting). t.value) value_cmp v (map val bs) (Ok i) → b ≡ get_or bs i b → val b' ≡ val b → map val (set bs i b') ≡ map val bs
-  kept_found b b' place is same =
-      map-set val bs i b' ∙ ap (λ t. set (map val bs) i t) same ∙ set_itself (map val bs) i (val b) place.0 (there b place is)
+  pub kept_found : (t t' : Posting) → FindsKey (λ (t : Posting). t.value) value_cmp v ts (Ok i) → t ≡ get_or ts i t → t' ≡ t → set ts i t' ≡ ts
+  kept_found t t' place is same = ap (λ u. set ts i u) same ∙ set_itself ts i t place.0 is
 
   -- a posting of one row is put in
-  pub added_gap : (p : ℕ) (k : Option (List ℕ)) (b : B) → FindsKey (λ (t : Posting). t.value) value_cmp v (map val bs) (Err i) → val b ≡ posted v p k None → map val (insert bs i b) ≡ with_posting (Some v) p k (map val bs)
-  added_gap p k b place new =
-      map-insert val bs i b ∙ ap (λ t. insert (map val bs) i t) new ∙ sym (alter_gap value value_total v (posted v p k) (map val bs) i place.0 place.1)
+  pub added_gap : (p : ℕ) (k : Option (List ℕ)) (t : Posting) → FindsKey (λ (t : Posting). t.value) value_cmp v ts (Err i) → t ≡ posted v p k None → insert ts i t ≡ with_posting (Some v) p k ts
+  added_gap p k t place new = ap (λ u. insert ts i u) new ∙ sym (alter_gap value value_total v (posted v p k) ts i place.0 place.1)
 
   -- the posting that is there has one row less
-  pub taken_found : (p : ℕ) (k : Option (List ℕ)) (b b' : B) → Rising (λ (t : Posting). t.value) value_cmp (map val bs) → FindsKey (λ (t : Posting). t.value) value_cmp v (map val bs) (Ok i)
-      → b ≡ get_or bs i b → val b' ≡ shrunk p k (val b) → (val b').places ≢ [] → map val (set bs i b') ≡ without_posting (Some v) p k (map val bs)
-  taken_found p k b b' rising place is new some =
-      let at = there b place is in
-      let tied : value_cmp (val b).value v ≡ Equal = subst (λ u. value_cmp (value u) v ≡ Equal) (sym at) (place.1 (val b)) in
-      let left : without_place p (val b).places ≢ [] = λ e. some (ap (λ t. t.places) new ∙ e) in
-      map-set val bs i b' ∙ ap (λ t. set (map val bs) i t) new
-      ∙ sym (prune_shrinks value value_total v (unposted p k) (map val bs) i (val b) (shrunk p k (val b)) rising place.0 at tied (any_left (without_place p (val b).places) (shrunk p k (val b)) left))
+  pub taken_found : (p : ℕ) (k : Option (List ℕ)) (t t' : Posting) → Rising (λ (t : Posting). t.value) value_cmp ts → FindsKey (λ (t : Posting). t.value) value_cmp v ts (Ok i)
+      → t ≡ get_or ts i t → t' ≡ shrunk p k t → t'.places ≢ [] → set ts i t' ≡ without_posting (Some v) p k ts
+  taken_found p k t t' rising place is new some =
+      let left : without_place p t.places ≢ [] = λ e. some (ap (λ u. u.places) new ∙ e) in
+      ap (λ u. set ts i u) new
+      ∙ sym (prune_shrinks value value_total v (unposted p k) ts i t (shrunk p k t) rising place.0 is (tied t place is) (any_left (without_place p t.places) (shrunk p k t) left))
 
   -- or none, and goes
-  pub gone_found : (p : ℕ) (k : Option (List ℕ)) (b b' : B) → Rising (λ (t : Posting). t.value) value_cmp (map val bs) → FindsKey (λ (t : Posting). t.value) value_cmp v (map val bs) (Ok i)
-      → b ≡ get_or bs i b → val b' ≡ shrunk p k (val b) → (val b').places ≡ [] → map val (remove (set bs i b') i) ≡ without_posting (Some v) p k (map val bs)
-  gone_found p k b b' rising place is new none =
-      let at = there b place is in
-      let tied : value_cmp (val b).value v ≡ Equal = subst (λ u. value_cmp (value u) v ≡ Equal) (sym at) (place.1 (val b)) in
-      ap (map val) (remove-set bs i b') ∙ map-remove val bs i
-      ∙ sym (prune_goes value value_total v (unposted p k) (map val bs) i (val b) rising place.0 at tied (none_left (without_place p (val b).places) (shrunk p k (val b)) (sym (ap (λ t. t.places) new) ∙ none)))
+  pub gone_found : (p : ℕ) (k : Option (List ℕ)) (t t' : Posting) → Rising (λ (t : Posting). t.value) value_cmp ts → FindsKey (λ (t : Posting). t.value) value_cmp v ts (Ok i)
+      → t ≡ get_or ts i t → t' ≡ shrunk p k t → t'.places ≡ [] → remove (set ts i t') i ≡ without_posting (Some v) p k ts
+  gone_found p k t t' rising place is new none =
+      remove-set ts i t'
+      ∙ sym (prune_goes value value_total v (unposted p k) ts i t rising place.0 is (tied t place is) (none_left (without_place p t.places) (shrunk p k t) (sym (ap (λ u. u.places) new) ∙ none)))
 
-  pub taken_gap : (p : ℕ) (k : Option (List ℕ)) → FindsKey (λ (t : Posting). t.value) value_cmp v (map val bs) (Err i) → map val bs ≡ without_posting (Some v) p k (map val bs)
-  taken_gap p k place = sym (prune_gap value value_total v (unposted p k) (map val bs) i place.0 place.1)
+  pub taken_gap : (p : ℕ) (k : Option (List ℕ)) → FindsKey (λ (t : Posting). t.value) value_cmp v ts (Err i) → ts ≡ without_posting (Some v) p k ts
+  taken_gap p k place = sym (prune_gap value value_total v (unposted p k) ts i place.0 place.1)
 
   -- what a look-up finds
-  pub found_at : (b : B) → Rising (λ (t : Posting). t.value) value_cmp (map val bs) → FindsKey (λ (t : Posting). t.value) value_cmp v (map val bs) (Ok i) → b ≡ get_or bs i b → at_key (λ (t : Posting). t.value) value_cmp v (map val bs) ≡ Some (val b)
-  found_at b rising place is =
-      let at = there b place is in
-      at_key-found value value_total v (map val bs) i (val b) rising place.0 at (subst (λ u. value_cmp (value u) v ≡ Equal) (sym at) (place.1 (val b)))
+  pub found_at : (t : Posting) → Rising (λ (t : Posting). t.value) value_cmp ts → FindsKey (λ (t : Posting). t.value) value_cmp v ts (Ok i) → t ≡ get_or ts i t → at_key (λ (t : Posting). t.value) value_cmp v ts ≡ Some t
+  found_at t rising place is = at_key-found value value_total v ts i t rising place.0 is (tied t place is)
 
-  pub missing_at : FindsKey (λ (t : Posting). t.value) value_cmp v (map val bs) (Err i) → at_key (λ (t : Posting). t.value) value_cmp v (map val bs) ≡ None
-  missing_at place = at_key-gap value value_total v (map val bs) i place.0 place.1
+  pub missing_at : FindsKey (λ (t : Posting). t.value) value_cmp v ts (Err i) → at_key (λ (t : Posting). t.value) value_cmp v ts ≡ None
+  missing_at place = at_key-gap value value_total v ts i place.0 place.1
 
-  pub value_there : (b : B) (ts : List Posting) → map val bs ≡ ts → i < length ts → b ≡ get_or bs i b → slice_get (map (λ (t : Posting). t.value) ts) i ≡ Some (val b).value
-  value_there b ts view lt is =
-      let in_bs : i < length bs = subst (λ n. i < n) (ap length (sym view) ∙ length-map bs val) lt in
-      let at : get_or ts i (val b) ≡ val b = ap (λ l. get_or l i (val b)) (sym view) ∙ sym (at_map b in_bs is) in
-      slice_get-map value ts i ∙ ap (option_map value) (slice_get-get_or ts i (val b) lt) ∙ ap (λ t. Some (value t)) at
+-- what stands at a place
+pub item_there : (t : Posting) (view ts : List Posting) (i : ℕ) → view ≡ ts → i < length ts → t ≡ get_or view i t → slice_get ts i ≡ Some t
+item_there t view ts i same lt is = slice_get-get_or ts i t lt ∙ ap Some (ap (λ l. get_or l i t) (sym same) ∙ sym is)
 
-  pub term_there : (b : B) (ts : List Posting) → Rising (λ (t : Posting). t.value) value_cmp (map val bs) → map val bs ≡ ts → i < length ts → b ≡ get_or bs i b → at_key (λ (t : Posting). t.value) value_cmp (val b).value ts ≡ Some (val b)
-  term_there b ts rising view lt is =
-      let in_bs : i < length bs = subst (λ n. i < n) (ap length (sym view) ∙ length-map bs val) lt in
-      ap (at_key value value_cmp (val b).value) (sym view)
-      ∙ at_key-found value value_total (val b).value (map val bs) i (val b) rising (in_map in_bs) (at_map b in_bs is) (tied_itself value_total (val b).value)
+pub value_there : (t : Posting) (view ts : List Posting) (i : ℕ) → view ≡ ts → i < length ts → t ≡ get_or view i t → slice_get (map (λ (t : Posting). t.value) ts) i ≡ Some t.value
+value_there t view ts i same lt is = slice_get-map value ts i ∙ ap (option_map value) (item_there t view ts i same lt is)
+
+pub count_there : (t : Posting) (view ts : List Posting) (i n : ℕ) → view ≡ ts → i < length ts → t ≡ get_or view i t → n ≡ length t.places → IfSome (slice_get ts i) (λ (u : Posting). n ≡ length u.places)
+count_there t view ts i n same lt is count = rw (item_there t view ts i same lt is) count
+
+-- a posting that stands there is found by its value
+pub found_there : (t : Posting) (ts : List Posting) (i : ℕ) → Rising (λ (t : Posting). t.value) value_cmp ts → i < length ts → slice_get ts i ≡ Some t → at_key (λ (t : Posting). t.value) value_cmp t.value ts ≡ Some t
+found_there t ts i rising lt is =
+    let there : Some (get_or ts i t) ≡ Some t = sym (slice_get-get_or ts i t lt) ∙ is in
+    let at : t ≡ get_or ts i t = cc in
+    at_key-found value value_total t.value ts i t rising lt at (tied_itself value_total t.value)
+
+pub value_of_item : (t : Posting) (ts : List Posting) (i : ℕ) → slice_get ts i ≡ Some t → slice_get (map (λ (t : Posting). t.value) ts) i ≡ Some t.value
+value_of_item t ts i is = slice_get-map value ts i ∙ ap (option_map value) is
+
+-- and its rows are those of its value
+pub count_found : (ts : List Posting) (i n : ℕ) → Rising (λ (t : Posting). t.value) value_cmp ts → i < length ts → IfSome (slice_get ts i) (λ (t : Posting). n ≡ length t.places)
+    → IfSome (slice_get (map (λ (t : Posting). t.value) ts) i) (λ v. n ≡ length (places_in (at_key (λ (t : Posting). t.value) value_cmp v ts)))
+count_found ts i n rising lt given = rw (slice_get-map value ts i) (found (slice_get ts i) refl given)
+  where
+    found : (o : Option Posting) → slice_get ts i ≡ o → IfSome o (λ (t : Posting). n ≡ length t.places) → IfSome (option_map value o) (λ v. n ≡ length (places_in (at_key (λ (t : Posting). t.value) value_cmp v ts)))
+    found None is count = tt
+    found (Some t) is count = count ∙ ap (λ o. length (places_in o)) (sym (found_there t ts i rising lt is))

@@ -1,7 +1,11 @@
 pub mod CountLemmas
+pub mod CountedLemmas
 pub mod DistinctLemmas
 pub mod IndexLemmas
+pub mod KeyLemmas
 pub mod OrderLemmas
+pub mod PartLemmas
+pub mod PartSteps
 pub mod PlaceLemmas
 pub mod RowIndexLemmas
 pub mod StoreLemmas

@@ -121,3 +121,10 @@ order-without_place p (q ∷ qs) order =
 pub some_place : (p : ℕ) (ps : List ℕ) → with_place p ps ≢ []
 some_place p [] = λ e. cc
 some_place p (q ∷ qs) = cond_both (ltb p q) (p ∷ q ∷ qs) (q ∷ with_place p qs) (λ l. l ≢ []) (λ _ e. cc) (λ _ e. cc)
+
+-- a place that was put in and goes again leaves the places as they were
+pub put_back : (ps : List ℕ) (i p : ℕ) → i ≤ length ps → remove (insert ps i p) i ≡ ps
+put_back [] zero p le = refl
+put_back [] (suc i) p le = absurd (omega arith)
+put_back (q ∷ qs) zero p le = refl
+put_back (q ∷ qs) (suc i) p le = ap (λ l. q ∷ l) (put_back qs i p (omega arith))

@@ -10,6 +10,7 @@ use Rattle.std.proofs.lemmas.Map.Lookups.{exact_unsigned}
 use Rattle.std.proofs.lemmas.Bool.{lt-ltb, le-ltb, eq-eqb, ne_eqb}
 use Rattle.soc_schema.specs.Rows.{value_of}
 use Rattle.std.specs.List.{AllByRecursion}
+use Rattle.std.specs.Option.{IfSome}
 use Rattle.std.proofs.lemmas.List.{get_or_default, length-map, get_or-map, map-set, take_all}
 use Rattle.std.proofs.lemmas.Option.{slice_get-map, slice_get-get_or}
 use Rattle.soc_schema.specs.declared.value.Value.{Value}
@@ -46,6 +47,15 @@ module _ (fields : List (List Posting)) (rows now : List (ℕ × List Cell)) (ke
 
   pub counts_kept : (v : Value) → counts_in (at_key (λ (t : Posting). t.value) value_cmp v (get_or fields at old)) ≡ counts_of f v now
   counts_kept v = ap (λ ts. counts_in (at_key value value_cmp v ts)) field_kept ∙ (tells_rows f v now (subst PlacesRise view kept.0)).1
+
+  pub rows_kept : (i n : ℕ) → IfSome (slice_get (map (λ (t : Posting). t.value) (get_or fields at old)) i) (λ v. n ≡ length (places_in (at_key (λ (t : Posting). t.value) value_cmp v (get_or fields at old))))
+      → IfSome (slice_get (values_of f now) i) (λ v. n ≡ length (places_of f v now))
+  rows_kept i n given =
+      subst (λ vs. IfSome (slice_get vs i) (λ v. n ≡ length (places_of f v now))) values_kept (each (slice_get (map value (get_or fields at old)) i) given)
+    where
+      each : (o : Option Value) → IfSome o (λ v. n ≡ length (places_in (at_key (λ (t : Posting). t.value) value_cmp v (get_or fields at old)))) → IfSome o (λ v. n ≡ length (places_of f v now))
+      each None h = tt
+      each (Some v) h = h ∙ ap length (places_kept v)
 
 pub place_there : {E : Type 0} (place : E → ℕ) (row : E → List Cell) (es : List E) (now : List (ℕ × List Cell)) (i : ℕ) (e : E) → rows_in place row es ≡ now → i < length now → e ≡ get_or es i e → slice_get (map (λ s. s.0) now) i ≡ Some (place e)
 place_there {E = E} place row es now i e view lt is =

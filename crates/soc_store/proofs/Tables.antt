@@ -98,7 +98,7 @@ module _ {E K : Type 0} (key : E → K) {R : K → K → Ordering} (o : IsTotalO
   equal_at k es m w lt is equal d = subst (λ u. R (key u) k ≡ Equal) (is ∙ get_or_default es m w d lt) equal
 
   -- a key below all is not there
-  at_key-below : (k : K) (es : List E) → AllByRecursion (λ x. R k (key x) ≡ Less) es → at_key key R k es ≡ None
+  pub at_key-below : (k : K) (es : List E) → AllByRecursion (λ x. R k (key x) ≡ Less) es → at_key key R k es ≡ None
   at_key-below k [] all = refl
   at_key-below k (e ∷ es) all = ap (λ r. cond (is_eq r) (Some e) (at_key key R k es)) all.0 ∙ at_key-below k es all.1
 

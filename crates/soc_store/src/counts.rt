@@ -7,12 +7,13 @@ ghost use Rattle.soc_store.specs.Stored.{counted};
 ghost use Rattle.soc_store.specs.Tables.{FindsKey, Rising};
 
 use crate::order::compare_products;
+use smallvec::SmallVec;
 use soc_raw::{NoMemory, Text};
 use std::alloc::Global;
 use std::cmp::Ordering;
 
 /// How many rows there are of a product, or without one.
-#[derive(Debug, Drop)]
+#[derive(Debug, Default, Drop)]
 pub struct ProductCount {
     /// The product, where there is one.
     pub product: Option<Text>,
@@ -20,10 +21,13 @@ pub struct ProductCount {
     pub count: u64,
 }
 
+/// Counts of products. Most values have rows of one product alone, whose count needs no memory of its own.
+pub(crate) type Counts = SmallVec<ProductCount, 1>;
+
 /// Counts one more of the product.
 pub(crate) fn count_one(
     alloc: Global,
-    counts: &mut Vec<ProductCount>,
+    counts: &mut Counts,
     product: Option<&str>,
 ) -> Result<(), NoMemory>
     requires { Rising (λ c. c.product) product_cmp counts.old.items }
@@ -32,10 +36,10 @@ pub(crate) fn count_one(
 {
     match place_in(counts.as_slice(), product) {
         Ok(i) => {
-            let Some(more) = counts[i].count.checked_add(1) else {
+            let Some(more) = counts.as_slice()[i].count.checked_add(1) else {
                 return Err(NoMemory);
             };
-            counts[i].count = more;
+            counts.as_mut_slice()[i].count = more;
         }
         Err(i) => {
             let product = copy_of(alloc, product)?;
@@ -46,13 +50,13 @@ pub(crate) fn count_one(
 }
 
 /// Counts one less of the product.
-pub(crate) fn count_less(counts: &mut Vec<ProductCount>, product: Option<&str>)
+pub(crate) fn count_less(counts: &mut Counts, product: Option<&str>)
     requires { Rising (λ c. c.product) product_cmp counts.old.items }
     ensures { counts.new.items ≡ uncounted (option_copied product.entry) counts.old.items }
 {
     if let Ok(i) = place_in(counts.as_slice(), product) {
-        if counts[i].count > 1 {
-            counts[i].count -= 1;
+        if counts.as_slice()[i].count > 1 {
+            counts.as_mut_slice()[i].count -= 1;
         } else {
             let _ = counts.remove(i);
         }

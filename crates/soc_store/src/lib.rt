@@ -1,10 +1,14 @@
 //! Rows at places, with the places of each value and the running counts by product.
 #![tactic(auto)]
 
+mod block;
 mod counts;
 mod index;
+mod key;
 mod order;
+mod parts;
 mod rows;
+mod slot;
 mod store;
 mod term;
 mod values;

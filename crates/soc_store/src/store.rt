@@ -93,8 +93,32 @@ impl Store {
         ensures places { result.1.now ≡ places_of field result.0.now self.now }
         ensures counts { result.2.now ≡ counts_of field result.0.now self.now }
     {
-        let term = self.fields[usize::from(field.place())].term_at(i);
+        self.term_near(field, i, &mut 0)
+    }
+
+    /// The same, which is found at once where `near` is what the call for the value before it left there, and else in
+    /// a logarithm.
+    pub fn term_near(
+        &self,
+        field: Field,
+        i: usize,
+        near: &mut usize,
+    ) -> (&Value, &[u32], &[ProductCount])
+        requires { i < length (values_of field self.now) }
+        ensures value { slice_get (values_of field self.now) i ≡ Some result.0.now }
+        ensures places { result.1.now ≡ places_of field result.0.now self.now }
+        ensures counts { result.2.now ≡ counts_of field result.0.now self.now }
+    {
+        let term = self.fields[usize::from(field.place())].term_near(i, near);
         (term.value(), term.places(), term.counts())
+    }
+
+    /// How many rows have the `i`th value, from 0, which is found as by `term_near`.
+    pub fn count_near(&self, field: Field, i: usize, near: &mut usize) -> usize
+        requires { i < length (values_of field self.now) }
+        ensures { IfSome (slice_get (values_of field self.now) i) (λ v. result ≡ length (places_of field v self.now)) }
+    {
+        self.fields[usize::from(field.place())].count_near(i, near)
     }
 
     /// The places of the rows that have the value, in rising order.

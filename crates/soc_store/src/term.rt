@@ -3,18 +3,22 @@ ghost use Rattle.std.specs.Prelude.{◌≡◌, ◌<◌, ◌≤◌, ℕ, List, []
 ghost use Rattle.std.specs.Option.{option_copied};
 ghost use Rattle.soc_store.specs.inner.Postings.{PlacesInOrder, posted, shrunk, without_place};
 
-use crate::counts::{ProductCount, count_less, count_one};
+use crate::counts::{Counts, ProductCount, count_less, count_one};
+use smallvec::SmallVec;
 use soc_raw::NoMemory;
 use soc_schema::Value;
 use std::alloc::Global;
 use std::marker::Model;
 
+/// The places of rows. Most values have few rows, whose places need no memory of their own.
+type Places = SmallVec<u32, 4>;
+
 /// A value, the places of the rows that have it in rising order, and how many of them there are of each product.
 #[derive(Debug, Drop)]
 pub(crate) struct Term {
     value: Value,
-    places: Vec<u32>,
-    counts: Vec<ProductCount>,
+    places: Places,
+    counts: Counts,
 }
 
 impl Model for Term {
@@ -39,9 +43,9 @@ impl Term {
     ) -> Result<Term, NoMemory>
         ensures { IfOk result (λ term. term ≡ posted value.now place (option_copied product.entry) None) }
     {
-        let mut places = Vec::new(alloc);
+        let mut places: Places = SmallVec::new(alloc);
         places.push(place)?;
-        let mut counts = Vec::new(alloc);
+        let mut counts: Counts = SmallVec::new(alloc);
         count_one(alloc, &mut counts, product)?;
         Ok(Term {
             value: value.copy(alloc)?,
@@ -60,7 +64,7 @@ impl Term {
         ensures ok { OnOk result (self.new ≡ posted self.old.value place (option_copied product.entry) (Some self.old)) }
         ensures err { OnErr result (self.new ≡ self.old) }
     {
-        let i = place_after(&self.places, place);
+        let i = place_after(self.places.as_slice(), place);
         self.places.insert(i, place)?;
         match count_one(alloc, &mut self.counts, product) {
             Ok(()) => Ok(()),
@@ -104,11 +108,11 @@ impl Term {
 }
 
 /// Takes a place out, where it stands.
-fn remove_place(places: &mut Vec<u32>, place: u32)
+fn remove_place(places: &mut Places, place: u32)
     requires { PlacesInOrder places.old.items }
     ensures { places.new.items ≡ without_place place places.old.items }
 {
-    if let Ok(i) = places.binary_search(&place) {
+    if let Ok(i) = places.as_slice().binary_search(&place) {
         let _ = places.remove(i);
     }
 }

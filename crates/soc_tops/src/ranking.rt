@@ -34,8 +34,9 @@ pub(crate) fn counts_among(
     // That places rise in a store is told by this call.
     let _rows = store.len();
     let mut counts = Vec::new(alloc);
+    let mut near = 0;
     for i in 0..store.values(Field::SIGNATURE) {
-        let (_, having, _) = store.term_at(Field::SIGNATURE, i);
+        let (_, having, _) = store.term_near(Field::SIGNATURE, i, &mut near);
         counts.push(count_among(places, having))?;
     }
     Ok(counts)

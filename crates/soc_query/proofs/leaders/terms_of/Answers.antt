@@ -1,4 +1,4 @@
-use Rattle.std.proofs.Common.{arith, ap, sym}
+use Rattle.std.proofs.Common.{ap, sym}
 use Rattle.soc_query.proofs.FacetLemmas.{term_more}
 use Rattle.soc_query.proofs.leaders.terms_of.Goals as goal
 

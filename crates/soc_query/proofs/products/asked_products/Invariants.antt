@@ -1,4 +1,4 @@
-use Rattle.std.proofs.Common.{◌≡◌, Some, map, take}
+use Rattle.std.proofs.Common.{Some, map, take}
 use Rattle.std.specs.List.{AllByRecursion}
 use Rattle.soc_schema.specs.Fields.{product_field}
 use Rattle.soc_store.specs.Stored.{values_of}

@@ -11,9 +11,9 @@ loop-i-preserved c =
     let f = c.args.condition.now.field in
     let vs = values_of f c.args.store.now in
     elim c.if-chooses.branch [
-      | then-chooses+in_ok-add_all w ↦ chosen_more (has c.loop-i.set) (has c.if-chooses.set) f (chosen c.args.condition.now.test) c.args.store.now vs c.loop-i.i c.term_at.result.0.now c.term_at.result.1.now c.term_at.ensures.value (sym c.chooses.ensures ∙ w.if-chooses.true) c.term_at.ensures.places
+      | then-chooses+in_ok-add_all w ↦ chosen_more (has c.loop-i.set) (has c.if-chooses.set) f (chosen c.args.condition.now.test) c.args.store.now vs c.loop-i.i c.term_near.result.0.now c.term_near.result.1.now c.term_near.ensures.value (sym c.chooses.ensures ∙ w.if-chooses.true) c.term_near.ensures.places
           (λ p. ap (λ s. has s p) w.set-is ∙ w.in_ok-add_all.ensures p) c.loop-i.invariant
-      | else-chooses w ↦ chosen_over (has c.loop-i.set) (has c.if-chooses.set) f (chosen c.args.condition.now.test) c.args.store.now vs c.loop-i.i c.term_at.result.0.now c.term_at.ensures.value (sym c.chooses.ensures ∙ w.if-chooses.false)
+      | else-chooses w ↦ chosen_over (has c.loop-i.set) (has c.if-chooses.set) f (chosen c.args.condition.now.test) c.args.store.now vs c.loop-i.i c.term_near.result.0.now c.term_near.ensures.value (sym c.chooses.ensures ∙ w.if-chooses.false)
           (λ p. ap (λ s. has s p) w.set-is) c.loop-i.invariant
     ]
 

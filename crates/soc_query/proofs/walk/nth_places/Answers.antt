@@ -6,9 +6,9 @@ use Rattle.soc_query.proofs.walk.nth_places.Goals as goal
 pub returns : goal.returns
 returns c =
     let sort = c.args.sort in (
-      c.term_at.result.0.now,
-      value_walked sort.falling (values_of sort.field c.args.store.now) c.args.i c.walk_index-index.result c.term_at.result.0.now c.requires
+      c.term_near.result.0.now,
+      value_walked sort.falling (values_of sort.field c.args.store.now) c.args.i c.walk_index-index.result c.term_near.result.0.now c.requires
           (c.walk_index-index.ensures.value ∙ ap (λ n. cond sort.falling (n - 1 - c.args.i) c.args.i) c.values.ensures.count)
-          c.term_at.ensures.value,
-      c.term_at.ensures.places,
+          c.term_near.ensures.value,
+      c.term_near.ensures.places,
     )

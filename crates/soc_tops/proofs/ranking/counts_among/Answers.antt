@@ -7,8 +7,8 @@ use Rattle.soc_tops.proofs.ranking.counts_among.Goals as goal
 
 pub loop-i-preserved : goal.loop-i-preserved
 loop-i-preserved c =
-    mapped_at (λ v. count_by (stands_in c.args.places.now) (places_of signature_field v c.args.store.now)) (values_of signature_field c.args.store.now) c.loop-i.i c.term_at.result.0.now c.count_among.result c.loop-i.counts.items c.push.new.self.items c.term_at.ensures.value
-    (c.count_among.ensures ∙ ap (count_by (stands_in c.args.places.now)) c.term_at.ensures.places)
+    mapped_at (λ v. count_by (stands_in c.args.places.now) (places_of signature_field v c.args.store.now)) (values_of signature_field c.args.store.now) c.loop-i.i c.term_near.result.0.now c.count_among.result c.loop-i.counts.items c.push.new.self.items c.term_near.ensures.value
+    (c.count_among.ensures ∙ ap (count_by (stands_in c.args.places.now)) c.term_near.ensures.places)
     c.loop-i.invariant c.in_ok-push.ensures.items
 
 pub returns : goal.returns

@@ -1,43 +1,13 @@
-use Rattle.std.proofs.Common.{◌≡◌, ◌∙◌, sym, subst, ap, Some, Ok, Err, map}
+use Rattle.std.proofs.Common.{◌≡◌, subst}
+use Rattle.std.specs.Prelude.{OnOk, OnErr, Some}
 use Rattle.std.specs.Option.{option_copied}
-use Rattle.std.proofs.lemmas.Result.{err_from_is_err_and}
-use Rattle.soc_store.specs.inner.Postings.{Posting, posted, with_posting}
-use Rattle.soc_store.specs.Orders.{value_cmp}
-use Rattle.soc_store.specs.Tables.{Rising, FindsKey}
-use Rattle.soc_store.proofs.IndexLemmas.{added_found, kept_found, added_gap, rising_posting, value}
+use Rattle.soc_store.specs.inner.Parts.{postings_in}
+use Rattle.soc_store.specs.inner.Postings.{with_posting}
 use Rattle.soc_store.proofs.index.Index.add.Goals as goal
 
-added : (c : goal.In_ok-add-in-Ok) → map (λ b. b.value) (Rattle.std.specs.Vec.with_item c.self.inside.terms c.in-Ok.i (Rattle.std.specs.Box.with_value c.index_mut.result.now c.add.new.self)).items ≡ with_posting (Some c.args.value.now) c.args.place (option_copied c.args.product) (map (λ b. b.value) c.self.inside.terms.items)
-added c =
-    let place = subst (λ bs. FindsKey value value_cmp c.args.value.now (map (λ b. b.value) bs) (Ok c.in-Ok.i)) c.as_slice.ensures.value c.in-Ok.ensures in
-    added_found (λ b. b.value) c.self.inside.terms.items c.args.value.now c.in-Ok.i c.args.place (option_copied c.args.product) c.index_mut.result.now (Rattle.std.specs.Box.with_value c.index_mut.result.now c.add.new.self) c.self.invariant place c.index_mut.ensures.value
-    (c.in_ok-add-in-Ok.ensures.ok ∙ ap (λ (t : Posting). posted t.value c.args.place (option_copied c.args.product) (Some t)) c.deref_mut-term.ensures.value)
+pub returns-clause-ok : goal.returns-clause-ok
+returns-clause-ok c =
+    subst (λ ts. OnOk c.add_value.result (postings_in c.add_value.new.parts.items ≡ with_posting (Some c.args.value.now) c.args.place (option_copied c.args.product) ts)) c.self.view_is c.add_value.ensures.ok
 
-put : (c : goal.In_ok-insert-in-Err) → map (λ b. b.value) c.insert.new.self.items ≡ with_posting (Some c.args.value.now) c.args.place (option_copied c.args.product) (map (λ b. b.value) c.self.inside.terms.items)
-put c =
-    let place = subst (λ bs. FindsKey value value_cmp c.args.value.now (map (λ b. b.value) bs) (Err c.in-Err.i)) c.as_slice.ensures.value c.in-Err.ensures in
-    ap (map (λ b. b.value)) c.in_ok-insert-in-Err.ensures.items
-    ∙ added_gap (λ b. b.value) c.self.inside.terms.items c.args.value.now c.in-Err.i c.args.place (option_copied c.args.product) c.in_ok-term-in-Err.term place (c.in_ok-term-in-Err.ensures.ok ∙ c.in_ok-new-in-Err.ensures)
-
-kept : (c : goal.After-from_residual) → map (λ b. b.value) (Rattle.std.specs.Vec.with_item c.self.inside.terms c.in-Ok.i (Rattle.std.specs.Box.with_value c.index_mut.result.now c.add.new.self)).items ≡ map (λ b. b.value) c.self.inside.terms.items
-kept c =
-    let place = subst (λ bs. FindsKey value value_cmp c.args.value.now (map (λ b. b.value) bs) (Ok c.in-Ok.i)) c.as_slice.ensures.value c.in-Ok.ensures in
-    kept_found (λ b. b.value) c.self.inside.terms.items c.args.value.now c.in-Ok.i c.index_mut.result.now (Rattle.std.specs.Box.with_value c.index_mut.result.now c.add.new.self) place c.index_mut.ensures.value (c.in_err-add-in-Ok.ensures.err ∙ c.deref_mut-term.ensures.value)
-
-pub invariant_of-self : goal.invariant_of-self
-invariant_of-self c = subst (Rising value value_cmp) (sym (added c)) (rising_posting (Some c.args.value.now) c.args.place (option_copied c.args.product) (map (λ b. b.value) c.self.inside.terms.items) c.self.invariant)
-
-pub invariant_of-self-in_err-add-in-Ok : goal.invariant_of-self-in_err-add-in-Ok
-invariant_of-self-in_err-add-in-Ok c = subst (Rising value value_cmp) (sym (kept c)) c.self.invariant
-
-pub returns-in_err-add-in-Ok-clause-err : goal.returns-in_err-add-in-Ok-clause-err
-returns-in_err-add-in-Ok-clause-err c = rw ((err_from_is_err_and c.from_residual.result c.from_residual.ensures.1).1) (kept c ∙ c.self.view_is)
-
-pub invariant_of-self-in_ok-insert-in-Err : goal.invariant_of-self-in_ok-insert-in-Err
-invariant_of-self-in_ok-insert-in-Err c = subst (Rising value value_cmp) (sym (put c)) (rising_posting (Some c.args.value.now) c.args.place (option_copied c.args.product) (map (λ b. b.value) c.self.inside.terms.items) c.self.invariant)
-
-pub returns-in_ok-add-in-Ok-clause-ok : goal.returns-in_ok-add-in-Ok-clause-ok
-returns-in_ok-add-in-Ok-clause-ok c = added c ∙ ap (with_posting (Some c.args.value.now) c.args.place (option_copied c.args.product)) c.self.view_is
-
-pub returns-in_ok-insert-in-Err-clause-ok : goal.returns-in_ok-insert-in-Err-clause-ok
-returns-in_ok-insert-in-Err-clause-ok c = put c ∙ ap (with_posting (Some c.args.value.now) c.args.place (option_copied c.args.product)) c.self.view_is
+pub returns-clause-err : goal.returns-clause-err
+returns-clause-err c = subst (λ ts. OnErr c.add_value.result (postings_in c.add_value.new.parts.items ≡ ts)) c.self.view_is c.add_value.ensures.err

@@ -1,17 +1,12 @@
-use Rattle.std.proofs.Common.{◌∙◌, ap, sym, subst, Some, Ok, Err, map}
+use Rattle.std.proofs.Common.{◌∙◌, ap}
 use Rattle.soc_store.specs.Orders.{value_cmp}
-use Rattle.soc_store.specs.Tables.{FindsKey, at_key}
-use Rattle.soc_store.proofs.IndexLemmas.{found_at, missing_at, value}
+use Rattle.soc_store.specs.Tables.{at_key}
+use Rattle.soc_store.proofs.IndexLemmas.{value}
+use Rattle.soc_store.proofs.PartSteps.{found_at_part}
 use Rattle.soc_store.proofs.index.Index.term.Goals as goal
 
-pub returns-in-Ok : goal.returns-in-Ok
-returns-in-Ok c =
-    let place = subst (λ bs. FindsKey value value_cmp c.args.value.now (map (λ b. b.value) bs) (Ok c.in-Ok.i)) c.as_slice.ensures.value c.in-Ok.ensures in
-    ap Some c.deref.ensures ∙ sym (found_at (λ b. b.value) c.self.inside.terms.items c.args.value.now c.in-Ok.i c.index.result.now c.self.invariant place c.index.ensures)
-    ∙ ap (at_key value value_cmp c.args.value.now) c.self.view_is
-
-pub returns-in-Err : goal.returns-in-Err
-returns-in-Err c =
-    let place = subst (λ bs. FindsKey value value_cmp c.args.value.now (map (λ b. b.value) bs) (Err c.in-Err.field-0)) c.as_slice.ensures.value c.in-Err.ensures in
-    sym (missing_at (λ b. b.value) c.self.inside.terms.items c.args.value.now c.in-Err.field-0 place)
+pub returns : goal.returns
+returns c =
+    c.term.ensures
+    ∙ found_at_part c.deref.result.now c.self.inside.parts.items c.part_of-k.result c.index.result.now c.index.result.now c.args.value.now c.deref.ensures.value c.part_of-k.ensures.within c.part_of-k.ensures.before c.part_of-k.ensures.after c.index.ensures
     ∙ ap (at_key value value_cmp c.args.value.now) c.self.view_is
