@@ -6,8 +6,6 @@ mod around;
 mod context;
 mod machine;
 mod places;
-#[cfg(test)]
-mod tests;
 
 pub use arm64::Arm64;
 pub use machine::arm64_machine;

@@ -34,7 +34,7 @@ use soc_vault::{Found, Recover, Vault};
 use std::alloc::Global;
 
 /// What the journal of a disk says: its log, without contents, and the rows of the reports that count.
-#[derive(Debug, Drop)]
+#[derive(Drop)]
 pub struct Restored {
     journal: Journal,
     ledger: Ledger,

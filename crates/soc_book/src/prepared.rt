@@ -15,7 +15,7 @@ use std::marker::Model;
 ///
 /// Only the commands that write take memory here. Where an allocation failed, the turn answers `NoMemory`. Contracts see
 /// the command alone.
-#[derive(Debug, Drop)]
+#[derive(Drop)]
 pub struct Prepared {
     pub(crate) work: Work,
 }
@@ -32,7 +32,7 @@ impl Model for Prepared {
 }
 
 /// A command with what is computed of it.
-#[derive(Debug, Drop)]
+#[derive(Drop)]
 pub(crate) enum Work {
     Submit {
         raw: RawCrash,

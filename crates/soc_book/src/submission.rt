@@ -87,7 +87,7 @@ fn digest_behind(bytes: &[u8], place: usize) -> [u8; 32]
 }
 
 /// A crash that is submitted.
-#[derive(Debug, Drop)]
+#[derive(Drop)]
 pub(crate) struct Submission {
     pub(crate) new: NewCrash,
     /// Its entry, of which the body is its record.

@@ -2,8 +2,8 @@
 use Rattle.std.proofs.Common.{◌≡◌, ℕ, ◌+◌, ◌-◌, ◌≤◌, min, Option, Some, None, IfSome, List, length, take, drop, ◌∙◌, ap, subst, arith}
 use Rattle.std.proofs.lemmas.List.{length-take, take-take, drop-take, drop-drop}
 use Rattle.std.proofs.lemmas.Option.{IfSome_then}
-use Rattle.soc_edge.specs.Disk.{ReadsAt}
-use Rattle.soc_edge.specs.Windows.{window_size, Covers, IsWindow}
+use Rattle.soc_edge.specs.Disk.{ReadsAt, DiskTold, GoesOn, Looks, MayTear}
+use Rattle.soc_edge.specs.Windows.{Ahead, window_size, ahead_told, Covers, IsWindow}
 
 -- what is copied out of a window that holds all that is wanted, or all that the disk has there
 module _ (from held : ℕ) (window : List ℕ) (size : length window ≡ window_size) (low : held ≤ window_size) (place count : ℕ) (into : List ℕ) (behind : from ≤ place) (within : place ≤ from + held)
@@ -42,3 +42,40 @@ read_covered told seen same from held window is place count wanted into covers s
     let P : Option (List ℕ) → Type 0 = λ t. IfSome t (λ bytes. ReadsAt bytes place count into) in
     subst P same (read_held from held window is.size is.within place count into covers.behind within copies told is.reads
     (IfSome_then told is.reads (λ bytes reads. omega (arith, covers.behind, covers.ends, size))))
+
+-- ---- what the disk tells, with a count of calls of its own
+
+GoesOn-ahead : (before after : DiskTold) (m n : ℕ) → GoesOn before after → GoesOn (ahead_told before m) (ahead_told after n)
+GoesOn-ahead before after m n on = record {
+  later = on.later;
+  keeps = on.keeps;
+  nothing_else = on.nothing_else;
+  wider = on.wider;
+  faults_never_fall = on.faults_never_fall;
+}
+
+Looks-ahead : (before after : DiskTold) (m n : ℕ) → Looks before after → Looks (ahead_told before m) (ahead_told after n)
+Looks-ahead before after m n looks = record {
+  same = looks.same;
+  images = looks.images;
+  any_moment = record { each = looks.any_moment.each };
+  goes_on = GoesOn-ahead before after m n looks.goes_on;
+}
+
+MayTear-ahead : (place count : ℕ) (before after : DiskTold) (m n : ℕ) → MayTear place count before after → MayTear place count (ahead_told before m) (ahead_told after n)
+MayTear-ahead place count before after m n tears = record {
+  images = tears.images;
+  any_moment = record { each = tears.any_moment.each };
+  goes_on = GoesOn-ahead before after m n tears.goes_on;
+}
+
+module _ {D : Type 0} (state : D → DiskTold) (inside seen : Ahead D) (view_is : inside ≡ seen) (after : DiskTold) (n : ℕ) where
+  pub Looks-seen : Looks (state inside.disk) after → Looks (ahead_told (state seen.disk) seen.calls) (ahead_told after n)
+  Looks-seen looks =
+      let P : Ahead D → Type 0 = λ a. Looks (ahead_told (state a.disk) a.calls) (ahead_told after n) in
+      subst P view_is (Looks-ahead (state inside.disk) after inside.calls n looks)
+
+  pub MayTear-seen : (place count : ℕ) → MayTear place count (state inside.disk) after → MayTear place count (ahead_told (state seen.disk) seen.calls) (ahead_told after n)
+  MayTear-seen place count tears =
+      let P : Ahead D → Type 0 = λ a. MayTear place count (ahead_told (state a.disk) a.calls) (ahead_told after n) in
+      subst P view_is (MayTear-ahead place count (state inside.disk) after inside.calls n tears)

@@ -4,7 +4,7 @@ ghost use Rattle.soc_edge.specs.Told.{joined};
 use crate::{Failed, Sink, Source, Tells};
 
 /// Joins a source and a sink, as the two directions of a connection.
-#[derive(Debug, Drop)]
+#[derive(Drop)]
 pub struct Both<S, K> {
     /// What is read.
     pub source: S,

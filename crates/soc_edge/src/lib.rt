@@ -16,8 +16,6 @@ mod sink;
 mod source;
 mod steps;
 mod tells;
-#[cfg(test)]
-mod tests;
 mod tree;
 mod whole;
 

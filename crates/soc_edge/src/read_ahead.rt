@@ -5,9 +5,6 @@ ghost use Rattle.soc_edge.specs.Calls.{one_more};
 ghost use Rattle.soc_edge.specs.Disk.{written, Tears, ReadsAt, WhereTold, Only, Looks, MayTear, DiskFailed};
 ghost use Rattle.soc_edge.specs.Windows.{window_size, ahead_told, Covers, IsFilled, IsWindow, IsDisk-ahead};
 
-#[cfg(test)]
-mod tests;
-
 use crate::{Disk, Failed};
 use soc_raw::NoMemory;
 use std::alloc::Global;
@@ -21,7 +18,7 @@ const WINDOW: usize = 65_536;
 /// large ones. A write drops the window.
 ///
 /// It tells what the disk tells, but counts its own calls.
-#[derive(Debug, Drop)]
+#[derive(Drop)]
 pub struct ReadAhead<D: Disk> {
     disk: D,
     window: Window,
@@ -29,7 +26,7 @@ pub struct ReadAhead<D: Disk> {
 }
 
 // Bytes of a disk from a place on.
-#[derive(Debug, Drop)]
+#[derive(Drop)]
 struct Window {
     bytes: Vec<u8>,
     from: u64,
@@ -103,8 +100,7 @@ impl<D: Disk> Disk for ReadAhead<D> {
         if into.len() > WINDOW {
             return self.disk.read_at(place, into);
         }
-        self.window.fill(&mut self.disk, place)?;
-        Ok(self.window.copy_to(place, into))
+        self.window.read(&mut self.disk, place, into)
     }
 
     fn write_at(&mut self, place: u64, bytes: &[u8]) -> Result<(), Failed> {
@@ -151,6 +147,22 @@ impl Window {
         self.held = disk.read_at(place, self.bytes.as_mut_slice())?;
         self.from = place;
         Ok(())
+    }
+
+    // Holds what the disk has from a place on, and copies as much of it as there is room for.
+    fn read<D: Disk>(&mut self, disk: &mut D, place: u64, into: &mut [u8]) -> Result<usize, Failed>
+        requires size { vec_len self.old.bytes ≡ window_size }
+        requires short { length into.old ≤ window_size }
+        ensures sound { IsWindow (D.state disk.new).content self.new.from self.new.held self.new.bytes.items }
+        ensures count { IfOk result (λ n. n ≤ length into.new) }
+        ensures bytes { IfOk result (λ n. IfSome (D.state disk.old).content (λ bytes. ReadsAt bytes place n into.new)) }
+        ensures filled { OnOk result (IsFilled (D.state disk.old).content place self.new.from self.new.held) }
+        ensures looks { Looks (D.state disk.old) (D.state disk.new) }
+        ensures calls { (D.state disk.new).calls ≡ one_more (D.state disk.old).calls }
+        ensures cause { OnErr result (DiskFailed (D.state disk.old) (D.state disk.new)) }
+    {
+        self.fill(disk, place)?;
+        Ok(self.copy_to(place, into))
     }
 
     // Copies what is held from a place on, and answers how many bytes.

@@ -6,12 +6,13 @@ use Rattle.std.proofs.lemmas.Bool.{cases_eq}
 use Rattle.std.proofs.lemmas.Bool.Decides.{nat_tests}
 use Rattle.std.proofs.lemmas.List.{take_all, length-drop}
 use Rattle.soc_edge.proofs.Disks.{LeavesOnly-append, LeavesOnly-weaker}
-use Rattle.soc_edge.specs.Disk.{written, Tears, WhereTold, Follows, Only, DiskTold, LeavesOnly, IsTorn, MayTear}
+use Rattle.soc_edge.specs.Disk.{written, Tears, WhereTold, Follows, Only, DiskTold, IsDisk, LeavesOnly, IsTorn, MayTear}
 use Rattle.soc_journal.specs.Entries.{Entry, IsEntryOf, has_kind, open_gate, closed_gate, first_version, second_version, entry_text, place_behind, sealed}
 use Rattle.soc_journal.specs.declared.error.AppendError.{AppendError}
 use Rattle.soc_journal.specs.declared.error.AppendError.TheVariants.{StoreFault, JournalFull}
 use Rattle.soc_journal.specs.States.{JournalState, AtRest, InDoubt}
 use Rattle.soc_journal.specs.Text.{version_of, JournalText, EitherText}
+use Rattle.soc_journal.proofs.Options.{IfSome-always}
 use Rattle.soc_journal.proofs.Texts.{behind_gate, sealed_behind, front_of, length-front_of, front_of-push, version_of-front, begins_front, front_begins, AllByRecursion-push, place_behind-push}
 use Rattle.soc_journal.proofs.Ranges.{Tears-wider, Tears-append, WhereTold-map, WhereTold-append, MayTear-wider, MayTear-append, opened_told}
 use Rattle.soc_journal.proofs.Torn.{torn_behind, written_behind, torn_byte, written_byte}
@@ -297,3 +298,10 @@ pub behind_slice : (text : List ℕ) (entry : Entry) → text ≡ sealed entry �
 unfolding behind_gate
 behind_slice text entry is =
     take_all (length text - 1) (drop 1 text) (omega (arith, length-drop 1 text)) ∙ ap (λ (x : List ℕ). drop 1 x) is
+
+-- a disk that wasn't touched
+pub any_none : (disk : DiskTold) → IsDisk disk → (journal : JournalState) (entry : Entry)
+    → IfSome disk.content (λ bytes. (entries : List Entry) → AtRest journal entries bytes disk.images → LeavesOnly disk disk (EitherText entries entry))
+any_none disk sound journal entry = IfSome-always disk.content _ (λ bytes entries rest. record {
+  each = λ image left. inl (subst (λ (b : List ℕ). JournalText entries b) (sym (rest.only image (sound.only_now image left))) rest.text);
+})

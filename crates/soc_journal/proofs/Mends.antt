@@ -1,6 +1,8 @@
 -- What the journal holds once a doubt is settled.
-use Rattle.std.proofs.Common.{◌≡◌, inl, inr, ℕ, ◌+◌, Bool, true, false, IsTrue, ◌↔◌, List, [], ◌∷◌, ◌++◌, length, Option, Some, None, IfSome, slice_get, refl, sym, ◌∙◌, ap, subst, arith}
+use Rattle.std.proofs.Common.{◌≡◌, inl, inr, ℕ, ◌+◌, Bool, true, false, IsTrue, ◌↔◌, List, [], ◌∷◌, ◌++◌, length, take, drop, Option, Some, None, Result, Ok, Err, IfSome, IfOk, slice_get, refl, suc, zero, sym, ◌∙◌, ap, subst, arith}
 use Rattle.soc_edge.specs.Disk.{Only}
+use Rattle.soc_edge.specs.declared.failed.Failed.{Failed}
+use Rattle.soc_journal.specs.Bodies.{ReadsFrom}
 use Rattle.soc_journal.specs.Entries.{Entry, open_gate, entry_text, place_behind}
 use Rattle.soc_journal.specs.States.{JournalState, AtRest, InDoubt, ReadsOpen}
 use Rattle.soc_journal.specs.Text.{version_of, JournalText}
@@ -10,6 +12,25 @@ use Rattle.soc_journal.proofs.Texts.{front_of, length-front_of, front_of-push, b
 slice_get_seam : (front : List ℕ) (byte : ℕ) (rest : List ℕ) → slice_get (front ++ byte ∷ rest) (length front) ≡ Some byte
 slice_get_seam [] byte rest = refl
 slice_get_seam (first ∷ front) byte rest = slice_get_seam front byte rest
+
+-- one byte stands at a place
+reads_one : (bytes : List ℕ) (place byte : ℕ) → (take 1 (drop place bytes) ≡ byte ∷ []) ↔ (slice_get bytes place ≡ Some byte)
+reads_one [] zero byte = (λ e. cc, λ e. cc)
+reads_one [] (suc place) byte = (λ e. cc, λ e. cc)
+reads_one (x ∷ bytes) zero byte = (λ e. cc, λ e. cc)
+reads_one (x ∷ bytes) (suc place) byte = reads_one bytes place byte
+
+opens_read : (told : Option (List ℕ)) (place : ℕ) (answer : Bool) → IfSome told (λ bytes. IsTrue answer ↔ ReadsFrom bytes place (open_gate ∷ [])) → IfSome told (λ bytes. IsTrue answer ↔ ReadsOpen bytes place)
+opens_read None place answer reads = tt
+opens_read (Some bytes) place answer reads =
+    let one = reads_one bytes place open_gate in
+    (λ yes. one.0 (reads.0 yes), λ opened. reads.1 (one.1 opened))
+
+-- a gate reads open where the byte of an open gate is read there
+pub opens_told : (before told : Option (List ℕ)) → told ≡ before → (place : ℕ) (answer : Result Bool Failed)
+    → IfOk answer (λ reads. IfSome told (λ bytes. IsTrue reads ↔ ReadsFrom bytes place (open_gate ∷ []))) → IfOk answer (λ is_open. IfSome before (λ bytes. IsTrue is_open ↔ ReadsOpen bytes place))
+opens_told before told same place (Err failed) reads = tt
+opens_told before told same place (Ok answer) reads = subst (λ t. IfSome t (λ bytes. IsTrue answer ↔ ReadsOpen bytes place)) same (opens_read told place answer reads)
 
 -- the byte behind the header and some entries
 byte_at_gate : (version : ℕ) (entries : List Entry) (byte : ℕ) (rest bytes : List ℕ) → bytes ≡ front_of version entries ++ byte ∷ rest → slice_get bytes (place_behind entries) ≡ Some byte

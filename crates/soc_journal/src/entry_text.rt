@@ -1,7 +1,8 @@
 //! An entry as it is written.
-ghost use Rattle.std.specs.Prelude.{◌≡◌, ◌-◌, ◌≤◌, length, take, drop, IsTrue, IfOk};
+ghost use Rattle.std.specs.Prelude.{◌≡◌, ◌-◌, ◌≤◌, ◌∷◌, length, take, drop, IsTrue, IfOk};
+ghost use Rattle.std.specs.Int.{to_le_bytes, w32};
 ghost use Rattle.soc_raw.specs.RawCrash.{record_text};
-ghost use Rattle.soc_journal.specs.Entries.{IsEntryOf, accept_kind, beside_body, has_kind, head_size, second_version, max_body, sealed};
+ghost use Rattle.soc_journal.specs.Entries.{IsEntryOf, accept_kind, open_gate, beside_body, has_kind, head_size, second_version, max_body, sealed};
 
 use crate::format::{ACCEPT, CLOSED_GATE, ENTRY_HEAD, OPEN_GATE};
 use soc_raw::{NoMemory, RawCrash};
@@ -10,7 +11,7 @@ use std::marker::Model;
 
 /// The text of one entry, with the closed gate that stands behind it once it is in a journal. Contracts see the entry:
 /// its kind and its body.
-#[derive(Debug, Drop)]
+#[derive(Drop)]
 pub struct EntryText {
     text: Vec<u8>,
 }
@@ -33,10 +34,7 @@ impl EntryText {
         requires short { length body.now ≤ max_body }
         ensures { IfOk result (λ entry. entry ≡ record { kind = kind; body = body.now }) }
     {
-        let mut text = Vec::with_capacity(alloc, ENTRY_HEAD + body.len() + 1)?;
-        text.push(OPEN_GATE)?;
-        text.push(kind)?;
-        text.extend_from_slice(&(body.len() as u32).to_le_bytes())?;
+        let mut text = head(alloc, kind, body.len() as u32)?;
         text.extend_from_slice(body)?;
         text.push(CLOSED_GATE)?;
         Ok(EntryText { text })
@@ -47,11 +45,7 @@ impl EntryText {
         ensures { IfOk result (λ entry. entry ≡ record { kind = accept_kind; body = record_text raw.now }) }
     {
         raw.is_crash();
-        let length = raw.record_len();
-        let mut text = Vec::with_capacity(alloc, ENTRY_HEAD + length + 1)?;
-        text.push(OPEN_GATE)?;
-        text.push(ACCEPT)?;
-        text.extend_from_slice(&(length as u32).to_le_bytes())?;
+        let mut text = head(alloc, ACCEPT, raw.record_len() as u32)?;
         raw.encode_into(&mut text)?;
         text.push(CLOSED_GATE)?;
         Ok(EntryText { text })
@@ -71,6 +65,17 @@ impl EntryText {
     {
         self.text.as_slice()
     }
+}
+
+/// What stands before a body of so many bytes, with room for the body and for the closed gate behind it.
+fn head(alloc: Global, kind: u8, length: u32) -> Result<Vec<u8>, NoMemory>
+    ensures { IfOk result (λ text. text.items ≡ open_gate ∷ kind ∷ to_le_bytes w32 length) }
+{
+    let mut text = Vec::with_capacity(alloc, ENTRY_HEAD + length as usize + 1)?;
+    text.push(OPEN_GATE)?;
+    text.push(kind)?;
+    text.extend_from_slice(&length.to_le_bytes())?;
+    Ok(text)
 }
 
 /// The body in an entry's text: what stands between its head and the closed gate behind it.

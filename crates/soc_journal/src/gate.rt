@@ -8,7 +8,7 @@ use crate::format::{ENTRY_HEAD, MAX_BODY, OPEN_GATE, has_kind};
 use soc_edge::{Disk, Failed};
 
 /// What the first bytes from a gate on are.
-#[derive(Clone, Copy, Debug)]
+#[derive(Drop)]
 pub enum Front {
     /// A closed gate.
     Shut,
@@ -19,7 +19,7 @@ pub enum Front {
 }
 
 /// What stands at a gate's place.
-#[derive(Clone, Copy, Debug)]
+#[derive(Drop)]
 pub enum AtGate {
     /// The open gate of an entry of a kind that the version has.
     Open { kind: u8, length: u32 },

@@ -9,6 +9,7 @@ ghost use Rattle.soc_journal.specs.States.{AtRest, InDoubt, IsKeptAt, ReadsOpen,
 use crate::entry_text::EntryText;
 use crate::error::AppendError;
 use crate::format::{CLOSED_GATE, EMPTY_JOURNAL, FIRST_GATE, OPEN_GATE};
+use crate::reading::reads_piece;
 use crate::settled::Settled;
 use crate::writing::write_and_sync;
 use soc_edge::{Disk, Failed};
@@ -19,7 +20,7 @@ use std::marker::Model;
 ///
 /// What is said of a disk's content holds where the disk tells it, and where the disk is the one that this journal's
 /// last call has left.
-#[derive(Debug, Drop)]
+#[derive(Drop)]
 pub struct Journal {
     gate: u64,
     limit: u64,
@@ -189,7 +190,5 @@ fn settled_gate<D: Disk>(disk: &mut D, place: u64) -> Result<bool, Failed>
     ensures cause { OnErr result (DiskFailed (D.state disk.old) (D.state disk.new)) }
 {
     disk.sync()?;
-    let mut gate = [CLOSED_GATE];
-    let count = disk.read_at(place, &mut gate)?;
-    Ok(count == 1 && gate[0] == OPEN_GATE)
+    reads_piece(disk, place, &[OPEN_GATE], &mut [CLOSED_GATE])
 }

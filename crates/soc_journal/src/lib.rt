@@ -15,8 +15,6 @@ mod mark;
 mod opening;
 mod reading;
 mod settled;
-#[cfg(test)]
-mod tests;
 mod writing;
 
 pub use entry_text::EntryText;

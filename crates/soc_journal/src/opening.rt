@@ -24,7 +24,7 @@ use std::marker::Model;
 ///
 /// What is said of a disk's content holds where the disk tells it, and where the disk is the one that this opening's last
 /// call has left.
-#[derive(Debug, Drop)]
+#[derive(Drop)]
 pub struct Opening {
     place: u64,
     length: u64,

@@ -101,7 +101,7 @@ fn reads_from<D: Disk>(disk: &mut D, place: u64, text: &[u8]) -> Result<bool, Fa
 }
 
 /// Whether the disk reads as the piece from a place on, which is read into a buffer of its length.
-fn reads_piece<D: Disk>(
+pub(crate) fn reads_piece<D: Disk>(
     disk: &mut D,
     place: u64,
     piece: &[u8],

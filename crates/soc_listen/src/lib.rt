@@ -4,8 +4,6 @@
 mod conn;
 mod listener;
 mod memory;
-#[cfg(test)]
-mod tests;
 
 pub use conn::Conn;
 pub use listener::Listener;

@@ -5,8 +5,6 @@
 mod escape;
 mod report;
 mod search;
-#[cfg(test)]
-mod tests;
 mod tops;
 
 pub use report::report_page;

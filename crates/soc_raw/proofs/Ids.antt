@@ -47,6 +47,18 @@ each_from_at n (x ∷ xs) at =
     let there : each_stands (n + 1) xs ≡ true = each_from_at (n + 1) xs (λ k inside. let e : n + suc k ≡ (n + 1) + k = omega arith in rw e at (at (suc k) (omega arith))) in
     and_both (may_stand n x) (each_stands (n + 1) xs) here there
 
+-- a byte that may not stand where it stands
+pub one_may_not : (text : List ℕ) (i : ℕ) (r : Bool) → i < length text → r ≡ may_stand i (get_or text i 0) → r ≡ false → false ≡ each_stands 0 text
+one_may_not text i r inside is refused =
+    let same : 0 + i ≡ i = omega arith in
+    elim (each_stands 0 text) as (λ e. each_stands 0 text ≡ e → false ≡ e) [
+      | true ↦ λ all. sym refused ∙ is ∙ (rw same at (stands_at 0 text all i inside))
+      | false ↦ λ _. refl
+    ] refl
+
+pub all_may : (text : List ℕ) → ((k : ℕ) → k < length text → may_stand k (get_or text k 0) ≡ true) → true ≡ each_stands 0 text
+all_may text at = sym (each_from_at 0 text (λ k inside. let same : 0 + k ≡ k = omega arith in rw same (at k inside)))
+
 each_append : (n m : ℕ) (xs ys : List ℕ) → m ≡ n + length xs → each_stands n xs ≡ true → each_stands m ys ≡ true → each_stands n (xs ++ ys) ≡ true
 each_append n m [] ys e front back = (let same : n ≡ m = omega arith in rw same back)
 each_append n m (x ∷ xs) ys e front back =

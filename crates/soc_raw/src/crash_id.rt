@@ -163,9 +163,12 @@ fn is_id(text: &[u8]) -> bool
 fn each_may_stand(text: &[u8]) -> bool
     ensures { result ≡ list_all (λ p. may_stand p.0 p.1) (enumerate_from 0 text.now) }
 {
-    text.iter()
-        .enumerate()
-        .all(|(place, byte)| may_stand(place, *byte))
+    for place in 0..text.len() {
+        if !may_stand(place, text[place]) {
+            return false;
+        }
+    }
+    true
 }
 
 /// Whether the byte may stand at the place of an id.

@@ -61,7 +61,9 @@ impl<'a> Cursor<'a> {
     pub fn byte(&mut self) -> Option<u8>
         ensures { Takes (λ b. b) (λ _. ⊤) (λ b. b ∷ []) result self.old self.new }
     {
-        let (first, rest) = self.rest.split_first()?;
+        let Some((first, rest)) = self.rest.split_first() else {
+            return None;
+        };
         self.rest = rest;
         Some(*first)
     }
@@ -71,7 +73,9 @@ impl<'a> Cursor<'a> {
         ensures takes { Takes (λ n. n) (λ n. n < 2 ^ 32) (to_le_bytes w32) result self.old self.new }
         ensures reads { ReadsAs (λ n. n) (number_at w32) result self.old self.new }
     {
-        let (front, rest) = self.rest.split_first_chunk::<4>()?;
+        let Some((front, rest)) = self.rest.split_first_chunk::<4>() else {
+            return None;
+        };
         self.rest = rest;
         Some(u32_of(*front))
     }
@@ -81,7 +85,9 @@ impl<'a> Cursor<'a> {
         ensures takes { Takes (λ n. n) (λ n. n < 2 ^ 64) (to_le_bytes w64) result self.old self.new }
         ensures reads { ReadsAs (λ n. n) (number_at w64) result self.old self.new }
     {
-        let (front, rest) = self.rest.split_first_chunk::<8>()?;
+        let Some((front, rest)) = self.rest.split_first_chunk::<8>() else {
+            return None;
+        };
         self.rest = rest;
         Some(u64_of(*front))
     }
@@ -93,8 +99,12 @@ impl<'a> Cursor<'a> {
         ensures reads { ReadsAs (λ b. b.now) blob_at result self.old self.new }
     {
         let mut ahead = Cursor { rest: self.rest };
-        let count = ahead.u32()?;
-        let bytes = ahead.take(count as usize)?;
+        let Some(count) = ahead.u32() else {
+            return None;
+        };
+        let Some(bytes) = ahead.take(count as usize) else {
+            return None;
+        };
         self.rest = ahead.rest;
         Some(bytes)
     }
@@ -106,7 +116,12 @@ impl<'a> Cursor<'a> {
         ensures reads { ReadsAs (λ t. t.now) text_at result self.old self.new }
     {
         let mut ahead = Cursor { rest: self.rest };
-        let text = text_of(ahead.counted()?)?;
+        let Some(bytes) = ahead.counted() else {
+            return None;
+        };
+        let Some(text) = text_of(bytes) else {
+            return None;
+        };
         self.rest = ahead.rest;
         Some(text)
     }

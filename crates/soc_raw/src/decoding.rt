@@ -1,12 +1,13 @@
 //! A record, read as its parts.
-ghost use Rattle.std.specs.Prelude.{◌≡◌};
-ghost use Rattle.soc_raw.specs.inner.Reading.{Gives, content_at, crash_at};
+ghost use Rattle.std.specs.Prelude.{◌≡◌, None, MatchResult};
+ghost use Rattle.soc_raw.specs.Refusals.{Refuses};
+ghost use Rattle.soc_raw.specs.inner.Reading.{Gives, content_at, crash_at, crash_with};
 ghost use Rattle.soc_raw.specs.inner.Parts.{crash_of_parts};
 
 use crate::blobs::Blobs;
 use crate::crash_id::CrashId;
 use crate::cursor::Cursor;
-use crate::reading::{blobs_at, id_at, moment_at, text_at, texts_at, u64_at};
+use crate::reading::{blobs_at, id_at, moment_at, texts_at};
 use crate::record_error::RecordError;
 use crate::text::Text;
 use crate::texts::Texts;
@@ -23,24 +24,53 @@ pub struct Parts {
     pub dumps: Blobs,
 }
 
+/// What tells one crash from another: what stands before the content of a record.
+#[derive(Drop)]
+struct Head {
+    id: CrashId,
+    moment: u64,
+    draw: u64,
+    rule: Text,
+}
+
 /// The parts of the record that the bytes are.
-#[tactic(auto, unfolding(crate::specs::inner::Reading::crash_at))]
 pub fn parts_of(alloc: Global, bytes: &[u8]) -> Result<Parts, RecordError>
     ensures { Gives crash_of_parts result (crash_at bytes.now) }
 {
     let mut cursor = Cursor::new(bytes);
-    let id = id_at(&mut cursor)?;
-    let moment = moment_at(&mut cursor)?;
-    let draw = u64_at(&mut cursor)?;
-    let rule = text_at(&mut cursor)?;
+    let head = head_at(alloc, &mut cursor)?;
     let (annotations, dumps) = content_at(alloc, &mut cursor)?;
     Ok(Parts {
+        id: head.id,
+        moment: head.moment,
+        draw: head.draw,
+        rule: head.rule,
+        annotations,
+        dumps,
+    })
+}
+
+#[tactic(auto, unfolding(crate::specs::inner::Reading::crash_at))]
+fn head_at(alloc: Global, cursor: &mut Cursor<'_>) -> Result<Head, RecordError>
+    ensures { MatchResult result (λ head. crash_at cursor.old ≡ crash_with head.id head.moment head.draw head.rule cursor.new) (λ e. Refuses e (crash_at cursor.old ≡ None)) }
+{
+    let Some(id) = id_at(cursor) else {
+        return Err(RecordError::BadRecord);
+    };
+    let Some(moment) = moment_at(cursor) else {
+        return Err(RecordError::BadRecord);
+    };
+    let Some(draw) = cursor.u64() else {
+        return Err(RecordError::BadRecord);
+    };
+    let Some(rule) = cursor.text() else {
+        return Err(RecordError::BadRecord);
+    };
+    Ok(Head {
         id,
         moment,
         draw,
         rule: Text::of(alloc, rule)?,
-        annotations,
-        dumps,
     })
 }
 

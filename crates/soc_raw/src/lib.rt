@@ -16,8 +16,6 @@ mod raw_crash;
 mod reading;
 mod record_error;
 mod sorted;
-#[cfg(test)]
-mod tests;
 mod text;
 mod text_list;
 mod texts;

@@ -46,7 +46,9 @@ impl<'a, V> Iterator for NamedValues<'a, V> {
     ghost remaining = { item_count (λ rest. rest) };
 
     fn next(&mut self) -> Option<(&'a str, &'a V)> {
-        let (first, rest) = self.entries.split_first()?;
+        let Some((first, rest)) = self.entries.split_first() else {
+            return None;
+        };
         self.entries = rest;
         Some((first.name.as_str(), &first.value))
     }
@@ -85,8 +87,10 @@ impl<'a> Iterator for TextPairs<'a> {
     ghost remaining = { item_count (λ rest. rest) };
 
     fn next(&mut self) -> Option<(&'a str, &'a str)> {
-        let (name, value) = self.rest.next()?;
-        Some((name, value.as_str()))
+        match self.rest.next() {
+            Some((name, value)) => Some((name, value.as_str())),
+            None => None,
+        }
     }
 }
 
@@ -123,7 +127,9 @@ impl<'a> Iterator for BlobPairs<'a> {
     ghost remaining = { item_count (λ rest. rest) };
 
     fn next(&mut self) -> Option<(&'a str, &'a [u8])> {
-        let (name, value) = self.rest.next()?;
-        Some((name, value.as_slice()))
+        match self.rest.next() {
+            Some((name, value)) => Some((name, value.as_slice())),
+            None => None,
+        }
     }
 }

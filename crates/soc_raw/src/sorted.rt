@@ -1,5 +1,5 @@
 //! Maps from names to values of one type, in rising byte order of names.
-ghost use Rattle.std.specs.Prelude.{◌≡◌, ◌<◌, ◌↔◌, [], length, map, IsTrue, OnOk, OnErr, slice_get};
+ghost use Rattle.std.specs.Prelude.{◌≡◌, ◌<◌, ◌≤◌, ◌↔◌, [], length, map, IsTrue, OnOk, OnErr, slice_get, insert};
 ghost use Rattle.std.specs.Option.{option_copied};
 ghost use Rattle.soc_raw.specs.Names.{byte_cmp, IsRising, value_of, with_value};
 ghost use Rattle.soc_raw.specs.inner.Places.{IsPlaceOf};
@@ -53,6 +53,18 @@ fn place_of<V>(entries: &[Named<V>], name: &str) -> Result<usize, usize>
     Err(low)
 }
 
+/// Puts the entry in at the place.
+fn put_in<V>(entries: &mut Vec<Named<V>>, place: usize, entry: Named<V>) -> Result<(), NoMemory>
+where
+    V: Drop,
+    requires { place ≤ length entries.old.items }
+    ensures ok { OnOk result (entries.new.items ≡ insert entries.old.items place entry) }
+    ensures err { OnErr result (entries.new.items ≡ entries.old.items) }
+{
+    entries.insert(place, entry)?;
+    Ok(())
+}
+
 impl<V> Sorted<V> {
     /// The empty map.
     pub fn new(alloc: Global) -> Sorted<V>
@@ -72,7 +84,7 @@ impl<V> Sorted<V> {
     {
         match place_of(self.entries.as_slice(), name.as_str()) {
             Ok(place) => self.entries[place].value = value,
-            Err(place) => self.entries.insert(place, Named { name, value })?,
+            Err(place) => put_in(&mut self.entries, place, Named { name, value })?,
         }
         Ok(())
     }

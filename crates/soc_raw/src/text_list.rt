@@ -120,7 +120,9 @@ impl<'a> Iterator for TextItems<'a> {
     ghost remaining = { item_count (λ rest. rest) };
 
     fn next(&mut self) -> Option<&'a str> {
-        let (first, rest) = self.rest.split_first()?;
+        let Some((first, rest)) = self.rest.split_first() else {
+            return None;
+        };
         self.rest = rest;
         Some(first.as_str())
     }

@@ -1,5 +1,5 @@
 -- Rows as members of an object.
-use Rattle.std.proofs.Common.{◌≡◌, ℕ, List, [], ◌∷◌, false, true, Bool, ◌||◌, refl, sym, ap, ◌∙◌, BTreeMap, String, Global}
+use Rattle.std.proofs.Common.{◌≡◌, ℕ, List, ◌∷◌, false, true, Bool, ◌||◌, refl, sym, ap, ◌∙◌, BTreeMap, String, Global}
 use Rattle.std.specs.Ordering.{match_ordering}
 use Rattle.std.specs.declared.cmp.Ordering.{Ordering}
 use Rattle.std.specs.declared.cmp.Ordering.TheVariants.{Less, Equal, Greater}
@@ -62,14 +62,6 @@ pub cells_exact : (members new : Members) (name : List ℕ) (value : Value) → 
     → members_have_float members ≡ false → members_have_float new ≡ false
 cells_exact members new name value is exact =
     ap (λ ms. members_have_float ms) is ∙ put_exact name (data_of value) members (data_exact value) exact
-
--- no cell is left
-pub cells_done : (members : Members) (left all : List Cell) → left ≡ [] → with_cells members left ≡ with_cells no_members all
-    → members_have_float members ≡ false → HasCells all members
-cells_done members left all none so_far exact = record {
-  are = ap (λ l. with_cells members l) (sym none) ∙ so_far;
-  exact = exact;
-}
 
 -- the text of the object
 pub row-text : (m : BTreeMap (String Global) Value') (row : List Cell) (text : List ℕ) → HasCells row (members_view m.entries)

@@ -1,5 +1,6 @@
 -- What holds of the words and the tokens of a token file, along their lists.
-use Rattle.std.proofs.Common.{append_assoc, ◌≡◌, ℕ, ◌+◌, ◌<◌, ◌≤◌, List, [], ◌∷◌, ◌++◌, length, get_or, drop, None, Some, Result, Err, option_and_then, refl, sym, ap, ◌∙◌, arith, length-append, ⊎_elim}
+use Rattle.std.proofs.Common.{◌≡◌, ℕ, ◌+◌, ◌<◌, ◌≤◌, List, [], ◌∷◌, ◌++◌, length, get_or, drop, drop-cons, add-one, cond, false, bytes_eq, None, Some, Result, Err, option_and_then, refl, sym, ap, ◌∙◌, arith, length-append, ⊎_elim}
+use Rattle.std.specs.List.{find}
 use Rattle.std.specs.Option.{option_map_or}
 use Rattle.std.proofs.lemmas.Bool.{le-ltb, cases_lt}
 use Rattle.toml.specs.Data.{Data}
@@ -8,14 +9,19 @@ use Rattle.toml.proofs.Views.{items_view-drop}
 use Rattle.toml.specs.declared.value.Value.{Value}
 use Rattle.soc_schema.specs.declared.permission.Permission.{Permission}
 use Rattle.soc_schema.specs.declared.permission.Permissions.{Permissions}
-use Rattle.soc_schema.specs.Permits.{with_permission}
+use Rattle.soc_schema.specs.declared.permission.Permission.TheVariants.{Public}
+use Rattle.soc_schema.specs.Permits.{permission_name, with_permission}
 use Rattle.soc_schema.specs.declared.token.Token.{Token}
 use Rattle.soc_schema.specs.TokenFile.{permission_named, with_named, next_token, tokens_from}
 
--- one text more is copied
-pub copied_more : (copy more left rest texts : List (List ℕ)) (text read : List ℕ) → left ≡ read ∷ rest → text ≡ read → more ≡ copy ++ text ∷ [] → copy ++ left ≡ texts → more ++ rest ≡ texts
-copied_more copy more left rest texts text read next same pushed so_far =
-    ap (λ c. c ++ rest) pushed ∙ (append_assoc copy (text ∷ []) rest ∙ (ap (λ t. copy ++ t ∷ rest) same ∙ (ap (λ t. copy ++ t) (sym next) ∙ so_far)))
+-- a word behind the permissions that were passed over
+pub named-passed : (word name : List ℕ) (i : ℕ) (permissions : List Permission) → i < length permissions → name ≡ permission_name (get_or permissions i Public) → false ≡ bytes_eq name word → find (λ p. bytes_eq (permission_name p) word) (drop i permissions) ≡ find (λ p. bytes_eq (permission_name p) word) permissions → find (λ p. bytes_eq (permission_name p) word) (drop (i + 1) permissions) ≡ find (λ p. bytes_eq (permission_name p) word) permissions
+named-passed word name i permissions within named differs so_far =
+    let p : Permission = get_or permissions i Public in
+    let rest : List Permission = drop (i + 1) permissions in
+    let first : drop i permissions ≡ p ∷ rest = rw (add-one, drop-cons permissions i Public within) refl in
+    let none : bytes_eq (permission_name p) word ≡ false = sym (differs ∙ ap (λ n. bytes_eq n word) named) in
+    sym (ap (find (λ q. bytes_eq (permission_name q) word)) first ∙ ap (λ b. cond b (Some p) (find (λ q. bytes_eq (permission_name q) word) rest)) none) ∙ so_far
 
 -- a word that names no permission
 pub with_named-refused : (s t : Permissions) (words left rest : List (List ℕ)) (word : List ℕ) → with_named s words ≡ with_named t left → left ≡ word ∷ rest → None ≡ permission_named word → with_named s words ≡ None

@@ -25,6 +25,3 @@ pub use row::{Cells, Row};
 pub use sight::{granted, visible};
 pub use token::{Token, TokenError, Tokens};
 pub use value::{Cell, Value};
-
-#[cfg(test)]
-mod tests;

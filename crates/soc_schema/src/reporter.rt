@@ -1,8 +1,12 @@
 //! What makes a row of a raw crash.
-ghost use Rattle.std.specs.Prelude.{◌≡◌};
+ghost use Rattle.std.specs.Prelude.{◌≡◌, OnOk};
 ghost use Rattle.std.specs.Option.{option_copied};
 ghost use Rattle.soc_raw.specs.RawCrash.{crash_of};
 ghost use Rattle.soc_schema.specs.Reports.{product_of};
+ghost use Rattle.soc_schema.specs.Fields.{kind_of};
+ghost use Rattle.soc_schema.specs.Rows.{with_value};
+ghost use Rattle.soc_schema.specs.declared.value.Value.{Value};
+ghost use Rattle.soc_schema.specs.declared.field.FieldKind.TheVariants.{Text as Words};
 
 use crate::field::Field;
 use crate::row::Row;
@@ -61,13 +65,21 @@ impl Reporter for Bare {
     fn row(&self, alloc: Global, raw: &RawCrash) -> Result<Row, NoMemory> {
         let mut row = Row::new(alloc);
         if let Some(product) = product_of(raw) {
-            row.set(Field::PRODUCT, Value::Text(Text::of(alloc, product)?))?;
+            set_text(alloc, &mut row, Field::PRODUCT, product)?;
         }
-        row.set(Field::UUID, Value::Text(Text::of(alloc, raw.id.as_str())?))?;
+        set_text(alloc, &mut row, Field::UUID, raw.id.as_str())?;
         Ok(row)
     }
 
     fn digest(&self) -> Option<[u8; 32]> {
         None
     }
+}
+
+/// Gives a field of texts this text.
+fn set_text(alloc: Global, row: &mut Row, field: Field, text: &str) -> Result<(), NoMemory>
+    requires { kind_of field ≡ Words }
+    ensures { OnOk result (row.new ≡ with_value row.old field (Value.Text text.now)) }
+{
+    row.set(field, Value::Text(Text::of(alloc, text)?))
 }

@@ -172,7 +172,9 @@ impl<'a> Iterator for Cells<'a> {
     ghost remaining = { item_count (λ rest. rest) };
 
     fn next(&mut self) -> Option<(Field, &'a Value)> {
-        let (first, rest) = self.rest.split_first()?;
+        let Some((first, rest)) = self.rest.split_first() else {
+            return None;
+        };
         self.rest = rest;
         Some((first.field, &first.value))
     }

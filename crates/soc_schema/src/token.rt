@@ -122,16 +122,10 @@ impl Tokens {
         ensures { IfOk result (λ caller. caller ≡ caller_of self.now (option_copied key.entry) public.now) }
     {
         let Some(key) = key else {
-            return Ok(Some(Caller {
-                permissions: Permissions::public(),
-                products: public.share()?,
-            }));
+            return caller_with(Permissions::public(), public);
         };
         match self.with_key(key) {
-            Some(token) => Ok(Some(Caller {
-                permissions: token.permissions,
-                products: token.products.share()?,
-            })),
+            Some(token) => caller_with(token.permissions, &token.products),
             None => Ok(None),
         }
     }
@@ -147,8 +141,22 @@ impl Tokens {
     fn with_key(&self, key: &str) -> Option<&Token>
         ensures { option_copied result ≡ find (λ t. bytes_eq t.key key.now) self.now }
     {
-        self.tokens.iter().find(|token| token.key.as_str() == key)
+        for token in self.tokens.as_slice() {
+            if token.key.as_str() == key {
+                return Some(token);
+            }
+        }
+        None
     }
+}
+
+fn caller_with(permissions: Permissions, products: &Products) -> Result<Option<Caller>, NoMemory>
+    ensures { IfOk result (λ caller. caller ≡ Some (record { permissions = permissions; products = products.now })) }
+{
+    Ok(Some(Caller {
+        permissions,
+        products: products.share()?,
+    }))
 }
 
 fn read_array(alloc: Global, array: &Array) -> Result<Tokens, TokenError>
@@ -196,7 +204,12 @@ fn read_next(alloc: Global, earlier: &[Token], value: &Value) -> Result<Option<T
 fn has_key(tokens: &[Token], key: &str) -> bool
     ensures { result ≡ has_key key.now tokens.now }
 {
-    tokens.iter().any(|token| token.key.as_str() == key)
+    for token in tokens {
+        if token.key.as_str() == key {
+            return true;
+        }
+    }
+    false
 }
 
 fn read_token(alloc: Global, table: &Table) -> Result<Option<Token>, NoMemory>
@@ -256,8 +269,10 @@ fn permissions_named(words: &TextList) -> Option<Permissions>
 fn permission_named(word: &str) -> Option<Permission>
     ensures { result ≡ permission_named word.now }
 {
-    GIVEN_PERMISSIONS
-        .iter()
-        .copied()
-        .find(|permission| permission.name() == word)
+    for permission in &GIVEN_PERMISSIONS {
+        if permission.name() == word {
+            return Some(*permission);
+        }
+    }
+    None
 }

@@ -4,8 +4,6 @@
 mod crew;
 mod door;
 mod shared;
-#[cfg(test)]
-mod tests;
 mod ticket;
 
 pub use crew::side_by_side;

@@ -13,7 +13,7 @@ use std::alloc::Global;
 use std::marker::Model;
 
 /// Makes what `RegexMaker` makes, but for the calls with the numbers that it was given, which fail.
-#[derive(Debug, Drop)]
+#[derive(Drop)]
 pub struct FailingMaker {
     fails: Numbers,
     made: u64,

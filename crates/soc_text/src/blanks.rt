@@ -1,5 +1,5 @@
 //! Blanks: spaces and tabs.
-ghost use Rattle.std.specs.Prelude.{◌≡◌};
+ghost use Rattle.std.specs.Prelude.{◌≡◌, ◌+◌, ◌≤◌, length};
 ghost use Rattle.std.specs.List.{prefix_len, suffix_len};
 ghost use Rattle.soc_text.specs.Blanks.{is_blank, trimmed};
 
@@ -16,17 +16,29 @@ pub fn is_blank(byte: u8) -> bool
 pub fn blanks_len(text: &[u8]) -> usize
     ensures { result ≡ prefix_len is_blank text.now }
 {
-    text.iter().take_while(|byte| is_blank(**byte)).count()
+    let mut count = 0;
+    while count < text.len() {
+        if !is_blank(text[count]) {
+            return count;
+        }
+        count += 1;
+    }
+    count
 }
 
-/// How many blanks the text ends with.
-fn end_blanks_len(text: &[u8]) -> usize
-    ensures { result ≡ suffix_len is_blank text.now }
+/// Where the blanks begin that the text ends with.
+fn blanks_start(text: &[u8]) -> usize
+    ensures bound { result ≤ length text.now }
+    ensures value { result + suffix_len is_blank text.now ≡ length text.now }
 {
-    text.iter()
-        .rev()
-        .take_while(|byte| is_blank(**byte))
-        .count()
+    let mut start = text.len();
+    while start > 0 {
+        if !is_blank(text[start - 1]) {
+            return start;
+        }
+        start -= 1;
+    }
+    start
 }
 
 /// The text without the blanks around it.
@@ -34,5 +46,5 @@ pub fn trim_blanks(text: &[u8]) -> &[u8]
     ensures { result.now ≡ trimmed text.now }
 {
     let behind = after(text, blanks_len(text));
-    &behind[..behind.len() - end_blanks_len(behind)]
+    &behind[..blanks_start(behind)]
 }

@@ -15,5 +15,12 @@ pub fn is_token_byte(byte: u8) -> bool
 pub fn token_len(text: &[u8]) -> usize
     ensures { result ≡ prefix_len is_token_byte text.now }
 {
-    text.iter().take_while(|byte| is_token_byte(**byte)).count()
+    let mut count = 0;
+    while count < text.len() {
+        if !is_token_byte(text[count]) {
+            return count;
+        }
+        count += 1;
+    }
+    count
 }

@@ -7,6 +7,3 @@ mod rule_set;
 
 pub use rule::{Condition, Outcome, Rule};
 pub use rule_set::{RuleError, RuleSet, Verdict};
-
-#[cfg(test)]
-mod tests;

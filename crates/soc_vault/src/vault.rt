@@ -15,7 +15,7 @@ use std::alloc::Global;
 /// A journal and the disk that it stands on.
 ///
 /// What is said of its entries holds where the disk tells its content.
-#[derive(Debug, Drop)]
+#[derive(Drop)]
 pub struct Vault<'a, D: Disk> {
     disk: &'a mut D,
     journal: Journal,

@@ -3,8 +3,6 @@
 
 mod dump;
 mod made;
-#[cfg(test)]
-mod tests;
 mod words;
 
 pub use made::{MakeEnd, made_crash, make};

@@ -8,7 +8,7 @@ use crate::Failed;
 use std::marker::Model;
 
 /// The calls so far, and the numbers, counted from 0, of those that fail.
-#[derive(Debug, Drop)]
+#[derive(Drop)]
 pub struct CallCount {
     fails: Numbers,
     made: u64,

@@ -9,7 +9,7 @@ use crate::Clock;
 use std::marker::Model;
 
 /// Hands out its moments in order, and then the last one again and again. Contracts see those that are still to come.
-#[derive(Debug, Drop)]
+#[derive(Drop)]
 pub struct MemClock {
     moments: Numbers,
     at: usize,

@@ -16,7 +16,7 @@ use std::alloc::Global;
 use std::marker::Model;
 
 // A write of so many bytes at a place, or a sync.
-#[derive(Clone, Copy, Debug)]
+#[derive(Clone, Copy)]
 pub enum DiskStep {
     Write { place: usize, count: usize },
     Sync,
@@ -24,7 +24,7 @@ pub enum DiskStep {
 
 /// A disk in memory. It keeps what it began with, and each write and sync since, so that a stop may leave any of its
 /// images.
-#[derive(Debug, Drop)]
+#[derive(Drop)]
 pub struct MemDisk {
     first: Vec<u8>,
     bytes: Vec<u8>,

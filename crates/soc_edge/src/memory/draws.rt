@@ -8,7 +8,7 @@ use std::marker::Model;
 
 /// Hands out its numbers and its ids in order, each list by itself, and then its last item again and again.
 /// Contracts see those that are still to come.
-#[derive(Debug, Drop)]
+#[derive(Drop)]
 pub struct MemDraws {
     throttles: Numbers,
     throttle_at: usize,

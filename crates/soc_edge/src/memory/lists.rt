@@ -5,7 +5,7 @@ use soc_raw::Bytes;
 use std::marker::Model;
 
 /// Numbers: of calls, moments or draws.
-#[derive(Debug, Drop)]
+#[derive(Drop)]
 pub struct Numbers {
     items: Vec<u64>,
 }
@@ -42,7 +42,7 @@ impl Numbers {
 }
 
 /// Draws of sixteen bytes.
-#[derive(Debug, Drop)]
+#[derive(Drop)]
 pub struct Ids16 {
     items: Vec<[u8; 16]>,
 }
@@ -72,7 +72,7 @@ impl Ids16 {
 }
 
 /// Pieces of bytes.
-#[derive(Debug, Drop)]
+#[derive(Drop)]
 pub struct BytesList {
     items: Vec<Bytes>,
 }

@@ -13,7 +13,7 @@ use std::marker::Model;
 
 /// Memory that is written to, with so much room. It tells what it holds, and fails at the numbers that it was given
 /// and where a piece that isn't empty meets a full room.
-#[derive(Debug, Drop)]
+#[derive(Drop)]
 pub struct MemSink {
     bytes: Vec<u8>,
     room: usize,

@@ -12,7 +12,7 @@ use soc_raw::Bytes;
 use std::marker::Model;
 
 /// Bytes in memory, read from the first on. It tells what is left, and fails at the numbers that it was given.
-#[derive(Debug, Drop)]
+#[derive(Drop)]
 pub struct MemSource {
     bytes: Bytes,
     at: usize,

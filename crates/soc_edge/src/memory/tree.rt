@@ -13,7 +13,7 @@ use std::alloc::Global;
 use std::marker::Model;
 
 /// Files in memory. It tells them, and fails at the numbers that it was given.
-#[derive(Debug, Drop)]
+#[derive(Drop)]
 pub struct MemTree {
     files: Blobs,
     calls: CallCount,

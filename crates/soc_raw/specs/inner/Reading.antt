@@ -102,6 +102,12 @@ content_at bytes = do
   dumps ← counted_pairs_at blob_pair_at MAX_DUMPS annotations.1
   if length dumps.1 == 0 then Some (annotations.0, dumps.0) else None
 
+-- the crash of these parts and of the content that the bytes are
+abbrev pub crash_with : List ℕ → ℕ → ℕ → List ℕ → List ℕ → Option Crash
+crash_with id moment draw rule bytes = do
+  content ← content_at bytes
+  Some (record { id = id; moment = moment; draw = draw; rule = rule; annotations = content.0; dumps = content.1 })
+
 -- the crash of which the bytes are the record
 unfoldable pub crash_at : List ℕ → Option Crash
 crash_at bytes = do

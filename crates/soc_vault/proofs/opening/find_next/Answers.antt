@@ -1,5 +1,6 @@
 use Rattle.std.proofs.Common.{length, ap, arith}
 use Rattle.std.proofs.lemmas.Result.{err_from_is_err_and}
+use Rattle.soc_edge.proofs.Disks.{Looks-append}
 use Rattle.soc_vault.proofs.Findings.{finds_err, finds_none, moves_by}
 use Rattle.soc_vault.proofs.Standing.{counts_entry}
 use Rattle.soc_vault.proofs.opening.find_next.Goals as goal
@@ -29,3 +30,12 @@ returns-clause-within g c =
     let fits = rw c.in-Some.is at c.in_ok-mark.ensures.within in
     let same = ap (λ x. length x) c.as_slice.ensures in
     omega (arith, fits, same, c.if-as_slice-mark.false)
+
+pub returns-in-Err-clause-looks : goal.returns-in-Err-clause-looks
+returns-in-Err-clause-looks g c = Looks-append _ _ _ c.next.ensures.disk_stays c.body.ensures.disk_stays
+
+pub returns-then-as_slice-mark-clause-looks : goal.returns-then-as_slice-mark-clause-looks
+returns-then-as_slice-mark-clause-looks g c = Looks-append _ _ _ c.next.ensures.disk_stays c.body.ensures.disk_stays
+
+pub returns-clause-looks : goal.returns-clause-looks
+returns-clause-looks g c = Looks-append _ _ _ c.next.ensures.disk_stays c.body.ensures.disk_stays

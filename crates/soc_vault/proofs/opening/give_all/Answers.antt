@@ -1,3 +1,4 @@
+use Rattle.soc_edge.proofs.Disks.{Looks-append}
 use Rattle.soc_vault.proofs.Findings.{fewer_left, reading_begins}
 use Rattle.soc_vault.proofs.opening.give_all.Goals as goal
 
@@ -8,3 +9,12 @@ loop-found-init g c =
 pub loop-found-smaller : goal.loop-found-smaller
 loop-found-smaller g c =
     fewer_left c.loop-found.opening c.find_next.new.opening c.in-Some.found c.in_ok-found.ensures.opening (rw c.in-Some.is at c.in_ok-found.ensures.moves)
+
+pub returns-in_err-found-clause-looks : goal.returns-in_err-found-clause-looks
+returns-in_err-found-clause-looks g c = Looks-append _ _ _ c.loop-found.invariant.looks c.find_next.ensures.looks
+
+pub returns-in_err-recover-clause-looks : goal.returns-in_err-recover-clause-looks
+returns-in_err-recover-clause-looks g c = Looks-append _ _ _ c.loop-found.invariant.looks c.find_next.ensures.looks
+
+pub returns-clause-looks : goal.returns-clause-looks
+returns-clause-looks g c = Looks-append _ _ _ c.loop-found.invariant.looks c.find_next.ensures.looks

@@ -1,4 +1,5 @@
 use Rattle.std.proofs.lemmas.Result.{err_from_is_err_and}
+use Rattle.soc_edge.proofs.Disks.{GoesOn-append}
 use Rattle.soc_vault.proofs.Opened.{first_moment, read_moment, whole_moment, stops_before, opens}
 use Rattle.soc_vault.proofs.opening.open.Goals as goal
 
@@ -40,3 +41,12 @@ returns-clause-any_moment g c =
     (g.D.Disk.state c.give_all.new.disk) (g.met.D.Disk.sound c.open.new.disk) c.give_all.ensures.looks
     c.in_ok-opening.ensures.created c.text_is_one.ensures (g.R.Recover.was_given c.give_all.new.into) c.in_ok-opening-2.opening c.in_ok-opening-2.ensures.given
     (g.D.Disk.state c.finish.new.disk) c.finish.ensures.tears.goes_on c.finish.ensures.any_moment
+
+pub returns-in_err-opening-2-clause-goes_on : goal.returns-in_err-opening-2-clause-goes_on
+returns-in_err-opening-2-clause-goes_on g c = GoesOn-append _ _ _ c.open.ensures.tears.goes_on c.give_all.ensures.looks.goes_on
+
+pub returns-in_err-finish-clause-goes_on : goal.returns-in_err-finish-clause-goes_on
+returns-in_err-finish-clause-goes_on g c = GoesOn-append _ _ _ (GoesOn-append _ _ _ c.open.ensures.tears.goes_on c.give_all.ensures.looks.goes_on) c.finish.ensures.tears.goes_on
+
+pub returns-clause-goes_on : goal.returns-clause-goes_on
+returns-clause-goes_on g c = GoesOn-append _ _ _ (GoesOn-append _ _ _ c.open.ensures.tears.goes_on c.give_all.ensures.looks.goes_on) c.finish.ensures.tears.goes_on

@@ -2,7 +2,7 @@ use Rattle.std.proofs.Common.{◌≡◌, ◌+◌, ◌-◌, ◌∙◌, ap, refl, 
 use Rattle.soc_journal.specs.Entries.{entry_text}
 use Rattle.soc_journal.specs.States.{JournalState}
 use Rattle.soc_journal.proofs.Texts.{length-entry_text, length-sealed}
-use Rattle.soc_journal.proofs.Appends.{over_limit, within_limit, not_full, behind_slice, doubt_first, doubt_second, acknowledged, any_first, any_second, tears_first, tears_second, torn_first_told, torn_second_told, content_told}
+use Rattle.soc_journal.proofs.Appends.{over_limit, within_limit, not_full, behind_slice, doubt_first, doubt_second, acknowledged, any_none, any_first, any_second, tears_first, tears_second, torn_first_told, torn_second_told, content_told}
 use Rattle.soc_edge.proofs.Disks.{Looks-none, MayTear-looks}
 use Rattle.soc_journal.proofs.Ranges.{WhereTold-same}
 use Rattle.soc_journal.proofs.journal.Journal.append.Goals as goal
@@ -115,3 +115,6 @@ pub returns-clause-tears : goal.returns-clause-tears
 returns-clause-tears g c =
     let at = sym (ap (λ (x : JournalState). x.gate) c.self.view_is) in
     tears_second _ _ at c.args.entry.now _ (behind_slice _ _ c.as_slice-text.ensures.text) _ _ _ c.write_and_sync.ensures.tears c.write_and_sync-2.ensures.tears
+
+pub returns-then-not-has_room-clause-any_moment : goal.returns-then-not-has_room-clause-any_moment
+returns-then-not-has_room-clause-any_moment g c = any_none (g.D.Disk.state c.args.disk.now) (g.met.D.Disk.sound c.args.disk.now) _ _

@@ -1,3 +1,4 @@
+use Rattle.soc_edge.proofs.Disks.{Looks-append}
 use Rattle.soc_journal.proofs.Bodies.{read_body, read_found, read_closed}
 use Rattle.soc_journal.proofs.journal.Journal.read.Goals as goal
 
@@ -12,3 +13,6 @@ returns-in-Open-clause-found g c =
 pub returns-in-Closed-clause-body : goal.returns-in-Closed-clause-body
 returns-in-Closed-clause-body g c =
     read_closed (g.D.Disk.state c.args.disk.now).content c.args.place c.args.self.now.gate _ c.gate.ensures _ c.in_ok-length.ensures.found c.in-Closed.is
+
+pub returns-in-Open-clause-disk_stays : goal.returns-in-Open-clause-disk_stays
+returns-in-Open-clause-disk_stays g c = Looks-append _ _ _ c.at_gate.ensures.disk_stays c.body_at.ensures.disk_stays

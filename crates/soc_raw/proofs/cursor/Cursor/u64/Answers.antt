@@ -5,5 +5,5 @@ use Rattle.soc_raw.proofs.cursor.Cursor.u64.Goals as goal
 pub returns-clause-takes : goal.returns-clause-takes
 returns-clause-takes c = (
   omega arith,
-  front_back 8 c.self.inside.rest.now c.args.self.now c.in_ok-front.front.now c.in_ok-front.rest.now _ c.self.view_is c.in_ok-front.ensures.cases.0 c.in_ok-front.ensures.cases.1 c.u64_of.ensures.text,
+  front_back 8 c.self.inside.rest.now c.args.self.now c.in-Some.front.now c.in-Some.rest.now _ c.self.view_is c.in-Some.ensures.cases.0 c.in-Some.ensures.cases.1 c.u64_of.ensures.text,
 )

@@ -11,7 +11,7 @@ invariant_of-self g c =
 pub invariant_of-self-in-Continue-1 : goal.invariant_of-self-in-Continue-1
 invariant_of-self-in-Continue-1 g c =
     rising_after (map (λ e. (e.name, e.value)) c.self.inside.entries.items) _ c.args.name c.args.value c.self.invariant
-    (ap (λ es. map (λ e. (e.name, e.value)) es) c.in_ok-insert-in-Err.ensures.items
+    (ap (λ es. map (λ e. (e.name, e.value)) es) c.in_ok-put_in-in-Err.ensures.ok
     ∙ inserted_at_gap (λ e. e.name) (λ e. e.value) c.self.inside.entries.items c.args.name c.args.value c.in-Err.place _ (place_along (λ e. e.name) (λ e. e.value) (Err c.in-Err.place) c.as_slice.ensures.value c.as_str.ensures c.in-Err.ensures) refl refl)
 
 pub returns-in-Ok-clause-ok : goal.returns-in-Ok-clause-ok
@@ -19,8 +19,8 @@ returns-in-Ok-clause-ok g c =
     written_at_place (λ e. e.name) (λ e. e.value) c.self.inside.entries.items c.args.name c.args.value c.in-Ok.place c.index_mut.result.now _ (place_along (λ e. e.name) (λ e. e.value) (Ok c.in-Ok.place) c.as_slice.ensures.value c.as_str.ensures c.in-Ok.ensures) c.index_mut.ensures.value refl refl
     ∙ ap (λ ps. with_value ps c.args.name c.args.value) c.self.view_is
 
-pub returns-in_ok-insert-in-Err-clause-ok : goal.returns-in_ok-insert-in-Err-clause-ok
-returns-in_ok-insert-in-Err-clause-ok g c =
-    ap (λ es. map (λ e. (e.name, e.value)) es) c.in_ok-insert-in-Err.ensures.items
+pub returns-in_ok-put_in-in-Err-clause-ok : goal.returns-in_ok-put_in-in-Err-clause-ok
+returns-in_ok-put_in-in-Err-clause-ok g c =
+    ap (λ es. map (λ e. (e.name, e.value)) es) c.in_ok-put_in-in-Err.ensures.ok
     ∙ inserted_at_gap (λ e. e.name) (λ e. e.value) c.self.inside.entries.items c.args.name c.args.value c.in-Err.place _ (place_along (λ e. e.name) (λ e. e.value) (Err c.in-Err.place) c.as_slice.ensures.value c.as_str.ensures c.in-Err.ensures) refl refl
     ∙ ap (λ ps. with_value ps c.args.name c.args.value) c.self.view_is
