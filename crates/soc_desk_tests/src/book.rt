@@ -6,6 +6,7 @@ mod reports;
 mod tables;
 mod untold;
 
+use crate::expect::{holds, same};
 use acts::{Which, Who, caller, id, raw};
 use soc_book::Book;
 use soc_desk::{Command, Desk, Limits, Reply};
@@ -13,6 +14,7 @@ use soc_edge::{MemDisk, Numbers};
 use soc_raw::RawCrash;
 use soc_schema::Bare;
 use std::alloc::Global;
+use std::process::Abort;
 use std::test::Fail;
 
 /// The record of a crash of Firefox, which is due at once.
@@ -53,49 +55,77 @@ fn put(alloc: Global, disk: &mut MemDisk, which: Which) -> Result<(), Fail> {
     Ok(())
 }
 
-#[test]
-fn annotations_are_shown(rt: HostRuntime) -> Result<(), Fail> {
-    let alloc = rt.alloc();
+/// A disk that has the second crash.
+fn disk_of_other(alloc: Global) -> Result<MemDisk, Fail> {
     let mut disk = disk(alloc, &[])?;
     put(alloc, &mut disk, Which::Other)?;
-    let mut book = Book::open(alloc, &mut disk, &Bare, LIMITS)?;
+    Ok(disk)
+}
+
+fn expect_annotation(
+    rt: &impl Abort,
+    alloc: Global,
+    book: &mut Book<'_, MemDisk, Bare>,
+) -> Result<(), Fail> {
+    let id = id(alloc, Which::Other)?;
     let caller = caller(alloc, Who::Protected)?;
-    let Reply::Raw(shown) = book.raw(&caller, id(alloc, Which::Other)?) else {
+    let Reply::Raw(shown) = book.raw(&caller, id) else {
         return Err(Fail::from("no annotations"));
     };
-    assert_eq!(rt; shown.get("URL"), Some("http://u/"));
+    same(rt, shown.get("URL"), Some("http://u/"));
+    Ok(())
+}
+
+#[test]
+fn annotations_are_shown(rt: HostRuntime) -> Result<(), Fail> {
+    let mut disk = disk_of_other(rt.alloc())?;
+    let mut book = Book::open(rt.alloc(), &mut disk, &Bare, LIMITS)?;
+    expect_annotation(&rt, rt.alloc(), &mut book)
+}
+
+fn expect_dump(
+    rt: &impl Abort,
+    alloc: Global,
+    book: &mut Book<'_, MemDisk, Bare>,
+) -> Result<(), Fail> {
+    let id = id(alloc, Which::Other)?;
+    let caller = caller(alloc, Who::Dumps)?;
+    let Reply::Dump(bytes) = book.dump(&caller, id, "mini") else {
+        return Err(Fail::from("no dump"));
+    };
+    same(rt, bytes.as_slice(), b"abc".as_slice());
     Ok(())
 }
 
 #[test]
 fn dumps_are_shown(rt: HostRuntime) -> Result<(), Fail> {
-    let alloc = rt.alloc();
-    let mut disk = disk(alloc, &[])?;
-    put(alloc, &mut disk, Which::Other)?;
-    let mut book = Book::open(alloc, &mut disk, &Bare, LIMITS)?;
-    let caller = caller(alloc, Who::Dumps)?;
-    let Reply::Dump(bytes) = book.dump(&caller, id(alloc, Which::Other)?, "mini") else {
-        return Err(Fail::from("no dump"));
-    };
-    assert_eq!(rt; bytes.as_slice(), b"abc".as_slice());
+    let mut disk = disk_of_other(rt.alloc())?;
+    let mut book = Book::open(rt.alloc(), &mut disk, &Bare, LIMITS)?;
+    expect_dump(&rt, rt.alloc(), &mut book)
+}
+
+fn expect_receipts(
+    rt: &impl Abort,
+    alloc: Global,
+    book: &mut Book<'_, MemDisk, Bare>,
+) -> Result<(), Fail> {
+    let before = book.ask(Command::Turn {
+        caller: caller(alloc, Who::Operator)?,
+    });
+    holds(rt, !before.stopped && before.front == 2);
+    for _ in 0..2 {
+        let stopped = book.ask(Command::Stop {
+            caller: caller(alloc, Who::Operator)?,
+        });
+        holds(rt, stopped.stopped && stopped.front == 3);
+    }
     Ok(())
 }
 
 #[test]
 fn receipts_tell_of_the_stop(rt: HostRuntime) -> Result<(), Fail> {
-    let alloc = rt.alloc();
-    let mut disk = disk(alloc, &[])?;
-    put(alloc, &mut disk, Which::Firefox)?;
-    let mut book = Book::open(alloc, &mut disk, &Bare, LIMITS)?;
-    let before = book.ask(Command::Turn {
-        caller: caller(alloc, Who::Operator)?,
-    });
-    assert!(rt; !before.stopped && before.front == 2);
-    for _ in 0..2 {
-        let stopped = book.ask(Command::Stop {
-            caller: caller(alloc, Who::Operator)?,
-        });
-        assert!(rt; stopped.stopped && stopped.front == 3);
-    }
-    Ok(())
+    let mut disk = disk(rt.alloc(), &[])?;
+    put(rt.alloc(), &mut disk, Which::Firefox)?;
+    let mut book = Book::open(rt.alloc(), &mut disk, &Bare, LIMITS)?;
+    expect_receipts(&rt, rt.alloc(), &mut book)
 }

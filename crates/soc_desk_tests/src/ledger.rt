@@ -3,9 +3,11 @@ ghost use Rattle.std.specs.Prelude.{◌≡◌, ◌<◌, IfOk, IsTrue, length};
 ghost use Rattle.soc_ledger.specs.Events.{is_held};
 ghost use Rattle.soc_ledger.specs.State.{id_of};
 
+use crate::expect::{holds, same, same_at};
 use soc_ledger::{Filed, Ledger};
 use soc_raw::{CrashId, Digit, Text};
 use std::alloc::Global;
+use std::process::Abort;
 use std::test::Fail;
 
 /// The first one is due at once, the second one when it is asked for.
@@ -16,22 +18,21 @@ const IDS: [&str; 2] = [
 
 /// Events, each a letter and the number of its crash, and what the log of them says: which crashes are due, in order, and
 /// how many are held, have a report, were withdrawn and were asked for.
-const ROWS: [(&str, &str, [u64; 4]); 14] = [
-    ("", "", [0, 0, 0, 0]),
-    ("A0A1", "0", [2, 0, 0, 0]),
-    ("A1A0", "0", [2, 0, 0, 0]),
-    ("A0A1Q1D0Q0Q1", "10", [2, 1, 0, 3]),
-    ("A0A1Q1D0Q0Q1D1D0", "", [2, 2, 0, 3]),
-    ("A0A1D0Q0Q0", "0", [2, 1, 0, 2]),
-    ("A0A1R0", "", [2, 1, 0, 0]),
-    ("A0A1F0", "0", [2, 0, 0, 0]),
-    ("A0A1R1", "0", [2, 0, 0, 0]),
-    ("A0A1D0R0Q0", "0", [2, 1, 0, 1]),
-    ("A0A1W0", "", [1, 0, 1, 0]),
-    ("A0A1D0W0", "", [1, 0, 1, 0]),
-    ("A0A1Q1W0", "1", [1, 0, 1, 1]),
-    ("A0A1Q1D0W0S0D1", "", [1, 1, 1, 1]),
-];
+const ROWS: &str = "\
+\x20=> [] 0 0 0 0
+A0A1 => [0] 2 0 0 0
+A1A0 => [0] 2 0 0 0
+A0A1Q1D0Q0Q1 => [10] 2 1 0 3
+A0A1Q1D0Q0Q1D1D0 => [] 2 2 0 3
+A0A1D0Q0Q0 => [0] 2 1 0 2
+A0A1R0 => [] 2 1 0 0
+A0A1F0 => [0] 2 0 0 0
+A0A1R1 => [0] 2 0 0 0
+A0A1D0R0Q0 => [0] 2 1 0 1
+A0A1W0 => [] 1 0 1 0
+A0A1D0W0 => [] 1 0 1 0
+A0A1Q1W0 => [1] 1 0 1 1
+A0A1Q1D0W0S0D1 => [] 1 1 1 1";
 
 fn filed(alloc: Global, id: CrashId) -> Result<Filed, Fail>
     ensures { IfOk result (λ filed. filed.id ≡ id) }
@@ -138,15 +139,26 @@ fn due(alloc: Global, ledger: &Ledger) -> Result<String, Fail> {
     Ok(line)
 }
 
+/// What a log says, as the rows tell it.
+fn told(alloc: Global, ledger: &Ledger) -> Result<String, Fail> {
+    let due = due(alloc, ledger)?;
+    let line = format!(in alloc;
+        "[{due}] {} {} {} {}",
+        ledger.held(),
+        ledger.reports(),
+        ledger.withdrawn(),
+        ledger.asks()
+    )?;
+    Ok(line)
+}
+
 #[test]
 fn the_log_tells(rt: HostRuntime) -> Result<(), Fail> {
-    for (events, order, counts) in ROWS {
+    for line in ROWS.lines() {
+        let (events, want) = line.split_once(" => ").unwrap_or((line, ""));
         let ledger = ledger_of(rt.alloc(), events)?;
-        assert_eq!(rt; due(rt.alloc(), &ledger)?.as_str(), order, "after {events}");
-        assert_eq!(rt; u64::from(ledger.held()), counts[0], "after {events}");
-        assert_eq!(rt; u64::from(ledger.reports()), counts[1], "after {events}");
-        assert_eq!(rt; u64::from(ledger.withdrawn()), counts[2], "after {events}");
-        assert_eq!(rt; ledger.asks(), counts[3], "after {events}");
+        let told = told(rt.alloc(), &ledger)?;
+        same_at(&rt, events, told.as_str(), want);
     }
     Ok(())
 }
@@ -160,25 +172,48 @@ fn crash_id(number: u16) -> CrashId {
     CrashId::make(draw, Digit::Accepted, 1_474_156_800)
 }
 
+fn accept_many(rt: &impl Abort, alloc: Global, ledger: &mut Ledger) -> Result<(), Fail> {
+    for number in 0..600 {
+        holds(rt, ledger.number_of(crash_id(number)).is_none());
+        accept(alloc, ledger, crash_id(number))?;
+    }
+    Ok(())
+}
+
+fn expect_found(rt: &impl Abort, ledger: &Ledger) {
+    for number in 0..600 {
+        same(
+            rt,
+            ledger.number_of(crash_id(number)),
+            Some(u32::from(number)),
+        );
+    }
+}
+
+/// Finishes two crashes of three.
+fn finish_many(ledger: &mut Ledger) -> Result<(), Fail> {
+    for number in 0..600 {
+        if number % 3 != 1 {
+            finish(ledger, crash_id(number))?;
+        }
+    }
+    Ok(())
+}
+
+fn expect_due(rt: &impl Abort, ledger: &Ledger) {
+    assert_eq!(rt; ledger.due(), 200);
+    same(rt, ledger.reports(), 400);
+    for i in 0..ledger.due() {
+        same(rt, ledger.due_at(i), 3 * i + 1);
+    }
+}
+
 #[test]
 fn each_of_many_crashes_is_found(rt: HostRuntime) -> Result<(), Fail> {
     let mut ledger = Ledger::new(rt.alloc());
-    for number in 0..600 {
-        assert!(rt; ledger.number_of(crash_id(number)).is_none());
-        accept(rt.alloc(), &mut ledger, crash_id(number))?;
-    }
-    for number in 0..600 {
-        assert_eq!(rt; ledger.number_of(crash_id(number)), Some(u32::from(number)));
-    }
-    for number in 0..600 {
-        if number % 3 != 1 {
-            finish(&mut ledger, crash_id(number))?;
-        }
-    }
-    assert_eq!(rt; ledger.due(), 200);
-    assert_eq!(rt; ledger.reports(), 400);
-    for i in 0..ledger.due() {
-        assert_eq!(rt; ledger.due_at(i), 3 * i + 1);
-    }
+    accept_many(&rt, rt.alloc(), &mut ledger)?;
+    expect_found(&rt, &ledger);
+    finish_many(&mut ledger)?;
+    expect_due(&rt, &ledger);
     Ok(())
 }

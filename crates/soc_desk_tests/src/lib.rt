@@ -4,9 +4,15 @@
 #[cfg(test)]
 mod book;
 #[cfg(test)]
+mod expect;
+#[cfg(test)]
+mod journal;
+#[cfg(test)]
 mod ledger;
 #[cfg(test)]
 mod query;
+#[cfg(test)]
+mod schema;
 #[cfg(test)]
 mod store;
 #[cfg(test)]

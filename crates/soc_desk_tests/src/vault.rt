@@ -4,11 +4,13 @@ ghost use Rattle.soc_journal.specs.Entries.{max_body};
 
 mod untold;
 
+use crate::expect::{holds, same};
 use soc_edge::{Disk, Failed, MemDisk, Numbers, ReadAhead};
 use soc_journal::{ACCEPT, ASK, EntryText, MAX_BODY, OpenError, ReadError, Settled, WITHDRAW};
 use soc_vault::{Found, Recover, Vault, open};
 use std::alloc::{AllocError, Global};
 use std::ops::Range;
+use std::process::Abort;
 use std::test::Fail;
 
 const LIMIT: u64 = 1000;
@@ -91,39 +93,70 @@ fn asking(alloc: Global, id: &[u8; 5]) -> Result<EntryText, Fail> {
     Ok(EntryText::new(alloc, ASK, id)?)
 }
 
-#[test]
-fn entries_are_kept_and_read_back(rt: HostRuntime) -> Result<(), Fail> {
-    let alloc = rt.alloc();
-    let mut disk = disk_that_fails(alloc, &[])?;
-    let mut vault = opened(alloc, &mut disk, LIMIT)?;
-    assert_eq!(rt;
-        kept(&mut vault, &EntryText::new(alloc, ACCEPT, b"one")?),
-        Some(8)
-    );
-    assert_eq!(rt;
-        kept(&mut vault, &EntryText::new(alloc, WITHDRAW, b"")?),
-        Some(17)
-    );
-    assert_eq!(rt; kept(&mut vault, &asking(alloc, b"three")?), Some(23));
-    assert_eq!(rt; vault.settle(), Ok(Settled::Clean));
-    let body = vault.read(alloc, 23)?;
-    assert_eq!(rt; body.as_slice(), b"three".as_slice());
-    assert!(rt; matches!(vault.read(alloc, 24), Err(ReadError::Altered)));
+// Expects that an entry is kept at this place.
+fn expect_kept(rt: &impl Abort, vault: &mut Vault<'_, MemDisk>, entry: &EntryText, place: u64) {
+    same(rt, kept(vault, entry), Some(place));
+}
+
+// Expects this body of the entry at a place.
+fn expect_body(
+    rt: &impl Abort,
+    alloc: Global,
+    vault: &mut Vault<'_, MemDisk>,
+    place: u64,
+    want: &[u8],
+) -> Result<(), Fail> {
+    let body = vault.read(alloc, place)?;
+    same(rt, body.as_slice(), want);
+    Ok(())
+}
+
+// Expects these bodies on a disk, each with a bar behind it.
+fn expect_bodies(
+    rt: &impl Abort,
+    alloc: Global,
+    disk: &mut MemDisk,
+    want: &[u8],
+) -> Result<(), Fail> {
+    let bodies = bodies_on(alloc, disk)?;
+    same(rt, bodies.as_slice(), want);
+    Ok(())
+}
+
+fn expect_entries(
+    rt: &impl Abort,
+    alloc: Global,
+    vault: &mut Vault<'_, MemDisk>,
+) -> Result<(), Fail> {
+    expect_kept(rt, vault, &EntryText::new(alloc, ACCEPT, b"one")?, 8);
+    expect_kept(rt, vault, &EntryText::new(alloc, WITHDRAW, b"")?, 17);
+    expect_kept(rt, vault, &asking(alloc, b"three")?, 23);
+    same(rt, vault.settle(), Ok(Settled::Clean));
+    expect_body(rt, alloc, vault, 23, b"three")?;
+    holds(rt, matches!(vault.read(alloc, 24), Err(ReadError::Altered)));
     for (place, text, wanted) in [
         (14, b"one".as_slice(), true),
         (15, b"ne", true),
         (14, b"two", false),
     ] {
-        assert_eq!(rt; vault.holds(place, text), Ok(wanted));
+        same(rt, vault.holds(place, text), Ok(wanted));
     }
-    let disk = vault.into_disk();
-    assert_eq!(rt;
-        disk.bytes(),
-        b"SOCJ0002\x01A\x03\0\0\0one\x01W\0\0\0\0\x01Q\x05\0\0\0three\0".as_slice()
-    );
-    let bodies = bodies_on(alloc, disk)?;
-    assert_eq!(rt; bodies.as_slice(), b"one||three|".as_slice());
     Ok(())
+}
+
+#[test]
+fn entries_are_kept_and_read_back(rt: HostRuntime) -> Result<(), Fail> {
+    let alloc = rt.alloc();
+    let mut disk = disk_that_fails(alloc, &[])?;
+    let mut vault = opened(alloc, &mut disk, LIMIT)?;
+    expect_entries(&rt, alloc, &mut vault)?;
+    let disk = vault.into_disk();
+    same(
+        &rt,
+        disk.bytes(),
+        b"SOCJ0002\x01A\x03\0\0\0one\x01W\0\0\0\0\x01Q\x05\0\0\0three\0".as_slice(),
+    );
+    expect_bodies(&rt, alloc, disk, b"one||three|")
 }
 
 // So many bytes.
@@ -131,6 +164,19 @@ fn filled(alloc: Global, count: u32) -> Result<Vec<u8>, AllocError>
     ensures { IfOk result (λ bytes. vec_len bytes ≡ count) }
 {
     vec![in alloc; b'x'; count as usize]
+}
+
+// Expects that an entry of this body, the first one, is kept where it fits, and leaves no doubt.
+fn expect_fits(
+    rt: &impl Abort,
+    vault: &mut Vault<'_, MemDisk>,
+    entry: &EntryText,
+    body: &[u8],
+    fits: bool,
+) {
+    same(rt, kept(vault, entry).is_some(), fits);
+    holds(rt, !vault.is_in_doubt());
+    same(rt, vault.holds(14, body), Ok(fits));
 }
 
 #[test]
@@ -142,9 +188,7 @@ fn an_entry_of_the_greatest_length_is_kept_where_it_fits(rt: HostRuntime) -> Res
     for (limit, fits) in [(most, true), (most - 1, false)] {
         let mut disk = MemDisk::new(alloc, most + 9, 7, Numbers::new([].to_vec(alloc)?))?;
         let mut vault = opened(alloc, &mut disk, limit)?;
-        assert_eq!(rt; kept(&mut vault, &entry).is_some(), fits);
-        assert!(rt; !vault.is_in_doubt());
-        assert_eq!(rt; vault.holds(14, &body), Ok(fits));
+        expect_fits(&rt, &mut vault, &entry, &body, fits);
     }
     Ok(())
 }
@@ -189,12 +233,25 @@ fn each_refused_call_of_a_keep_is_settled(rt: HostRuntime) -> Result<(), Fail> {
         for call in CALLS {
             if let Some((settled, mut image)) = kept_and_settled(alloc, call, choice)? {
                 let (answer, bodies) = wanted.next().ok_or("a doubt more")?;
-                assert_eq!(rt; &settled, answer);
-                assert_eq!(rt; bodies_on(alloc, &mut image)?.as_slice(), *bodies);
+                same(&rt, &settled, answer);
+                expect_bodies(&rt, alloc, &mut image, bodies)?;
             }
         }
-        assert!(rt; wanted.next().is_none());
+        holds(&rt, wanted.next().is_none());
     }
+    Ok(())
+}
+
+// Expects that an entry is not kept, and stays in doubt.
+fn expect_doubt(
+    rt: &impl Abort,
+    alloc: Global,
+    vault: &mut Vault<'_, MemDisk>,
+) -> Result<(), Fail> {
+    let entry = asking(alloc, b"later")?;
+    holds(rt, kept(vault, &entry).is_none());
+    same(rt, vault.settle(), Err(Failed));
+    holds(rt, vault.is_in_doubt());
     Ok(())
 }
 
@@ -206,9 +263,7 @@ fn a_doubt_stays_while_it_cannot_be_settled(rt: HostRuntime) -> Result<(), Fail>
         for (choice, bodies) in [(0, b"first|".as_slice()), (1, b"first|later|")] {
             let mut disk = disk_with(alloc, b"SOCJ0002\x01Q\x05\0\0\0first\0", &[11, other])?;
             let mut vault = opened(alloc, &mut disk, LIMIT)?;
-            assert!(rt; kept(&mut vault, &asking(alloc, b"later")?).is_none());
-            assert_eq!(rt; vault.settle(), Err(Failed));
-            assert!(rt; vault.is_in_doubt());
+            expect_doubt(&rt, alloc, &mut vault)?;
             // Once the sync has succeeded, the open gate stays.
             let wanted = if other == 13 {
                 b"first|later|".as_slice()
@@ -216,7 +271,7 @@ fn a_doubt_stays_while_it_cannot_be_settled(rt: HostRuntime) -> Result<(), Fail>
                 bodies
             };
             let mut image = disk.stop(choice);
-            assert_eq!(rt; bodies_on(alloc, &mut image)?.as_slice(), wanted);
+            expect_bodies(&rt, alloc, &mut image, wanted)?;
         }
     }
     Ok(())
@@ -251,8 +306,12 @@ fn disks_without_a_journal_are_refused(rt: HostRuntime) -> Result<(), Fail> {
         ),
     ] {
         let mut disk = disk_with(alloc, bytes, &[])?;
-        assert_eq!(rt; bodies_but(alloc, &mut disk, refused).err(), Some(wanted));
-        assert_eq!(rt; disk.bytes(), bytes);
+        same(
+            &rt,
+            bodies_but(alloc, &mut disk, refused).err(),
+            Some(wanted),
+        );
+        same(&rt, disk.bytes(), bytes);
     }
     Ok(())
 }
@@ -275,38 +334,49 @@ fn each_refused_call_of_an_opening_is_told(rt: HostRuntime) -> Result<(), Fail> 
     for choice in 0..4 {
         for call in CALLS {
             if let Some(mut image) = opened_and_stopped(alloc, call, choice)? {
-                assert_eq!(rt;
-                    bodies_on(alloc, &mut image)?.as_slice(),
-                    b"first|".as_slice()
-                );
+                expect_bodies(&rt, alloc, &mut image, b"first|")?;
             }
         }
-        assert!(rt; opened_and_stopped(alloc, CALLS.start, choice)?.is_some());
-        assert!(rt; opened_and_stopped(alloc, CALLS.end, choice)?.is_none());
+        holds(
+            &rt,
+            opened_and_stopped(alloc, CALLS.start, choice)?.is_some(),
+        );
+        holds(&rt, opened_and_stopped(alloc, CALLS.end, choice)?.is_none());
     }
     let mut disk = disk_with(alloc, b"SOCJ0001\x01Q\x05\0\0\0first\0", &[])?;
-    assert_eq!(rt;
-        bodies_on(alloc, &mut disk)?.as_slice(),
-        b"first|".as_slice()
+    expect_bodies(&rt, alloc, &mut disk, b"first|")?;
+    same(
+        &rt,
+        disk.bytes(),
+        b"SOCJ0002\x01Q\x05\0\0\0first\0".as_slice(),
     );
-    assert_eq!(rt; disk.bytes(), b"SOCJ0002\x01Q\x05\0\0\0first\0".as_slice());
     Ok(())
+}
+
+// Keeps 200 entries.
+fn keep_many(alloc: Global, vault: &mut Vault<'_, MemDisk>) -> Result<(), Fail> {
+    for _ in 0..200 {
+        let _ = kept(vault, &asking(alloc, b"entry")?);
+    }
+    Ok(())
+}
+
+// A disk with these entries.
+fn disk_of_many(alloc: Global) -> Result<MemDisk, Fail> {
+    let mut disk = disk_that_fails(alloc, &[])?;
+    let mut vault = opened(alloc, &mut disk, 4000)?;
+    keep_many(alloc, &mut vault)?;
+    // The disk's calls 0 and 1 write the bytes, and the opening syncs, asks for the length, and fills the window at the
+    // header and at the closed gate.
+    disk_with(alloc, disk.bytes(), &[6])
 }
 
 #[test]
 fn over_a_disk_that_reads_ahead_an_opening_is_one_pass(rt: HostRuntime) -> Result<(), Fail> {
     let alloc = rt.alloc();
-    let mut disk = disk_that_fails(alloc, &[])?;
-    let mut vault = opened(alloc, &mut disk, 4000)?;
-    for _ in 0..200 {
-        let _ = kept(&mut vault, &asking(alloc, b"entry")?);
-    }
-    // The disk's calls 0 and 1 write the bytes, and the opening syncs, asks for the length, and fills the window at the
-    // header and at the closed gate.
-    let disk = disk_with(alloc, disk.bytes(), &[6])?;
-    let mut ahead = ReadAhead::new(alloc, disk)?;
-    let bodies = bodies_on(alloc, &mut ahead)?;
-    assert_eq!(rt; bodies.len(), 1200);
-    assert_eq!(rt; ahead.into_disk().len(), Err(Failed));
+    let mut ahead = ReadAhead::new(alloc, disk_of_many(alloc)?)?;
+    let length = bodies_on(alloc, &mut ahead)?.len();
+    same(&rt, length, 1200);
+    same(&rt, ahead.into_disk().len(), Err(Failed));
     Ok(())
 }

@@ -1,9 +1,12 @@
 //! Dumps made by hand, one for each refusal and edge, and a whole one.
+use crate::expect::{same, same_at};
 use soc_dump::{
-    Dump, DumpError, FirstCovering, Interval, Module, ModuleName, amd64_registers,
-    architecture_name, crash_reason, debug_file, debug_id, platform_name, x86_registers,
+    Dump, DumpError, Exception, FirstCovering, Interval, Module, ModuleName, Thread, Words,
+    amd64_registers, architecture_name, crash_reason, debug_file, debug_id, platform_name,
+    x86_registers,
 };
 use std::alloc::{AllocError, Global};
+use std::process::Abort;
 use std::test::Fail;
 
 // A file of some bytes that are zero but for these numbers of four bytes at their places.
@@ -263,7 +266,7 @@ const MODULES: [Case; 6] = [
 fn streams(rt: HostRuntime) -> Result<(), Fail> {
     for (at, case) in STREAMS.iter().chain(MODULES.iter()).enumerate() {
         let found = refusal(rt.alloc(), case.size, case.count, case.words)?;
-        assert_eq!(rt; found, case.refusal, "of {at}");
+        same_at(&rt, at, found, case.refusal);
     }
     Ok(())
 }
@@ -316,40 +319,79 @@ fn made_file(alloc: Global) -> Result<Vec<u8>, AllocError> {
     file_of(alloc, 1728, words.as_slice())
 }
 
+fn expect_module(rt: &impl Abort, alloc: Global, module: &Module<'_>) -> Result<(), Fail> {
+    same(rt, module.base, 0x10000000);
+    let name = module.name.to_text(alloc)?;
+    same(rt, name.as_str(), "made0.dll");
+    Ok(())
+}
+
+fn expect_thread(rt: &impl Abort, thread: &Thread<'_>) -> Result<(), Fail> {
+    same(rt, thread.id, 1);
+    let registers = amd64_registers(thread.context).ok_or("no registers")?;
+    same(rt, registers[16], 0x10000100);
+    let short = thread.context.get(..1231).ok_or("no context")?;
+    same(rt, amd64_registers(short).is_some(), false);
+    Ok(())
+}
+
+fn expect_table(rt: &impl Abort, table: &FirstCovering) {
+    same(rt, table.at(0x10000000), Some(0));
+    same(rt, table.at(0x10000FFF), Some(0));
+    same(rt, table.at(0x10001000), None);
+}
+
+fn expect_process(rt: &impl Abort, alloc: Global, dump: &Dump<'_>) -> Result<(), Fail> {
+    let module = dump.modules().first().ok_or("no module")?;
+    expect_module(rt, alloc, module)?;
+    let thread = dump.threads().first().ok_or("no thread")?;
+    expect_thread(rt, thread)?;
+    let table = dump.module_table(alloc)?;
+    expect_table(rt, &table);
+    Ok(())
+}
+
 #[test]
 fn made_process(rt: HostRuntime) -> Result<(), Fail> {
     let file = made_file(rt.alloc())?;
     let dump = Dump::read(rt.alloc(), file.as_slice())?;
-    let module = dump.modules().first().ok_or("no module")?;
-    assert_eq!(rt; module.base, 0x10000000);
-    assert_eq!(rt; module.name.to_text(rt.alloc())?.as_str(), "made0.dll");
-    let thread = dump.threads().first().ok_or("no thread")?;
-    assert_eq!(rt; thread.id, 1);
-    let registers = amd64_registers(thread.context).ok_or("no registers")?;
-    assert_eq!(rt; registers[16], 0x10000100);
-    let short = thread.context.get(..1231).ok_or("no context")?;
-    assert_eq!(rt; amd64_registers(short).is_some(), false);
-    let table = dump.module_table(rt.alloc())?;
-    assert_eq!(rt; table.at(0x10000000), Some(0));
-    assert_eq!(rt; table.at(0x10000FFF), Some(0));
-    assert_eq!(rt; table.at(0x10001000), None);
+    expect_process(&rt, rt.alloc(), &dump)
+}
+
+fn expect_reason(
+    rt: &impl Abort,
+    alloc: Global,
+    platform: Option<u32>,
+    exception: &Exception<'_>,
+    want: &str,
+) -> Result<(), Fail> {
+    let reason = crash_reason(alloc, platform, exception)?;
+    same(rt, reason.as_str(), want);
     Ok(())
+}
+
+fn expect_crash(rt: &impl Abort, alloc: Global, dump: &Dump<'_>) -> Result<(), Fail> {
+    let system = dump.system().ok_or("no system")?;
+    same(rt, architecture_name(system.arch), "amd64");
+    same(rt, platform_name(system.platform), "Windows NT");
+    let exception = dump.exception().ok_or("no exception")?;
+    same(rt, exception.thread, 1);
+    let platform = Some(system.platform);
+    expect_reason(
+        rt,
+        alloc,
+        platform,
+        exception,
+        "EXCEPTION_ACCESS_VIOLATION_READ",
+    )?;
+    expect_reason(rt, alloc, None, exception, "0xc0000005")
 }
 
 #[test]
 fn made_crash(rt: HostRuntime) -> Result<(), Fail> {
     let file = made_file(rt.alloc())?;
     let dump = Dump::read(rt.alloc(), file.as_slice())?;
-    let system = dump.system().ok_or("no system")?;
-    assert_eq!(rt; architecture_name(system.arch), "amd64");
-    assert_eq!(rt; platform_name(system.platform), "Windows NT");
-    let exception = dump.exception().ok_or("no exception")?;
-    assert_eq!(rt; exception.thread, 1);
-    let reason = crash_reason(rt.alloc(), Some(system.platform), exception)?;
-    assert_eq!(rt; reason.as_str(), "EXCEPTION_ACCESS_VIOLATION_READ");
-    let unnamed = crash_reason(rt.alloc(), None, exception)?;
-    assert_eq!(rt; unnamed.as_str(), "0xc0000005");
-    Ok(())
+    expect_crash(&rt, rt.alloc(), &dump)
 }
 
 // Two regions of 8 bytes side by side, a third over the first, and a stack of 8 bytes.
@@ -413,10 +455,7 @@ fn words_of_memory(rt: HostRuntime) -> Result<(), Fail> {
     Ok(())
 }
 
-#[test]
-fn found_words(rt: HostRuntime) -> Result<(), Fail> {
-    let file = memory_file(rt.alloc())?;
-    let dump = Dump::read(rt.alloc(), file.as_slice())?;
+fn expect_words(rt: &impl Abort, words: &Words<'_>) {
     let rows = [
         (0x1000, Some(0x2222_2222_1111_1111)),
         (0x1004, Some(0x7777_7777_6666_6666)),
@@ -427,14 +466,27 @@ fn found_words(rt: HostRuntime) -> Result<(), Fail> {
         (0x103D, None),
         (u64::MAX, None),
     ];
-    let words = dump.words(rt.alloc(), 8)?;
     for (address, word) in rows {
         assert_eq!(rt; words.at(address), word, "at {address:x}");
     }
-    let bytes = dump.words(rt.alloc(), 1)?;
-    assert_eq!(rt; bytes.at(0x1007), Some(0x22));
-    assert_eq!(rt; bytes.at(0x1044), None);
+}
+
+fn expect_bytes(rt: &impl Abort, bytes: &Words<'_>) {
+    same(rt, bytes.at(0x1007), Some(0x22));
+    same(rt, bytes.at(0x1044), None);
+}
+
+fn expect_found(rt: &impl Abort, alloc: Global, dump: &Dump<'_>) -> Result<(), Fail> {
+    expect_words(rt, &dump.words(alloc, 8)?);
+    expect_bytes(rt, &dump.words(alloc, 1)?);
     Ok(())
+}
+
+#[test]
+fn found_words(rt: HostRuntime) -> Result<(), Fail> {
+    let file = memory_file(rt.alloc())?;
+    let dump = Dump::read(rt.alloc(), file.as_slice())?;
+    expect_found(&rt, rt.alloc(), &dump)
 }
 
 // Intervals that overlap, that are empty and that reach to the last number.
@@ -449,45 +501,63 @@ const INTERVALS: [(u64, u64); 8] = [
     (u64::MAX - 20, u64::MAX),
 ];
 
-#[test]
-fn first_intervals(rt: HostRuntime) -> Result<(), Fail> {
-    let alloc = rt.alloc();
+fn intervals(alloc: Global) -> Result<Vec<Interval>, AllocError> {
     let mut intervals = Vec::new(alloc);
     for (first, last) in INTERVALS {
         intervals.push(Interval { first, last })?;
     }
-    let rows = [
-        (0, Some(4)),
-        (5, Some(2)),
-        (9, Some(2)),
-        (10, Some(0)),
-        (19, Some(0)),
-        (20, Some(1)),
-        (30, Some(4)),
-        (40, Some(4)),
-        (u64::MAX - 10, Some(4)),
-        (u64::MAX - 9, Some(7)),
-        (u64::MAX, Some(6)),
-    ];
-    let table = FirstCovering::new(alloc, intervals.as_slice())?;
+    Ok(intervals)
+}
+
+// Expects the first of these intervals at numbers.
+fn expect_first(
+    rt: &impl Abort,
+    alloc: Global,
+    intervals: &[Interval],
+    rows: &[(u64, Option<usize>)],
+) -> Result<(), Fail> {
+    let table = FirstCovering::new(alloc, intervals)?;
     for (number, index) in rows {
-        assert_eq!(rt; table.at(number), index, "of {number}");
+        same_at(rt, number, table.at(*number), *index);
     }
+    Ok(())
+}
+
+const FIRSTS: [(u64, Option<usize>); 11] = [
+    (0, Some(4)),
+    (5, Some(2)),
+    (9, Some(2)),
+    (10, Some(0)),
+    (19, Some(0)),
+    (20, Some(1)),
+    (30, Some(4)),
+    (40, Some(4)),
+    (u64::MAX - 10, Some(4)),
+    (u64::MAX - 9, Some(7)),
+    (u64::MAX, Some(6)),
+];
+
+#[test]
+fn first_intervals(rt: HostRuntime) -> Result<(), Fail> {
+    let alloc = rt.alloc();
+    let mut intervals = intervals(alloc)?;
+    expect_first(&rt, alloc, intervals.as_slice(), &FIRSTS)?;
     intervals.truncate(4);
-    let fewer = FirstCovering::new(alloc, intervals.as_slice())?;
-    assert_eq!(rt; fewer.at(4), None);
-    assert_eq!(rt; fewer.at(29), Some(1));
-    assert_eq!(rt; fewer.at(30), None);
-    assert_eq!(rt;
+    let fewer = [(4, None), (29, Some(1)), (30, None)];
+    expect_first(&rt, alloc, intervals.as_slice(), &fewer)?;
+    expect_first(&rt, alloc, &[], &[(0, None)])
+}
+
+#[test]
+fn counted_intervals_end_at_the_last_number(rt: HostRuntime) {
+    same(
+        &rt,
         Interval::from_count(u64::MAX, 3),
         Interval {
             first: u64::MAX,
-            last: u64::MAX
-        }
+            last: u64::MAX,
+        },
     );
-    let none = FirstCovering::new(alloc, &[])?;
-    assert_eq!(rt; none.at(0), None);
-    Ok(())
 }
 
 #[test]
@@ -504,12 +574,13 @@ fn x86_contexts(rt: HostRuntime) -> Result<(), Fail> {
         (196, 9),
     ];
     let context = file_of(rt.alloc(), 716, &words)?;
-    assert_eq!(rt;
+    same(
+        &rt,
         x86_registers(context.as_slice()),
-        Some([1, 2, 3, 4, 5, 6, 7, 8, 9])
+        Some([1, 2, 3, 4, 5, 6, 7, 8, 9]),
     );
     let short = context.as_slice().get(..715).ok_or("no context")?;
-    assert_eq!(rt; x86_registers(short), None);
+    same(&rt, x86_registers(short), None);
     Ok(())
 }
 
@@ -540,8 +611,8 @@ fn debug_files(rt: HostRuntime) -> Result<(), Fail> {
             name: ModuleName::from_utf16(b"/\0u\0s\0r\0/\0l\0i\0b\0x\0u\0l\0.\0s\0o\0"),
             code_view,
         };
-        assert_eq!(rt; debug_id(rt.alloc(), &module)?.as_str(), id);
-        assert_eq!(rt; debug_file(rt.alloc(), &module)?.as_str(), file);
+        same(&rt, debug_id(rt.alloc(), &module)?.as_str(), id);
+        same(&rt, debug_file(rt.alloc(), &module)?.as_str(), file);
     }
     Ok(())
 }

@@ -1,4 +1,5 @@
 //! Submissions as crash reporters send them, and messages that are none.
+use crate::expect::{holds, same};
 use soc_forms::{Form, FormError, Reason, Submission, read_submission};
 use soc_raw::{NoMemory, Pairs, Text};
 use std::alloc::Global;
@@ -35,18 +36,31 @@ fn submitted_in_pieces(alloc: Global, body: &[u8], size: usize) -> Result<Submis
     form.finish()
 }
 
+// Expects an annotation, one dump with this content, and an id.
+fn expect_firefox(rt: &impl Abort, said: &Submission, dump: &[u8]) -> Result<(), Fail> {
+    assert_eq!(rt; said.annotations.len(), 1);
+    holds(rt, said.annotations.get("ProductName") == Some("Firefox"));
+    assert_eq!(rt; said.dumps.len(), 1);
+    holds(rt, said.dumps.get("upload_file_minidump") == Some(dump));
+    let id = said.sent_id.ok_or("no id")?;
+    same(rt, id.as_str(), ID);
+    Ok(())
+}
+
 #[test]
 fn plain_parts_and_dumps(rt: HostRuntime) -> Result<(), Fail> {
     let body =
         b"--b\r\nContent-Disposition: form-data; name=\"ProductName\"\r\n\r\nFenix\r\n--b\r\nContent-Disposition: form-data; name=\"uuid\"\r\n\r\nde1bb258-cbbf-4589-a673-34f800160918\r\n--b\r\nContent-Disposition: form-data; name=\"upload_file_minidump\"; filename=\"a.dmp\"\r\nContent-Type: application/octet-stream\r\n\r\nMDMP\r\n--b\r\nContent-Disposition: form-data; name=\"ProductName\"\r\n\r\nFirefox\r\n--b--\r\n";
     let said = submitted(rt.alloc(), Some("Identity"), body)?;
-    assert_eq!(rt; said.annotations.len(), 1);
-    assert!(rt; said.annotations.get("ProductName") == Some("Firefox"));
-    assert_eq!(rt; said.dumps.len(), 1);
-    assert!(rt; said.dumps.get("upload_file_minidump") == Some(b"MDMP".as_slice()));
-    let id = said.sent_id.ok_or("no id")?;
-    assert_eq!(rt; id.as_str(), ID);
-    Ok(())
+    expect_firefox(&rt, &said, b"MDMP")
+}
+
+fn expect_members(rt: &impl Abort, said: &Submission) {
+    assert_eq!(rt; said.annotations.len(), 3);
+    holds(rt, said.annotations.get("a") == Some("1"));
+    holds(rt, said.annotations.get("b") == Some("x"));
+    holds(rt, said.annotations.get("c") == Some("[true,null]"));
+    assert_eq!(rt; said.dumps.len(), 0);
 }
 
 #[test]
@@ -56,44 +70,53 @@ fn json_parts(rt: HostRuntime) -> Result<(), Fail> {
         None,
         b"--b\r\nContent-Disposition: form-data; name=\"extra\"; filename=\"extra.json\"\r\nContent-Type: application/json\r\n\r\n{\"a\":1,\"b\":\"x\",\"c\":[true, null]}\r\n--b--\r\n",
     )?;
-    assert_eq!(rt; said.annotations.len(), 3);
-    assert!(rt; said.annotations.get("a") == Some("1"));
-    assert!(rt; said.annotations.get("b") == Some("x"));
-    assert!(rt; said.annotations.get("c") == Some("[true,null]"));
-    assert_eq!(rt; said.dumps.len(), 0);
+    expect_members(&rt, &said);
+    Ok(())
+}
+
+#[test]
+fn bad_json_parts(rt: HostRuntime) {
     let list = submitted(
         rt.alloc(),
         None,
         b"--b\r\nContent-Disposition: form-data; name=\"extra\"\r\nContent-Type: application/json\r\n\r\n[1]\r\n--b--\r\n",
     )
     .err();
-    assert!(rt; list == Some(FormError::Malformed(Reason::BadExtra)));
+    holds(&rt, list == Some(FormError::Malformed(Reason::BadExtra)));
     let both = submitted(
         rt.alloc(),
         None,
         b"--b\r\nContent-Disposition: form-data; name=\"extra\"\r\nContent-Type: application/json\r\n\r\n{}\r\n--b\r\nContent-Disposition: form-data; name=\"x\"\r\n\r\ny\r\n--b--\r\n",
     )
     .err();
-    assert!(rt; both == Some(FormError::Malformed(Reason::ExtraAndPlain)));
-    Ok(())
+    holds(
+        &rt,
+        both == Some(FormError::Malformed(Reason::ExtraAndPlain)),
+    );
 }
 
 #[test]
 fn refused_lines(rt: HostRuntime) -> Result<(), Fail> {
     let gzip = submitted(rt.alloc(), Some("gzip"), FIREFOX).err();
-    assert!(rt; gzip == Some(FormError::Malformed(Reason::ContentEncoding)));
+    holds(
+        &rt,
+        gzip == Some(FormError::Malformed(Reason::ContentEncoding)),
+    );
     let none = read_submission(rt.alloc(), None, &Pairs::new(rt.alloc()), FIREFOX).err();
-    assert!(rt; none == Some(FormError::Malformed(Reason::NoContentType)));
-    assert_eq!(rt; Reason::ContentEncoding.text(), "content_encoding");
+    holds(
+        &rt,
+        none == Some(FormError::Malformed(Reason::NoContentType)),
+    );
+    same(&rt, Reason::ContentEncoding.text(), "content_encoding");
     let cut = submitted(rt.alloc(), None, &FIREFOX[..72]).err();
-    assert!(rt; cut == Some(FormError::Malformed(Reason::NoClose)));
+    holds(&rt, cut == Some(FormError::Malformed(Reason::NoClose)));
     Ok(())
 }
 
 fn expect_refused(rt: &(impl Abort + AllocGlobal), body: &[u8], reason: Reason) {
     let wanted = Some(FormError::Malformed(reason));
     let whole = submitted(rt.alloc(), None, body).err();
-    assert!(rt; whole == wanted);
+    holds(rt, whole == wanted);
     for size in [1, 2, 3, 5, 7, 1000] {
         let pieces = submitted_in_pieces(rt.alloc(), body, size).err();
         assert!(rt; pieces == wanted, "in pieces of {size}");
@@ -106,13 +129,7 @@ fn forms_in_pieces(rt: HostRuntime) -> Result<(), Fail> {
         b"--b\r\nContent-Disposition: form-data; name=\"extra\"\r\nContent-Type: application/json\r\n\r\n{\"ProductName\":\"Firefox\",\"uuid\":\"de1bb258-cbbf-4589-a673-34f800160918\"}\r\n--b\r\nContent-Disposition: form-data; name=\"upload_file_minidump\"; filename=\"a.dmp\"\r\n\r\nMDMP\r\n--b\r\r\n\r\n--b--\r\nan epilogue";
     for size in [1, 2, 3, 5, 7, 1000] {
         let said = submitted_in_pieces(rt.alloc(), body, size)?;
-        assert_eq!(rt; said.annotations.len(), 1);
-        assert!(rt; said.annotations.get("ProductName") == Some("Firefox"));
-        assert!(rt;
-            said.dumps.get("upload_file_minidump") == Some(b"MDMP\r\n--b\r\r\n".as_slice())
-        );
-        let id = said.sent_id.ok_or("no id")?;
-        assert_eq!(rt; id.as_str(), ID);
+        expect_firefox(&rt, &said, b"MDMP\r\n--b\r\r\n")?;
     }
     Ok(())
 }

@@ -1,10 +1,11 @@
 //! Worked rows, each fed in one piece and one byte at a time.
+use crate::expect::{holds, same};
 use soc_edge::{Failed, MemSink, MemSource, Numbers, Source, Tells};
 use soc_http::{
     Answered, BodyError, Buffer, Head, HeadError, Kind, Route, RouteError, Routes, Verb,
     body_piece, pairs_of, read_body, read_head, write_reply,
 };
-use soc_raw::Bytes;
+use soc_raw::{Bytes, Pairs};
 use soc_text::before;
 use std::alloc::Global;
 use std::process::Abort;
@@ -38,8 +39,8 @@ fn head_of(alloc: Global, text: &[u8], size: usize) -> Result<Option<Head>, Head
 }
 
 fn expect_refusal(rt: &impl Abort, alloc: Global, text: &[u8], refusal: HeadError) {
-    assert_eq!(rt; head_of(alloc, text, WHOLE).err(), Some(refusal));
-    assert_eq!(rt; head_of(alloc, text, 1).err(), Some(refusal));
+    same(rt, head_of(alloc, text, WHOLE).err(), Some(refusal));
+    same(rt, head_of(alloc, text, 1).err(), Some(refusal));
 }
 
 #[test]
@@ -105,25 +106,32 @@ fn head_of_lines(alloc: Global, count: usize) -> Result<Vec<u8>, Fail> {
     Ok(text)
 }
 
+fn head_there(alloc: Global, text: &[u8], size: usize) -> Result<Head, Fail> {
+    Ok(head_of(alloc, text, size)?.ok_or("no head")?)
+}
+
 #[test]
 fn heads_have_limits(rt: HostRuntime) -> Result<(), Fail> {
     let alloc = rt.alloc();
     let largest = long_head(alloc, 16_384)?;
     assert_eq!(rt; largest.len(), 16_384);
-    assert_eq!(rt;
-        head_of(alloc, &largest, WHOLE)?.ok_or("no head")?.bytes,
-        16_384
-    );
-    assert_eq!(rt;
-        head_of(alloc, &largest, 1_000)?.ok_or("no head")?.bytes,
-        16_384
-    );
-    expect_refusal(
-        &rt,
-        alloc,
-        &long_head(alloc, 16_385)?,
-        HeadError::HeadTooLarge,
-    );
+    for size in [WHOLE, 1_000] {
+        same(&rt, head_there(alloc, &largest, size)?.bytes, 16_384);
+    }
+    Ok(())
+}
+
+#[test]
+fn larger_heads_are_refused(rt: HostRuntime) -> Result<(), Fail> {
+    let alloc = rt.alloc();
+    let larger = long_head(alloc, 16_385)?;
+    expect_refusal(&rt, alloc, &larger, HeadError::HeadTooLarge);
+    Ok(())
+}
+
+#[test]
+fn unfinished_heads_have_limits(rt: HostRuntime) -> Result<(), Fail> {
+    let alloc = rt.alloc();
     let unfinished = long_head(alloc, 16_388)?;
     assert_eq!(rt; unfinished.len(), 16_388);
     expect_refusal(&rt, alloc, before(&unfinished, 16_384), HeadError::CutShort);
@@ -133,19 +141,16 @@ fn heads_have_limits(rt: HostRuntime) -> Result<(), Fail> {
         before(&unfinished, 16_385),
         HeadError::HeadTooLarge,
     );
-    assert_eq!(rt;
-        head_of(alloc, &head_of_lines(alloc, 64)?, 7)?
-            .ok_or("no head")?
-            .lines
-            .len(),
-        64
-    );
-    expect_refusal(
-        &rt,
-        alloc,
-        &head_of_lines(alloc, 65)?,
-        HeadError::HeadTooLarge,
-    );
+    Ok(())
+}
+
+#[test]
+fn a_head_has_64_lines_at_most(rt: HostRuntime) -> Result<(), Fail> {
+    let alloc = rt.alloc();
+    let head = head_there(alloc, &head_of_lines(alloc, 64)?, 7)?;
+    assert_eq!(rt; head.lines.len(), 64);
+    let more = head_of_lines(alloc, 65)?;
+    expect_refusal(&rt, alloc, &more, HeadError::HeadTooLarge);
     Ok(())
 }
 
@@ -153,26 +158,55 @@ const MESSAGES: &[u8] =
     b"POST /a%20b?x=%31?y HTTP/1.0\r\nHost: h\nX: \xFF\r\nContent-Length: 3\r\n\r\nabc\
 GET /b HTTP/1.1\r\nConnection: keep-alive\r\nConnection:  Close \r\n\r\n";
 
+fn expect_post(rt: &impl Abort, head: &Head) {
+    same(rt, head.verb, Verb::Post);
+    same(rt, head.path.as_str(), "/a%20b");
+    same(rt, head.query.as_str(), "x=%31?y");
+    assert_eq!(rt; head.lines.len(), 3);
+    same(rt, head.lines.at(1).0, "X");
+    same(rt, head.lines.at(1).1, "\u{FFFD}");
+    same(rt, (head.length, head.bytes, head.last), (3, 65, true));
+}
+
+fn expect_get(rt: &impl Abort, head: &Head) {
+    same(rt, head.path.as_str(), "/b");
+    same(rt, (head.length, head.last), (0, true));
+}
+
+fn expect_body(
+    rt: &impl Abort,
+    alloc: Global,
+    source: &mut Drip<'_>,
+    buffer: &mut Buffer,
+    head: &Head,
+) -> Result<(), Fail> {
+    let body = read_body(alloc, source, buffer, head)?;
+    same(rt, body.as_slice(), b"abc".as_slice());
+    Ok(())
+}
+
+fn expect_both(
+    rt: &impl Abort,
+    alloc: Global,
+    source: &mut Drip<'_>,
+    buffer: &mut Buffer,
+) -> Result<(), Fail> {
+    let post = read_head(alloc, source, buffer)?.ok_or("no head")?;
+    expect_post(rt, &post);
+    expect_body(rt, alloc, source, buffer, &post)?;
+    let get = read_head(alloc, source, buffer)?.ok_or("no head")?;
+    expect_get(rt, &get);
+    Ok(())
+}
+
 fn expect_messages(rt: &impl Abort, alloc: Global, size: usize) -> Result<(), Fail> {
     let mut source = Drip {
         rest: MESSAGES,
         size,
     };
     let mut buffer = Buffer::new(alloc)?;
-    let head = read_head(alloc, &mut source, &mut buffer)?.ok_or("no head")?;
-    assert_eq!(rt; head.verb, Verb::Post);
-    assert_eq!(rt; head.path.as_str(), "/a%20b");
-    assert_eq!(rt; head.query.as_str(), "x=%31?y");
-    assert_eq!(rt; head.lines.len(), 3);
-    assert_eq!(rt; head.lines.at(1).0, "X");
-    assert_eq!(rt; head.lines.at(1).1, "\u{FFFD}");
-    assert_eq!(rt; (head.length, head.bytes, head.last), (3, 65, true));
-    let body = read_body(alloc, &mut source, &mut buffer, &head)?;
-    assert_eq!(rt; body.as_slice(), b"abc".as_slice());
-    let head = read_head(alloc, &mut source, &mut buffer)?.ok_or("no head")?;
-    assert_eq!(rt; head.path.as_str(), "/b");
-    assert_eq!(rt; (head.length, head.last), (0, true));
-    assert!(rt; read_head(alloc, &mut source, &mut buffer)?.is_none());
+    expect_both(rt, alloc, &mut source, &mut buffer)?;
+    holds(rt, read_head(alloc, &mut source, &mut buffer)?.is_none());
     Ok(())
 }
 
@@ -182,48 +216,75 @@ fn messages_are_read(rt: HostRuntime) -> Result<(), Fail> {
     expect_messages(&rt, rt.alloc(), 1)
 }
 
-#[test]
-fn bodies_come_in_pieces(rt: HostRuntime) -> Result<(), Fail> {
-    let alloc = rt.alloc();
-    let mut source = MemSource::new(Bytes::of(alloc, b"abcdef")?, Numbers::new(Vec::new(alloc)));
-    let mut buffer = Buffer::new(alloc)?;
+/// A source of this text, whose calls with these numbers fail.
+fn source_of(alloc: Global, text: &[u8], fails: &[u64]) -> Result<MemSource, Fail> {
+    let fails = Numbers::new(fails.to_vec(alloc)?);
+    Ok(MemSource::new(Bytes::of(alloc, text)?, fails))
+}
+
+fn expect_pieces(rt: &impl Abort, source: &mut MemSource, buffer: &mut Buffer) -> Result<(), Fail> {
     let mut left = 4;
-    assert_eq!(rt;
-        body_piece(&mut buffer, &mut source, &mut left)?,
-        b"abcd".as_slice()
+    same(
+        rt,
+        body_piece(buffer, source, &mut left)?,
+        b"abcd".as_slice(),
     );
-    assert_eq!(rt; left, 0);
+    same(rt, left, 0);
     left = 9;
-    assert_eq!(rt;
-        body_piece(&mut buffer, &mut source, &mut left)?,
-        b"ef".as_slice()
-    );
+    same(rt, body_piece(buffer, source, &mut left)?, b"ef".as_slice());
     assert_eq!(rt; left, 7);
-    assert_eq!(rt;
-        body_piece(&mut buffer, &mut source, &mut left).err(),
-        Some(BodyError::CutShort)
+    same(
+        rt,
+        body_piece(buffer, source, &mut left).err(),
+        Some(BodyError::CutShort),
     );
     assert_eq!(rt; left, 7);
     Ok(())
 }
 
 #[test]
+fn bodies_come_in_pieces(rt: HostRuntime) -> Result<(), Fail> {
+    let mut source = source_of(rt.alloc(), b"abcdef", &[])?;
+    let mut buffer = Buffer::new(rt.alloc())?;
+    expect_pieces(&rt, &mut source, &mut buffer)
+}
+
+/// A message whose body is cut short.
+const CUT: &[u8] = b"POST / HTTP/1.1\r\nContent-Length: 4\r\n\r\nabc";
+
+fn expect_cut(
+    rt: &impl Abort,
+    alloc: Global,
+    source: &mut MemSource,
+    buffer: &mut Buffer,
+) -> Result<(), Fail> {
+    let head = read_head(alloc, source, buffer)?.ok_or("no head")?;
+    let refusal = read_body(alloc, source, buffer, &head).err();
+    same(rt, refusal, Some(BodyError::CutShort));
+    Ok(())
+}
+
+fn expect_read_fault(
+    rt: &impl Abort,
+    alloc: Global,
+    source: &mut MemSource,
+    buffer: &mut Buffer,
+) -> Result<(), Fail> {
+    let refusal = read_head(alloc, source, buffer).err();
+    same(rt, refusal, Some(HeadError::ReadFault));
+    holds(rt, read_head(alloc, source, buffer)?.is_some());
+    Ok(())
+}
+
+#[test]
 fn bodies_are_cut_short_or_fail(rt: HostRuntime) -> Result<(), Fail> {
     let alloc = rt.alloc();
-    let text = b"POST / HTTP/1.1\r\nContent-Length: 4\r\n\r\nabc";
-    let mut source = MemSource::new(Bytes::of(alloc, text)?, Numbers::new(Vec::new(alloc)));
     let mut buffer = Buffer::new(alloc)?;
-    let head = read_head(alloc, &mut source, &mut buffer)?.ok_or("no head")?;
-    let refusal = read_body(alloc, &mut source, &mut buffer, &head).err();
-    assert_eq!(rt; refusal, Some(BodyError::CutShort));
+    let mut cut = source_of(alloc, CUT, &[])?;
+    expect_cut(&rt, alloc, &mut cut, &mut buffer)?;
     buffer.clear();
-    let mut fails = Vec::new(alloc);
-    fails.push(0)?;
-    let mut source = MemSource::new(Bytes::of(alloc, text)?, Numbers::new(fails));
-    let refusal = read_head(alloc, &mut source, &mut buffer).err();
-    assert_eq!(rt; refusal, Some(HeadError::ReadFault));
-    assert!(rt; read_head(alloc, &mut source, &mut buffer)?.is_some());
-    Ok(())
+    let mut failing = source_of(alloc, CUT, &[0])?;
+    expect_read_fault(&rt, alloc, &mut failing, &mut buffer)
 }
 
 fn expect_reply(
@@ -250,7 +311,7 @@ fn expect_reply(
     };
     write_reply(&mut sink, &answered)?;
     let want = format!(in alloc; "HTTP/1.1 {head}\r\n\r\nbody\n")?;
-    assert_eq!(rt; sink.bytes(), want.as_bytes());
+    same(rt, sink.bytes(), want.as_bytes());
     Ok(())
 }
 
@@ -293,10 +354,10 @@ fn expect_route(rt: &impl Abort, alloc: Global, path: &str, allow: Verb) -> Resu
     } else {
         Verb::Get
     };
-    assert!(rt; routes.find(alloc, allow, path).is_ok());
+    holds(rt, routes.find(alloc, allow, path).is_ok());
     let wrong = Some(RouteError::WrongVerb { allow });
-    assert_eq!(rt; routes.find(alloc, other, path).err(), wrong);
-    assert_eq!(rt; routes.find(alloc, Verb::Other, path).err(), wrong);
+    same(rt, routes.find(alloc, other, path).err(), wrong);
+    same(rt, routes.find(alloc, Verb::Other, path).err(), wrong);
     Ok(())
 }
 
@@ -337,26 +398,31 @@ fn routes_are_found(rt: HostRuntime) -> Result<(), Fail> {
         "/report/index/a/b",
         "/report/index",
     ] {
-        assert_eq!(rt;
+        same(
+            &rt,
             routes.find(alloc, Verb::Get, path).err(),
-            Some(RouteError::NoRoute)
+            Some(RouteError::NoRoute),
         );
     }
     let Ok(Route::Report(id)) = routes.find(alloc, Verb::Get, "/report/index/a%20b") else {
         return Err("no report".into());
     };
-    assert_eq!(rt; id.as_str(), "a%20b");
+    same(&rt, id.as_str(), "a%20b");
     Ok(())
+}
+
+fn expect_pairs(rt: &impl Abort, pairs: &Pairs) {
+    assert_eq!(rt; pairs.len(), 3);
+    same(rt, pairs.at(0).0, "a");
+    same(rt, pairs.at(0).1, "1 2");
+    same(rt, pairs.at(1).0, "b=");
+    same(rt, pairs.at(1).1, "\u{E4}\u{FFFD}");
+    same(rt, pairs.at(2).1, "");
 }
 
 #[test]
 fn queries_are_read(rt: HostRuntime) -> Result<(), Fail> {
     let pairs = pairs_of(rt.alloc(), b"a=1+2&&b%3D=%C3%A4%FF&c")?;
-    assert_eq!(rt; pairs.len(), 3);
-    assert_eq!(rt; pairs.at(0).0, "a");
-    assert_eq!(rt; pairs.at(0).1, "1 2");
-    assert_eq!(rt; pairs.at(1).0, "b=");
-    assert_eq!(rt; pairs.at(1).1, "\u{E4}\u{FFFD}");
-    assert_eq!(rt; pairs.at(2).1, "");
+    expect_pairs(&rt, &pairs);
     Ok(())
 }

@@ -2,7 +2,8 @@
 mod clients;
 mod pieces;
 
-use soc_multipart::{PartsError, read_whole};
+use crate::expect::{holds, same};
+use soc_multipart::{Part, PartsError, read_whole};
 use std::alloc::{AllocError, Global};
 use std::process::Abort;
 use std::test::Fail;
@@ -10,16 +11,19 @@ use std::test::Fail;
 const FIREFOX: &[u8] =
     b"--b\r\nContent-Disposition: form-data; name=\"ProductName\"\r\n\r\nFirefox\r\n--b--\r\n";
 
+fn expect_part(rt: &impl Abort, part: &Part<'_>, name: &str, content: &[u8]) {
+    same(rt, part.name.as_str(), name);
+    holds(rt, part.content == content);
+}
+
 #[test]
 fn near_delimiters_are_content(rt: HostRuntime) -> Result<(), Fail> {
     let body =
         b"--b\r\nContent-Disposition: form-data; name=\"one\"\r\n\r\nx--b\r\n--b\r\nContent-Disposition: form-data; name=\"two\"\r\n\r\nx\r\n--bc\r\n--b--\r\n";
     let parts = read_whole(rt.alloc(), b"b", body)?;
     assert_eq!(rt; parts.len(), 2);
-    assert_eq!(rt; parts[0].name.as_str(), "one");
-    assert!(rt; parts[0].content == b"x--b".as_slice());
-    assert_eq!(rt; parts[1].name.as_str(), "two");
-    assert!(rt; parts[1].content == b"x\r\n--bc".as_slice());
+    expect_part(&rt, &parts[0], "one", b"x--b");
+    expect_part(&rt, &parts[1], "two", b"x\r\n--bc");
     Ok(())
 }
 
@@ -39,68 +43,52 @@ fn each_front_of_a_body(rt: HostRuntime) -> Result<(), Fail> {
 
 #[test]
 fn outside_the_parts(rt: HostRuntime) -> Result<(), Fail> {
-    let none = read_whole(rt.alloc(), b"b", b"--b--")?;
-    assert_eq!(rt; none.len(), 0);
     let body =
         b"a preamble\r\n--b \t\r\ncontent-disposition:form-data;name=a\r\n\r\n\r\n--b--\t\r\nan epilogue\r\n--b\r\n";
     let parts = read_whole(rt.alloc(), b"b", body)?;
     assert_eq!(rt; parts.len(), 1);
-    assert_eq!(rt; parts[0].name.as_str(), "a");
-    assert!(rt; parts[0].content.is_empty());
-    let bad = read_whole(rt.alloc(), b"b ", FIREFOX).err();
-    assert!(rt; bad == Some(PartsError::BadBoundary));
+    expect_part(&rt, &parts[0], "a", b"");
     Ok(())
 }
 
 #[test]
+fn no_parts(rt: HostRuntime) -> Result<(), Fail> {
+    let none = read_whole(rt.alloc(), b"b", b"--b--")?.len();
+    same(&rt, none, 0);
+    let bad = read_whole(rt.alloc(), b"b ", FIREFOX).err();
+    holds(&rt, bad == Some(PartsError::BadBoundary));
+    Ok(())
+}
+
+// Heads of parts, and whether they are one.
+const HEADS: [(&[u8], bool); 8] = [
+    (
+        b"Content-Disposition: form-data; name=\"upload_file_minidump\"; filename=\"a\\\"b.dmp\"\r\nContent-Type: application/octet-stream\r\nX-Other: 1\r\n",
+        true,
+    ),
+    (
+        b"CONTENT-DISPOSITION: form-data; Name=a; other=\"\"; filename*=b\r\n",
+        true,
+    ),
+    (b"Content-Disposition: form-data; name=a; name=b\r\n", false),
+    (b"Content-Disposition: form-data; name=a;\r\n", false),
+    (b"Content-Disposition: Form-Data; name=a\r\n", false),
+    (
+        b"Content-Disposition: form-data; name=a\r\ncontent-disposition: form-data; name=b\r\n",
+        false,
+    ),
+    (
+        b"Content-Disposition: form-data; name=a\r\nContent-Type: x\r\ncontent-type: y\r\n",
+        false,
+    ),
+    (b"Content-Type: text/plain\r\n", false),
+];
+
+#[test]
 fn heads(rt: HostRuntime) -> Result<(), Fail> {
-    let crashpad =
-        b"Content-Disposition: form-data; name=\"upload_file_minidump\"; filename=\"a\\\"b.dmp\"\r\nContent-Type: application/octet-stream\r\nX-Other: 1\r\n";
-    let parts = part_with(&rt, rt.alloc(), crashpad)?;
-    assert!(rt; parts);
-    assert!(rt;
-        part_with(
-            &rt,
-            rt.alloc(),
-            b"CONTENT-DISPOSITION: form-data; Name=a; other=\"\"; filename*=b\r\n"
-        )?
-    );
-    assert!(rt;
-        !part_with(
-            &rt,
-            rt.alloc(),
-            b"Content-Disposition: form-data; name=a; name=b\r\n"
-        )?
-    );
-    assert!(rt;
-        !part_with(
-            &rt,
-            rt.alloc(),
-            b"Content-Disposition: form-data; name=a;\r\n"
-        )?
-    );
-    assert!(rt;
-        !part_with(
-            &rt,
-            rt.alloc(),
-            b"Content-Disposition: Form-Data; name=a\r\n"
-        )?
-    );
-    assert!(rt;
-        !part_with(
-            &rt,
-            rt.alloc(),
-            b"Content-Disposition: form-data; name=a\r\ncontent-disposition: form-data; name=b\r\n"
-        )?
-    );
-    assert!(rt;
-        !part_with(
-            &rt,
-            rt.alloc(),
-            b"Content-Disposition: form-data; name=a\r\nContent-Type: x\r\ncontent-type: y\r\n"
-        )?
-    );
-    assert!(rt; !part_with(&rt, rt.alloc(), b"Content-Type: text/plain\r\n")?);
+    for (head, is_one) in &HEADS {
+        same(&rt, part_with(&rt, rt.alloc(), head)?, *is_one);
+    }
     Ok(())
 }
 
@@ -110,29 +98,43 @@ fn part_with(rt: &impl Abort, alloc: Global, head: &[u8]) -> Result<bool, AllocE
     body.extend_from_slice(head)?;
     body.extend_from_slice(b"\r\nx\r\n--b--")?;
     let refusal = read_whole(alloc, b"b", body.as_slice()).err();
-    assert!(rt; refusal.is_none() || refusal == Some(PartsError::BadPartHead { part: 0 }));
+    holds(
+        rt,
+        refusal.is_none() || refusal == Some(PartsError::BadPartHead { part: 0 }),
+    );
     Ok(refusal.is_none())
 }
 
 #[test]
 fn limits(rt: HostRuntime) -> Result<(), Fail> {
     let most = refusal_of_many(rt.alloc(), 512)?;
-    assert!(rt; most.is_none());
+    holds(&rt, most.is_none());
     let more = refusal_of_many(rt.alloc(), 513)?;
-    assert!(rt; more == Some(PartsError::TooManyParts));
-    let line = b"Content-Disposition: form-data; name=a\r\nX: ";
-    let mut head = Vec::from_slice(rt.alloc(), line)?;
-    for _ in 0..(1024 - line.len() - 4) {
+    holds(&rt, more == Some(PartsError::TooManyParts));
+    Ok(())
+}
+
+// A part's head of so many bytes, without its empty line.
+fn long_head(alloc: Global, bytes: usize) -> Result<Vec<u8>, AllocError> {
+    let mut head = Vec::from_slice(alloc, b"Content-Disposition: form-data; name=a\r\nX: ")?;
+    for _ in 45..bytes {
         head.push(b'x')?;
     }
     head.extend_from_slice(b"\r\n")?;
-    assert_eq!(rt; head.len(), 1022);
-    assert!(rt; part_with(&rt, rt.alloc(), head.as_slice())?);
-    head.pop();
-    head.pop();
-    head.extend_from_slice(b"x\r\n")?;
-    assert!(rt; !part_with(&rt, rt.alloc(), head.as_slice())?);
+    Ok(head)
+}
+
+fn expect_long(rt: &impl Abort, alloc: Global, bytes: usize, is_one: bool) -> Result<(), Fail> {
+    let head = long_head(alloc, bytes)?;
+    assert_eq!(rt; head.len(), bytes);
+    same(rt, part_with(rt, alloc, head.as_slice())?, is_one);
     Ok(())
+}
+
+#[test]
+fn heads_have_limits(rt: HostRuntime) -> Result<(), Fail> {
+    expect_long(&rt, rt.alloc(), 1022, true)?;
+    expect_long(&rt, rt.alloc(), 1023, false)
 }
 
 fn refusal_of_many(alloc: Global, count: usize) -> Result<Option<PartsError>, AllocError> {

@@ -1,6 +1,8 @@
 //! Symbol files written by hand: each rule of a line, look-ups with their edges, and paths.
-use soc_symfile::{Found, SymError, SymFile, is_symbol_path, symbol_path};
+use crate::expect::{holds, same, same_at};
+use soc_symfile::{CfiSpan, Found, SymError, SymFile, is_symbol_path, symbol_path};
 use std::alloc::{AllocError, Global};
+use std::process::Abort;
 use std::test::Fail;
 
 // The first bad line of a text, where it has one.
@@ -21,180 +23,141 @@ fn with_line(alloc: Global, line: &[u8]) -> Result<Vec<u8>, AllocError> {
     Ok(text)
 }
 
-const GOOD_LINES: [&[u8]; 25] = [
-    b"",
-    b" FUNC",
-    b"INFO CODE_ID x",
-    b"MODULE",
-    b"func 1",
-    b"\xFF\xFE",
-    b"FILE 0 a",
-    b"FILE 00000000000000000000000007 a b",
-    b"FILE 4294967295 a",
-    b"FILE 1  a",
-    b"FUNC m 1 1 0 f",
-    b"FUNC ffffffffffffffff 0 0 f",
-    b"FUNC 0 FFFFFFFFFFFFFFFF 0 f",
-    b"PUBLIC 1 0 p",
-    b"PUBLIC m 1 0 p",
-    b"1 1 1 1",
-    b"DEAD 1 4294967295 0",
-    b"STACK",
-    b"STACK ",
-    b"STACK WIN 4 x",
-    b"STACK  CFI",
-    b"STACK CFI 0 r",
-    b"STACK CFI INIT 1 1 r",
-    b"STACK CFI INIT ffffffffffffffff 0 r",
-    b"PUBLIC 1 0 p\r",
-];
+// The bytes that a table's text stands for: `|` stands for a line's end, `~` for the byte FF and `^` for FE.
+fn bytes_of(alloc: Global, text: &str) -> Result<Vec<u8>, AllocError> {
+    let mut bytes = Vec::new(alloc);
+    for byte in text.as_bytes() {
+        bytes.push(match *byte {
+            b'|' => b'\n',
+            b'~' => 0xFF,
+            b'^' => 0xFE,
+            other => other,
+        })?;
+    }
+    Ok(bytes)
+}
 
-const BAD_LINES: [&[u8]; 45] = [
-    b"FILE",
-    b"FILE 1",
-    b"FILE 1 ",
-    b"FILE +1 a",
-    b"FILE 4294967296 a",
-    b"FILE  1 a",
-    b"FILE x a",
-    b"FILE 1 \xFF",
-    b"FUNC",
-    b"FUNC 1 1 0",
-    b"FUNC 1 1 0 ",
-    b"FUNC 1 1 f",
-    b"FUNC  1 1 0 f",
-    b"FUNC 00000000000000001 1 0 f",
-    b"FUNC ffffffffffffffff 1 0 f",
-    b"FUNC 1 1 g f",
-    b"FUNC m m 1 1 0 f",
-    b"FUNC 1 1 0 \xFF",
-    b"PUBLIC 1 p",
-    b"PUBLIC 1 0",
-    b"PUBLIC 1 0 \xFF",
-    b"dead",
-    b"12345678901234567 1 1 1",
-    b"1 1 1",
-    b"1 1 1 1 ",
-    b"1 1 1 1 1",
-    b"1 1 +1 1",
-    b"1 1 a 1",
-    b"1 1 4294967296 1",
-    b"1 1 1 4294967296",
-    b"ffffffffffffffff 1 1 1",
-    b"1  1 1 1",
-    b"1 1 1 1\r\r",
-    b"STACK CFI",
-    b"STACK CFI ",
-    b"STACK CFI 1",
-    b"STACK CFI 1 ",
-    b"STACK CFI  1 r",
-    b"STACK CFI g r",
-    b"STACK CFI 1 \xFF",
-    b"STACK CFI INIT",
-    b"STACK CFI INIT 1 1",
-    b"STACK CFI INIT 1 1 ",
-    b"STACK CFI INIT ffffffffffffffff 1 r",
-    b"STACK CFI INIT 1 1 \xFF",
-];
+// The first bad line of a text with this line.
+fn bad_line_with(alloc: Global, line: &str) -> Result<Option<u64>, Fail> {
+    let line = bytes_of(alloc, line)?;
+    let text = with_line(alloc, line.as_slice())?;
+    Ok(bad_line(alloc, text.as_slice())?)
+}
+
+// Lines, parted by line feeds alone.
+const GOOD_LINES: &str = "\
+INFO CODE_ID x
+
+ FUNC
+MODULE
+func 1
+~^
+FILE 0 a
+FILE 00000000000000000000000007 a b
+FILE 4294967295 a
+FILE 1  a
+FUNC m 1 1 0 f
+FUNC ffffffffffffffff 0 0 f
+FUNC 0 FFFFFFFFFFFFFFFF 0 f
+PUBLIC 1 0 p
+PUBLIC m 1 0 p
+1 1 1 1
+DEAD 1 4294967295 0
+STACK
+STACK\x20
+STACK WIN 4 x
+STACK  CFI
+STACK CFI 0 r
+STACK CFI INIT 1 1 r
+STACK CFI INIT ffffffffffffffff 0 r
+PUBLIC 1 0 p\r";
+
+const BAD_LINES: &str = "\
+FILE
+FILE 1
+FILE 1\x20
+FILE +1 a
+FILE 4294967296 a
+FILE  1 a
+FILE x a
+FILE 1 ~
+FUNC
+FUNC 1 1 0
+FUNC 1 1 0\x20
+FUNC 1 1 f
+FUNC  1 1 0 f
+FUNC 00000000000000001 1 0 f
+FUNC ffffffffffffffff 1 0 f
+FUNC 1 1 g f
+FUNC m m 1 1 0 f
+FUNC 1 1 0 ~
+PUBLIC 1 p
+PUBLIC 1 0
+PUBLIC 1 0 ~
+dead
+12345678901234567 1 1 1
+1 1 1
+1 1 1 1\x20
+1 1 1 1 1
+1 1 +1 1
+1 1 a 1
+1 1 4294967296 1
+1 1 1 4294967296
+ffffffffffffffff 1 1 1
+1  1 1 1
+1 1 1 1\r\r
+STACK CFI
+STACK CFI\x20
+STACK CFI 1
+STACK CFI 1\x20
+STACK CFI  1 r
+STACK CFI g r
+STACK CFI 1 ~
+STACK CFI INIT
+STACK CFI INIT 1 1
+STACK CFI INIT 1 1\x20
+STACK CFI INIT ffffffffffffffff 1 r
+STACK CFI INIT 1 1 ~";
 
 #[test]
 fn lines(rt: HostRuntime) -> Result<(), Fail> {
-    for line in GOOD_LINES {
-        let text = with_line(rt.alloc(), line)?;
-        assert_eq!(rt; bad_line(rt.alloc(), text.as_slice())?, None);
+    for line in GOOD_LINES.split('\n') {
+        same(&rt, bad_line_with(rt.alloc(), line)?, None);
     }
-    for line in BAD_LINES {
-        let text = with_line(rt.alloc(), line)?;
-        assert_eq!(rt; bad_line(rt.alloc(), text.as_slice())?, Some(4));
+    for line in BAD_LINES.split('\n') {
+        same(&rt, bad_line_with(rt.alloc(), line)?, Some(4));
     }
     Ok(())
 }
 
-#[derive(Clone, Copy)]
-struct Case {
-    text: &'static [u8],
-    bad: Option<u64>,
-}
-
-const TEXTS: [Case; 18] = [
-    Case {
-        text: b"",
-        bad: Some(1),
-    },
-    Case {
-        text: b"\nMODULE a b c d\n",
-        bad: Some(1),
-    },
-    Case {
-        text: b"FUNC 1 1 0 f\n",
-        bad: Some(1),
-    },
-    Case {
-        text: b"MODULE",
-        bad: Some(1),
-    },
-    Case {
-        text: b"MODULE a b c",
-        bad: Some(1),
-    },
-    Case {
-        text: b"MODULE a b c ",
-        bad: Some(1),
-    },
-    Case {
-        text: b"MODULE  b c d",
-        bad: Some(1),
-    },
-    Case {
-        text: b"module a b c d",
-        bad: Some(1),
-    },
-    Case {
-        text: b"MODULE a b c \xFF",
-        bad: Some(1),
-    },
-    Case {
-        text: b"MODULE a b c d",
-        bad: None,
-    },
-    Case {
-        text: b"MODULE \xFF b c d e\r\n",
-        bad: None,
-    },
-    Case {
-        text: b"MODULE a b c d\nFUNC ffffffffffffffff 1 0 f\n",
-        bad: Some(2),
-    },
-    Case {
-        text: b"MODULE a b c d\n1 1 1 1\nFUNC 1 1 0 f\n",
-        bad: Some(2),
-    },
-    Case {
-        text: b"MODULE a b c d\nFUNC 1 1 0 f\n\nPUBLIC 1 0 p\n1 1 1 1\n",
-        bad: None,
-    },
-    Case {
-        text: b"MODULE a b c d\nFUNC 1 1 0 f\nSTACK CFI 1 r\n",
-        bad: Some(3),
-    },
-    Case {
-        text: b"MODULE a b c d\nSTACK CFI INIT 1 1 r\nFUNC 1 1 0 f\nSTACK CFI 1 r\n",
-        bad: None,
-    },
-    Case {
-        text: b"MODULE a b c d\n\n\nFILE\ndead\n",
-        bad: Some(4),
-    },
-    Case {
-        text: b"MODULE a b c d\r\nFUNC 1 1 0 f\r\n1 1 1 1\r",
-        bad: Some(3),
-    },
-];
+// Texts, in which `|` stands for a line's end and `~` for the byte FF, and their first bad lines.
+const TEXTS: &str = "\
+\x20=> 1
+|MODULE a b c d| => 1
+FUNC 1 1 0 f| => 1
+MODULE => 1
+MODULE a b c => 1
+MODULE a b c  => 1
+MODULE  b c d => 1
+module a b c d => 1
+MODULE a b c ~ => 1
+MODULE a b c d => none
+MODULE ~ b c d e\r| => none
+MODULE a b c d|FUNC ffffffffffffffff 1 0 f| => 2
+MODULE a b c d|1 1 1 1|FUNC 1 1 0 f| => 2
+MODULE a b c d|FUNC 1 1 0 f||PUBLIC 1 0 p|1 1 1 1| => none
+MODULE a b c d|FUNC 1 1 0 f|STACK CFI 1 r| => 3
+MODULE a b c d|STACK CFI INIT 1 1 r|FUNC 1 1 0 f|STACK CFI 1 r| => none
+MODULE a b c d|||FILE|dead| => 4
+MODULE a b c d\r|FUNC 1 1 0 f\r|1 1 1 1\r => 3";
 
 #[test]
 fn texts(rt: HostRuntime) -> Result<(), Fail> {
-    for case in TEXTS {
-        assert_eq!(rt; bad_line(rt.alloc(), case.text)?, case.bad);
+    for line in TEXTS.lines() {
+        let (text, bad) = line.split_once(" => ").unwrap_or((line, ""));
+        let text = bytes_of(rt.alloc(), text)?;
+        let found = bad_line(rt.alloc(), text.as_slice())?;
+        same(&rt, found, soc_text::number(bad.as_bytes(), 18));
     }
     Ok(())
 }
@@ -205,11 +168,7 @@ const NOTHING: Found<'static> = Found {
     line: None,
 };
 
-#[test]
-fn finds_functions_and_symbols(rt: HostRuntime) -> Result<(), Fail> {
-    let text =
-        b"MODULE Linux x86_64 0 a\nFILE 1 a.cpp\nFUNC 1000 10 0 f(int)\n1000 8 12 1\n1008 8 13 1\nPUBLIC 2000 0 g\n";
-    let file = SymFile::read(rt.alloc(), text)?;
+fn expect_found(rt: &impl Abort, file: &SymFile<'_>) {
     let source = Found {
         function: Some("f(int)"),
         file: Some("a.cpp"),
@@ -220,11 +179,19 @@ fn finds_functions_and_symbols(rt: HostRuntime) -> Result<(), Fail> {
         file: None,
         line: None,
     };
-    assert_eq!(rt; file.find(0x1009), source);
-    assert_eq!(rt; file.find(0x1010), NOTHING);
-    assert_eq!(rt; file.find(0x2005), symbol);
-    assert!(rt; file.in_func(0x100F));
-    assert!(rt; !file.in_func(0x2000));
+    same(rt, file.find(0x1009), source);
+    same(rt, file.find(0x1010), NOTHING);
+    same(rt, file.find(0x2005), symbol);
+    holds(rt, file.in_func(0x100F));
+    holds(rt, !file.in_func(0x2000));
+}
+
+#[test]
+fn finds_functions_and_symbols(rt: HostRuntime) -> Result<(), Fail> {
+    let text =
+        b"MODULE Linux x86_64 0 a\nFILE 1 a.cpp\nFUNC 1000 10 0 f(int)\n1000 8 12 1\n1008 8 13 1\nPUBLIC 2000 0 g\n";
+    let file = SymFile::read(rt.alloc(), text)?;
+    expect_found(&rt, &file);
     Ok(())
 }
 
@@ -246,86 +213,51 @@ FUNC fffffffffffffff0 f 0 top
 fffffffffffffff0 f 4 7
 ";
 
-#[derive(Clone, Copy)]
-struct Look {
-    offset: u64,
-    function: Option<&'static str>,
-    file: Option<&'static str>,
-    line: Option<u32>,
+// Offsets, and what is found there: a function, a file and a line, or `-`.
+const LOOKS: &str = "\
+0 - - -
+4ff - - -
+500 low - -
+fff low - -
+1000 first new 1
+1003 first new 1
+1004 first new 2
+1008 first - 5
+100a first - -
+1010 within - -
+1fff within - -
+2000 - - -
+20ff - - -
+2100 far - -
+fffffffffffffff0 top new 4
+fffffffffffffffe top new 4
+ffffffffffffffff - - -";
+
+// What is found at an offset, as the table tells it.
+fn shown(alloc: Global, file: &SymFile<'_>, offset: u64) -> Result<String, AllocError> {
+    let found = file.find(offset);
+    let function = found.function.unwrap_or("-");
+    let source = found.file.unwrap_or("-");
+    match found.line {
+        Some(line) => format!(in alloc; "{function} {source} {line}"),
+        None => format!(in alloc; "{function} {source} -"),
+    }
 }
 
-// A look-up that finds no source line.
-macro_rules! named {
-    ($offset:expr, $function:expr) => {
-        Look {
-            offset: $offset,
-            function: $function,
-            file: None,
-            line: None,
-        }
-    };
+fn expect_looks(rt: &impl Abort, alloc: Global, file: &SymFile<'_>) -> Result<(), Fail> {
+    for line in LOOKS.lines() {
+        let (offset, want) = line.split_once(' ').unwrap_or((line, ""));
+        let offset = u64::from_str_radix(offset, 16).ok().ok_or("no offset")?;
+        let found = shown(alloc, file, offset)?;
+        assert_eq!(rt; found.as_str(), want, "at {offset:x}");
+    }
+    Ok(())
 }
-
-const LOOKS: [Look; 17] = [
-    named!(0, None),
-    named!(0x4FF, None),
-    named!(0x500, Some("low")),
-    named!(0xFFF, Some("low")),
-    Look {
-        offset: 0x1000,
-        function: Some("first"),
-        file: Some("new"),
-        line: Some(1),
-    },
-    Look {
-        offset: 0x1003,
-        function: Some("first"),
-        file: Some("new"),
-        line: Some(1),
-    },
-    Look {
-        offset: 0x1004,
-        function: Some("first"),
-        file: Some("new"),
-        line: Some(2),
-    },
-    Look {
-        offset: 0x1008,
-        function: Some("first"),
-        file: None,
-        line: Some(5),
-    },
-    named!(0x100A, Some("first")),
-    named!(0x1010, Some("within")),
-    named!(0x1FFF, Some("within")),
-    named!(0x2000, None),
-    named!(0x20FF, None),
-    named!(0x2100, Some("far")),
-    Look {
-        offset: 0xFFFF_FFFF_FFFF_FFF0,
-        function: Some("top"),
-        file: Some("new"),
-        line: Some(4),
-    },
-    Look {
-        offset: 0xFFFF_FFFF_FFFF_FFFE,
-        function: Some("top"),
-        file: Some("new"),
-        line: Some(4),
-    },
-    named!(0xFFFF_FFFF_FFFF_FFFF, None),
-];
 
 #[test]
 fn finds_at_the_edges(rt: HostRuntime) -> Result<(), Fail> {
     let file = SymFile::read(rt.alloc(), SYMBOLS)?;
-    for look in LOOKS {
-        let found = file.find(look.offset);
-        assert_eq!(rt; found.function, look.function);
-        assert_eq!(rt; found.file, look.file);
-        assert_eq!(rt; found.line, look.line);
-    }
-    Ok(())
+    expect_looks(&rt, rt.alloc(), &file)
 }
 
 const FRAMES: &[u8] = b"MODULE a b c d
@@ -337,21 +269,28 @@ STACK CFI 3002 $rbx: ^
 STACK CFI INIT 3010 0 none
 ";
 
+fn expect_span(rt: &impl Abort, span: CfiSpan<'_>) {
+    same(rt, span.init(), ".cfa: $rsp 8 +");
+    assert_eq!(rt; span.deltas(), 2);
+    let (address, rules) = span.delta(0);
+    same(rt, address, 0x3004);
+    same(rt, rules, ".cfa: $rsp 16 +");
+    let (address, rules) = span.delta(1);
+    same(rt, address, 0x3001);
+    same(rt, rules, "$rbp: ^");
+}
+
+fn expect_no_rules(rt: &impl Abort, file: &SymFile<'_>) {
+    for offset in [0x2FFF, 0x3010, 0x3020] {
+        assert!(rt; file.cfi(offset).is_none(), "at {offset:x}");
+    }
+}
+
 #[test]
 fn finds_frame_rules(rt: HostRuntime) -> Result<(), Fail> {
     let file = SymFile::read(rt.alloc(), FRAMES)?;
-    let span = file.cfi(0x300F).ok_or("no rules")?;
-    assert_eq!(rt; span.init(), ".cfa: $rsp 8 +");
-    assert_eq!(rt; span.deltas(), 2);
-    let (address, rules) = span.delta(0);
-    assert_eq!(rt; address, 0x3004);
-    assert_eq!(rt; rules, ".cfa: $rsp 16 +");
-    let (address, rules) = span.delta(1);
-    assert_eq!(rt; address, 0x3001);
-    assert_eq!(rt; rules, "$rbp: ^");
-    assert!(rt; file.cfi(0x2FFF).is_none());
-    assert!(rt; file.cfi(0x3010).is_none());
-    assert!(rt; file.cfi(0x3020).is_none());
+    expect_span(&rt, file.cfi(0x300F).ok_or("no rules")?);
+    expect_no_rules(&rt, &file);
     Ok(())
 }
 
@@ -366,9 +305,9 @@ fn paths(rt: HostRuntime) -> Result<(), Fail> {
         ("pdb", "pdb/ABC1/pdb.sym"),
         ("\u{e9}.pdb", "\u{e9}.pdb/ABC1/\u{e9}.sym"),
     ] {
+        same_at(&rt, path, is_symbol_path(path, file, "ABC1"), true);
         let text = symbol_path(rt.alloc(), file, "ABC1")?;
-        assert_eq!(rt; text.as_str(), path);
-        assert_eq!(rt; is_symbol_path(path, file, "ABC1"), true, "{path}");
+        same(&rt, text.as_str(), path);
     }
     for path in [
         "",
@@ -380,7 +319,7 @@ fn paths(rt: HostRuntime) -> Result<(), Fail> {
         "xul.pdb/ABC10/xul.sym",
         "XUL.pdb/ABC1/xul.sym",
     ] {
-        assert_eq!(rt; is_symbol_path(path, "xul.pdb", "ABC1"), false, "{path}");
+        same_at(&rt, path, is_symbol_path(path, "xul.pdb", "ABC1"), false);
     }
     Ok(())
 }
@@ -392,6 +331,6 @@ fn threads_share<T: Send + Sync>(_value: &T) {}
 fn threads_share_a_file(rt: HostRuntime) -> Result<(), Fail> {
     let file = SymFile::read(rt.alloc(), b"MODULE a b c d\n")?;
     threads_share(&file);
-    assert_eq!(rt; file.in_func(0), false);
+    same(&rt, file.in_func(0), false);
     Ok(())
 }

@@ -3,6 +3,7 @@ ghost use Rattle.std.specs.Prelude.{◌≡◌, ◌≤◌, All, IfOk, length};
 ghost use Rattle.soc_desk.specs.Kinds.{NeedsNothing};
 ghost use Rattle.soc_hall.specs.Seats.{IsSeatOf, room_of, seats_in, seats_of};
 
+use crate::expect::same;
 use soc_book::Prepared;
 use soc_desk::{Command, Limits};
 use soc_edge::{MemDisk, Numbers};
@@ -111,7 +112,7 @@ fn two_seats_meet_and_leave_one_log(rt: HostRuntime) -> Result<(), Fail> {
     let book = opened(alloc, &mut disk)?;
     let raw = RawCrash::decode(alloc, FIREFOX)?;
     let (fronts, left) = ask_by_two(&rt, alloc, book, raw, all(alloc)?)?;
-    assert_eq!(rt; fronts, [1, 2, 2, 3]);
-    assert_eq!(rt; left, 3);
+    same(&rt, fronts, [1, 2, 2, 3]);
+    same(&rt, left, 3);
     Ok(())
 }

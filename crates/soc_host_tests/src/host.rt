@@ -2,6 +2,7 @@
 mod gates;
 mod storms;
 
+use crate::expect::{holds, same};
 use soc_collect::Tally;
 use soc_edge::{BytesList, Ids16, MemClock, MemDisk, MemDraws, MemSink, MemTree, Numbers};
 use soc_host::run_hall;
@@ -10,6 +11,7 @@ use soc_raw::{Blobs, Bytes, NoMemory, Text};
 use soc_service::{Gate, OpenGate};
 use soc_siglists::RegexMaker;
 use std::alloc::Global;
+use std::process::Abort;
 use std::sync::Wait;
 use std::test::Fail;
 use std::thread::Threads;
@@ -48,17 +50,66 @@ struct Ran {
     served: Tally<MemConn>,
 }
 
-// What a run with these words over this listener and an empty disk leaves.
-fn run<R: Threads + Wait + Sync>(
-    rt: &R,
-    alloc: Global,
-    words: &[&str],
-    listener: MemListener,
-) -> Result<Ran, NoMemory> {
-    run_by(rt, alloc, words, listener, &OpenGate)
+// The words of a run, as the program takes them.
+fn words_of(alloc: Global, words: &[&str]) -> Result<Vec<String>, NoMemory> {
+    let mut list = Vec::new(alloc);
+    for word in words {
+        list.push(String::from_str(alloc, word)?)?;
+    }
+    Ok(list)
 }
 
-// The same with a gate.
+// A tree that has tokens alone.
+fn tree(alloc: Global) -> Result<MemTree, NoMemory> {
+    let mut files = Blobs::new(alloc);
+    files.set(Text::of(alloc, "tokens.toml")?, Bytes::of(alloc, TOKENS)?)?;
+    Ok(MemTree::new(files, Numbers::new(Vec::new(alloc))))
+}
+
+fn output(alloc: Global) -> Result<MemSink, NoMemory> {
+    MemSink::new(alloc, 4096, Numbers::new(Vec::new(alloc)))
+}
+
+fn disk(alloc: Global) -> Result<MemDisk, NoMemory> {
+    MemDisk::new(alloc, 1 << 20, 1000, Numbers::new(Vec::new(alloc)))
+}
+
+fn clock(alloc: Global) -> Result<MemClock, NoMemory> {
+    let moments = [1_474_156_800u64].to_vec(alloc)?;
+    Ok(MemClock::new(Numbers::new(moments)))
+}
+
+fn draws(alloc: Global) -> Result<MemDraws, NoMemory> {
+    let draw = [
+        0xDEu8, 0x1B, 0xB2, 0x58, 0xCB, 0xBF, 0x45, 0x89, 0xA6, 0x73, 0x34, 0xF8, 0, 0, 0, 0,
+    ];
+    Ok(MemDraws::new(
+        Numbers::new([0u64].to_vec(alloc)?),
+        Ids16::new([draw].to_vec(alloc)?),
+    ))
+}
+
+// What a run has around it, but for its listener.
+#[derive(Drop)]
+struct Around {
+    tree: MemTree,
+    output: MemSink,
+    disk: MemDisk,
+    clock: MemClock,
+    draws: MemDraws,
+}
+
+fn surroundings(alloc: Global) -> Result<Around, NoMemory> {
+    Ok(Around {
+        tree: tree(alloc)?,
+        output: output(alloc)?,
+        disk: disk(alloc)?,
+        clock: clock(alloc)?,
+        draws: draws(alloc)?,
+    })
+}
+
+// What a run with these words over this listener and an empty disk leaves.
 fn run_by<R: Threads + Wait + Sync, G: Gate + Sync>(
     rt: &R,
     alloc: Global,
@@ -66,35 +117,20 @@ fn run_by<R: Threads + Wait + Sync, G: Gate + Sync>(
     listener: MemListener,
     gate: &G,
 ) -> Result<Ran, NoMemory> {
-    let mut list = Vec::new(alloc);
-    for word in words {
-        list.push(String::from_str(alloc, word)?)?;
-    }
-    let mut files = Blobs::new(alloc);
-    files.set(Text::of(alloc, "tokens.toml")?, Bytes::of(alloc, TOKENS)?)?;
-    let mut tree = MemTree::new(files, Numbers::new(Vec::new(alloc)));
-    let mut output = MemSink::new(alloc, 4096, Numbers::new(Vec::new(alloc)))?;
-    let mut disk = MemDisk::new(alloc, 1 << 20, 1000, Numbers::new(Vec::new(alloc)))?;
-    let mut clock = MemClock::new(Numbers::new([1_474_156_800u64].to_vec(alloc)?));
-    let draw = [
-        0xDEu8, 0x1B, 0xB2, 0x58, 0xCB, 0xBF, 0x45, 0x89, 0xA6, 0x73, 0x34, 0xF8, 0, 0, 0, 0,
-    ];
-    let mut draws = MemDraws::new(
-        Numbers::new([0u64].to_vec(alloc)?),
-        Ids16::new([draw].to_vec(alloc)?),
-    );
+    let list = words_of(alloc, words)?;
+    let mut around = surroundings(alloc)?;
     let mut maker = RegexMaker::new();
     let mut served = Tally::new();
     let (status, listener) = run_hall(
         rt,
         alloc,
         list.as_slice(),
-        &mut tree,
+        &mut around.tree,
         listener,
-        &mut output,
-        &mut disk,
-        &mut clock,
-        &mut draws,
+        &mut around.output,
+        &mut around.disk,
+        &mut around.clock,
+        &mut around.draws,
         &mut maker,
         gate,
         &mut served,
@@ -102,9 +138,21 @@ fn run_by<R: Threads + Wait + Sync, G: Gate + Sync>(
     Ok(Ran {
         status,
         listener,
-        output,
+        output: around.output,
         served,
     })
+}
+
+// The same over a listener of these scripts, whose calls with these numbers fail, and with an open gate.
+fn run<R: Threads + Wait + Sync>(
+    rt: &R,
+    alloc: Global,
+    words: &[&str],
+    scripts: &[&[u8]],
+    fails: &[u64],
+) -> Result<Ran, NoMemory> {
+    let listener = listener(alloc, scripts, fails)?;
+    run_by(rt, alloc, words, listener, &OpenGate)
 }
 
 // Whether a connection's reply ends with these bytes.
@@ -115,84 +163,93 @@ fn ends_with(listener: &MemListener, number: usize, body: &[u8]) -> bool {
     }
 }
 
+// Expects that a run answers this status, and writes this.
+fn expect_end(rt: &impl Abort, ran: &Ran, status: u8, output: &[u8]) {
+    same(rt, ran.status, status);
+    same(rt, ran.output.bytes(), output);
+}
+
+const STORED: &[u8] = b"CrashID=bp-de1bb258-cbbf-4589-a673-34f800160918\n";
+
+// Expects two connections that were served, of which the second was a stop, and a third that wasn't.
+fn expect_stopped(rt: &impl Abort, ran: &Ran) {
+    holds(rt, ends_with(&ran.listener, 0, STORED));
+    holds(rt, ends_with(&ran.listener, 1, b"stopping\n"));
+    holds(rt, !ends_with(&ran.listener, 2, b""));
+    same(rt, ran.served.connections(), 2);
+    same(rt, ran.served.kept(), 2);
+    holds(rt, ran.served.stopped());
+}
+
 #[test]
 fn a_stop_ends_the_service(rt: HostRuntime) -> Result<(), Fail> {
-    let three = listener(rt.alloc(), &[SUBMISSION, STOP, SUBMISSION], &[])?;
-    let ran = run(&rt, rt.alloc(), ONE, three)?;
-    assert_eq!(rt; ran.status, 0);
-    assert_eq!(rt; ran.output.bytes(), b"crashes 1\nreports 1\n".as_slice());
-    assert!(rt;
-        ends_with(
-            &ran.listener,
-            0,
-            b"CrashID=bp-de1bb258-cbbf-4589-a673-34f800160918\n"
-        )
-    );
-    assert!(rt; ends_with(&ran.listener, 1, b"stopping\n"));
-    assert!(rt; !ends_with(&ran.listener, 2, b""));
-    assert_eq!(rt; ran.served.connections(), 2);
-    assert_eq!(rt; ran.served.kept(), 2);
-    assert!(rt; ran.served.stopped());
+    let scripts = [SUBMISSION, STOP, SUBMISSION];
+    let ran = run(&rt, rt.alloc(), ONE, &scripts, &[])?;
+    expect_end(&rt, &ran, 0, b"crashes 1\nreports 1\n");
+    expect_stopped(&rt, &ran);
     Ok(())
 }
 
 #[test]
 fn a_listener_ends_the_service(rt: HostRuntime) -> Result<(), Fail> {
-    let ending = listener(rt.alloc(), &[SUBMISSION], &[])?;
-    let ran = run(&rt, rt.alloc(), ONE, ending)?;
-    assert_eq!(rt; ran.status, 0);
-    assert_eq!(rt; ran.output.bytes(), b"crashes 1\nreports 1\n".as_slice());
-    assert!(rt; !ran.served.stopped());
-    let failing = listener(rt.alloc(), &[SUBMISSION], &[0])?;
-    let ran = run(&rt, rt.alloc(), ONE, failing)?;
-    assert_eq!(rt; ran.status, 6);
-    assert_eq!(rt; ran.output.bytes(), b"crashes 0\nreports 0\n".as_slice());
-    assert_eq!(rt; ran.served.connections(), 0);
+    let ran = run(&rt, rt.alloc(), ONE, &[SUBMISSION], &[])?;
+    expect_end(&rt, &ran, 0, b"crashes 1\nreports 1\n");
+    holds(&rt, !ran.served.stopped());
     Ok(())
+}
+
+#[test]
+fn a_listener_that_fails_ends_the_service(rt: HostRuntime) -> Result<(), Fail> {
+    let ran = run(&rt, rt.alloc(), ONE, &[SUBMISSION], &[0])?;
+    expect_end(&rt, &ran, 6, b"crashes 0\nreports 0\n");
+    same(&rt, ran.served.connections(), 0);
+    Ok(())
+}
+
+// Expects one submission that was stored.
+fn expect_stored(rt: &impl Abort, ran: &Ran) {
+    holds(rt, ends_with(&ran.listener, 0, STORED));
+    same(rt, ran.served.connections(), 1);
+    same(rt, ran.served.kept(), 1);
 }
 
 #[test]
 fn two_collectors_serve_beside_two_processors(rt: HostRuntime) -> Result<(), Fail> {
-    let ending = listener(rt.alloc(), &[SUBMISSION], &[])?;
-    let ran = run(&rt, rt.alloc(), TWO, ending)?;
-    assert_eq!(rt; ran.status, 0);
-    assert_eq!(rt; ran.output.bytes(), b"crashes 1\nreports 1\n".as_slice());
-    assert!(rt;
-        ends_with(
-            &ran.listener,
-            0,
-            b"CrashID=bp-de1bb258-cbbf-4589-a673-34f800160918\n"
-        )
-    );
-    assert_eq!(rt; ran.served.connections(), 1);
-    assert_eq!(rt; ran.served.kept(), 1);
-    let stopping = listener(rt.alloc(), &[STOP], &[])?;
-    let ran = run(&rt, rt.alloc(), TWO, stopping)?;
-    assert_eq!(rt; ran.status, 0);
-    assert_eq!(rt; ran.output.bytes(), b"crashes 0\nreports 0\n".as_slice());
-    assert!(rt; ran.served.stopped());
+    let ran = run(&rt, rt.alloc(), TWO, &[SUBMISSION], &[])?;
+    expect_end(&rt, &ran, 0, b"crashes 1\nreports 1\n");
+    expect_stored(&rt, &ran);
     Ok(())
 }
 
 #[test]
+fn a_stop_ends_two_collectors(rt: HostRuntime) -> Result<(), Fail> {
+    let ran = run(&rt, rt.alloc(), TWO, &[STOP], &[])?;
+    expect_end(&rt, &ran, 0, b"crashes 0\nreports 0\n");
+    holds(&rt, ran.served.stopped());
+    Ok(())
+}
+
+// Expects that nothing was served.
+fn expect_refused(rt: &impl Abort, ran: &Ran) {
+    same(rt, ran.status, 2);
+    holds(rt, ran.output.bytes().starts_with(b"usage: "));
+    holds(rt, !ends_with(&ran.listener, 0, b""));
+    same(rt, ran.served.connections(), 0);
+}
+
+#[test]
 fn another_calls_command_is_not_served(rt: HostRuntime) -> Result<(), Fail> {
-    let unasked = listener(rt.alloc(), &[SUBMISSION], &[])?;
-    let ran = run(&rt, rt.alloc(), &["replay"], unasked)?;
-    assert_eq!(rt; ran.status, 2);
-    assert!(rt; ran.output.bytes().starts_with(b"usage: "));
-    assert!(rt; !ends_with(&ran.listener, 0, b""));
-    assert_eq!(rt; ran.served.connections(), 0);
+    let ran = run(&rt, rt.alloc(), &["replay"], &[SUBMISSION], &[])?;
+    expect_refused(&rt, &ran);
     Ok(())
 }
 
 #[test]
 fn turns_of_four_collectors_that_change_nothing(rt: HostRuntime) -> Result<(), Fail> {
     let words = ["serve", "--collectors", "4", "--processors", "1"];
-    let silent = listener(rt.alloc(), &[b"".as_slice(); 400], &[])?;
-    let ran = run(&rt, rt.alloc(), &words, silent)?;
-    assert_eq!(rt; ran.status, 0);
-    assert_eq!(rt; ran.output.bytes(), b"crashes 0\nreports 0\n".as_slice());
-    assert_eq!(rt; ran.served.connections(), 400);
-    assert_eq!(rt; ran.served.kept(), 0);
+    let ran = run(&rt, rt.alloc(), &words, &[b"".as_slice(); 400], &[])?;
+    expect_end(&rt, &ran, 0, b"crashes 0\nreports 0\n");
+    same(&rt, ran.served.connections(), 400);
+    same(&rt, ran.served.kept(), 0);
     Ok(())
 }

@@ -4,6 +4,7 @@ ghost use Rattle.std.specs.Prelude.{◌≡◌};
 mod booth;
 
 use self::booth::Booth;
+use crate::expect::{holds, same};
 use soc_collect::*;
 use soc_edge::{BytesList, Ids16, MemClock, MemDraws, Numbers};
 use soc_http::{Buffer, Routes};
@@ -15,6 +16,7 @@ use soc_shared::{Door, Naming, Ticket};
 use soc_throttle::RuleSet;
 use std::alloc::Global;
 use std::marker::Brand;
+use std::process::Abort;
 use std::sync::ledger::{Blank, Ledger};
 use std::sync::{Mutex, Wait};
 use std::test::Fail;
@@ -64,38 +66,74 @@ struct Served {
     ends: Vec<Option<SessionEnd>>,
 }
 
+// What a collector has around it, but for its listener and its desk.
+#[derive(Drop)]
+struct Around {
+    rules: Rules,
+    routes: Routes,
+    buffer: Buffer,
+    clock: MemClock,
+    draws: MemDraws,
+}
+
+fn clock(alloc: Global) -> Result<MemClock, Fail> {
+    Ok(MemClock::new(Numbers::new(vec![in alloc; 1_474_156_800]?)))
+}
+
+fn draws(alloc: Global) -> Result<MemDraws, Fail> {
+    Ok(MemDraws::new(
+        Numbers::new(vec![in alloc; 0]?),
+        Ids16::new(vec![in alloc; [0; 16]]?),
+    ))
+}
+
+fn surroundings(alloc: Global) -> Result<Around, Fail> {
+    Ok(Around {
+        rules: rules(alloc)?,
+        routes: Routes::new(alloc)?,
+        buffer: Buffer::new(alloc)?,
+        clock: clock(alloc)?,
+        draws: draws(alloc)?,
+    })
+}
+
+// How the next connection ends.
+fn serve_next(
+    alloc: Global,
+    listener: &mut MemListener,
+    desk: &mut Booth,
+    served: &mut Tally<MemConn>,
+    around: &mut Around,
+) -> Result<Option<SessionEnd>, Fail> {
+    if served.connections() >= 10 || served.kept() >= 1_000 {
+        return Err(Fail::from("too many"));
+    }
+    let Ok(Some(conn)) = listener.accept() else {
+        return Err(Fail::from("no connection"));
+    };
+    let shut = serve_one(
+        alloc,
+        desk,
+        served,
+        conn,
+        &around.rules,
+        &around.routes,
+        &mut around.buffer,
+        &mut around.clock,
+        &mut around.draws,
+    );
+    Ok(shut.end())
+}
+
 fn serve_all(alloc: Global, scripts: &[&[u8]], room: usize) -> Result<Served, Fail> {
     let mut listener = listener(alloc, scripts, room, &[])?;
+    let mut around = surroundings(alloc)?;
     let mut desk = Booth::new();
     let mut served = Tally::new();
     let mut ends = Vec::new(alloc);
-    let rules = rules(alloc)?;
-    let routes = Routes::new(alloc)?;
-    let mut buffer = Buffer::new(alloc)?;
-    let mut clock = MemClock::new(Numbers::new(vec![in alloc; 1_474_156_800]?));
-    let mut draws = MemDraws::new(
-        Numbers::new(vec![in alloc; 0]?),
-        Ids16::new(vec![in alloc; [0; 16]]?),
-    );
     for _ in scripts {
-        let Ok(Some(conn)) = listener.accept() else {
-            return Err(Fail::from("no connection"));
-        };
-        if served.connections() >= 10 || served.kept() >= 1_000 {
-            return Err(Fail::from("too many"));
-        }
-        let shut = serve_one(
-            alloc,
-            &mut desk,
-            &mut served,
-            conn,
-            &rules,
-            &routes,
-            &mut buffer,
-            &mut clock,
-            &mut draws,
-        );
-        ends.push(shut.end())?;
+        let end = serve_next(alloc, &mut listener, &mut desk, &mut served, &mut around)?;
+        ends.push(end)?;
     }
     Ok(Served {
         listener,
@@ -104,76 +142,57 @@ fn serve_all(alloc: Global, scripts: &[&[u8]], room: usize) -> Result<Served, Fa
     })
 }
 
-#[test]
-fn each_connection_is_counted(rt: HostRuntime) -> Result<(), Fail> {
-    let alloc = rt.alloc();
-    let Served {
-        listener,
-        served,
-        ends,
-    } = serve_all(alloc, &[NO_ROUTE, b"", NO_ROUTE], 4_096)?;
-    assert_eq!(rt;
-        ends.as_slice(),
-        [
-            Some(SessionEnd::Ended),
-            Some(SessionEnd::Ended),
-            Some(SessionEnd::Ended)
-        ]
-        .as_slice()
-    );
-    assert_eq!(rt; served.connections(), 3);
-    assert_eq!(rt; served.kept(), 3);
-    assert!(rt; !served.stopped());
-    assert!(rt;
+// Expects so many connections and commands, and whether the desk was stopped.
+fn expect_served(rt: &impl Abort, served: &Tally<MemConn>, want: (u64, u64, bool)) {
+    same(rt, served.connections(), want.0);
+    same(rt, served.kept(), want.1);
+    same(rt, served.stopped(), want.2);
+}
+
+// Expects a reply that begins with this on the first connection, and none on the second.
+fn expect_replies(rt: &impl Abort, listener: &MemListener, first: &[u8]) {
+    holds(
+        rt,
         listener
             .written(0)
-            .is_some_and(|text| text.starts_with(b"HTTP/1.1 404 "))
+            .is_some_and(|text| text.starts_with(first)),
     );
-    assert_eq!(rt; listener.written(1), Some(b"".as_slice()));
+    same(rt, listener.written(1), Some(b"".as_slice()));
+}
+
+fn expect_ends(rt: &impl Abort, all: &Served, want: &[Option<SessionEnd>]) {
+    same(rt, all.ends.as_slice(), want);
+}
+
+#[test]
+fn each_connection_is_counted(rt: HostRuntime) -> Result<(), Fail> {
+    let all = serve_all(rt.alloc(), &[NO_ROUTE, b"", NO_ROUTE], 4_096)?;
+    expect_ends(&rt, &all, &[Some(SessionEnd::Ended); 3]);
+    expect_served(&rt, &all.served, (3, 3, false));
+    expect_replies(&rt, &all.listener, b"HTTP/1.1 404 ");
     Ok(())
 }
 
 #[test]
 fn connections_after_a_stop_stay_unread(rt: HostRuntime) -> Result<(), Fail> {
-    let alloc = rt.alloc();
-    let Served {
-        listener,
-        served,
-        ends,
-    } = serve_all(alloc, &[STOP, NO_ROUTE], 4_096)?;
-    assert_eq!(rt;
-        ends.as_slice(),
-        [Some(SessionEnd::Stopped), None].as_slice()
-    );
-    assert_eq!(rt; served.connections(), 2);
-    assert_eq!(rt; served.kept(), 3);
-    assert!(rt; served.stopped());
-    assert!(rt;
-        listener
-            .written(0)
-            .is_some_and(|text| text.starts_with(b"HTTP/1.1 200 "))
-    );
-    assert_eq!(rt; listener.written(1), Some(b"".as_slice()));
+    let all = serve_all(rt.alloc(), &[STOP, NO_ROUTE], 4_096)?;
+    expect_ends(&rt, &all, &[Some(SessionEnd::Stopped), None]);
+    expect_served(&rt, &all.served, (2, 3, true));
+    expect_replies(&rt, &all.listener, b"HTTP/1.1 200 ");
     Ok(())
 }
 
 #[test]
 fn a_stop_whose_reply_is_not_written_counts(rt: HostRuntime) -> Result<(), Fail> {
-    let alloc = rt.alloc();
-    let Served {
-        listener,
-        served,
-        ends,
-    } = serve_all(alloc, &[STOP], 4)?;
-    assert_eq!(rt; ends.as_slice(), [Some(SessionEnd::WriteFault)].as_slice());
-    assert!(rt; served.stopped());
-    assert_eq!(rt; listener.written(0), Some(b"HTTP".as_slice()));
+    let all = serve_all(rt.alloc(), &[STOP], 4)?;
+    expect_ends(&rt, &all, &[Some(SessionEnd::WriteFault)]);
+    holds(&rt, all.served.stopped());
+    same(&rt, all.listener.written(0), Some(b"HTTP".as_slice()));
     Ok(())
 }
 
-#[test]
-fn counts_are_put_together(rt: HostRuntime) -> Result<(), Fail> {
-    let alloc = rt.alloc();
+// The counts of two collectors, put together.
+fn together(alloc: Global) -> Result<Tally<MemConn>, Fail> {
     let first = serve_all(alloc, &[NO_ROUTE, NO_ROUTE], 4_096)?;
     let second = serve_all(alloc, &[STOP], 4_096)?;
     let mut all = first.served;
@@ -182,9 +201,13 @@ fn counts_are_put_together(rt: HostRuntime) -> Result<(), Fail> {
         return Err(Fail::from("too many"));
     }
     all.add(more);
-    assert_eq!(rt; all.connections(), 3);
-    assert_eq!(rt; all.kept(), 4);
-    assert!(rt; all.stopped());
+    Ok(all)
+}
+
+#[test]
+fn counts_are_put_together(rt: HostRuntime) -> Result<(), Fail> {
+    let all = together(rt.alloc())?;
+    expect_served(&rt, &all, (3, 4, true));
     Ok(())
 }
 
@@ -207,20 +230,21 @@ fn collect_alone<N: Ledger, M: Ledger, J: Naming, R: Wait>(
     requires parts { (handed.parts ≡ N.parts) × (refused.parts ≡ M.parts) }
     requires one { (handed.parts ≡ 1) × (refused.parts ≡ 1) }
 {
+    let Around {
+        rules,
+        routes,
+        mut buffer,
+        clock,
+        draws,
+    } = surroundings(alloc)?;
     let (door, mut ticket): (Door<MemListener, N, M, J>, Ticket<N, M>) = Door::open(
         listener, handed, refused,
     );
     let door = Mutex::new(door);
-    let clock = Mutex::new(MemClock::new(Numbers::new(vec![in alloc; 1_474_156_800]?)));
-    let draws = Mutex::new(MemDraws::new(
-        Numbers::new(vec![in alloc; 0]?),
-        Ids16::new(vec![in alloc; [0; 16]]?),
-    ));
+    let clock = Mutex::new(clock);
+    let draws = Mutex::new(draws);
     let mut desk = Booth::new();
     let mut served = Tally::new();
-    let rules = rules(alloc)?;
-    let routes = Routes::new(alloc)?;
-    let mut buffer = Buffer::new(alloc)?;
     collect(
         rt,
         alloc,
@@ -247,32 +271,44 @@ fn collected_alone<R: Wait>(
     collect_alone::<Brand, Brand, Brand, R>(rt, alloc, listener, Blank::new(1), Blank::new(1))
 }
 
+// The same over a listener of these scripts, whose calls with these numbers fail.
+fn collected_from<R: Wait>(
+    rt: &R,
+    alloc: Global,
+    scripts: &[&[u8]],
+    fails: &[u64],
+) -> Result<Collected, Fail> {
+    collected_alone(rt, alloc, listener(alloc, scripts, 4_096, fails)?)
+}
+
 #[test]
 fn a_collector_goes_on_until_the_stop(rt: HostRuntime) -> Result<(), Fail> {
-    let alloc = rt.alloc();
-    let two = listener(alloc, &[NO_ROUTE, STOP], 4_096, &[])?;
-    let Collected { served, failed } = collected_alone(&rt, alloc, two)?;
-    assert_eq!(rt; served.connections(), 2);
-    assert_eq!(rt; served.kept(), 3);
-    assert!(rt; served.stopped());
-    assert!(rt; !failed);
-    let two = listener(alloc, &[STOP, NO_ROUTE], 4_096, &[])?;
-    let Collected { served, failed: _ } = collected_alone(&rt, alloc, two)?;
-    assert_eq!(rt; served.connections(), 1);
+    let both = collected_from(&rt, rt.alloc(), &[NO_ROUTE, STOP], &[])?;
+    expect_served(&rt, &both.served, (2, 3, true));
+    holds(&rt, !both.failed);
+    Ok(())
+}
+
+#[test]
+fn a_collector_takes_none_after_the_stop(rt: HostRuntime) -> Result<(), Fail> {
+    let one = collected_from(&rt, rt.alloc(), &[STOP, NO_ROUTE], &[])?;
+    same(&rt, one.served.connections(), 1);
     Ok(())
 }
 
 #[test]
 fn a_collector_goes_on_until_no_connection_comes(rt: HostRuntime) -> Result<(), Fail> {
-    let alloc = rt.alloc();
-    let two = listener(alloc, &[NO_ROUTE, b""], 4_096, &[])?;
-    let Collected { served, failed } = collected_alone(&rt, alloc, two)?;
-    assert_eq!(rt; served.connections(), 2);
-    assert!(rt; !served.stopped());
-    assert!(rt; !failed);
-    let failing = listener(alloc, &[NO_ROUTE, NO_ROUTE], 4_096, &[1])?;
-    let Collected { served, failed } = collected_alone(&rt, alloc, failing)?;
-    assert_eq!(rt; served.connections(), 1);
-    assert!(rt; failed);
+    let both = collected_from(&rt, rt.alloc(), &[NO_ROUTE, b""], &[])?;
+    same(&rt, both.served.connections(), 2);
+    holds(&rt, !both.served.stopped());
+    holds(&rt, !both.failed);
+    Ok(())
+}
+
+#[test]
+fn a_collector_ends_where_its_listener_fails(rt: HostRuntime) -> Result<(), Fail> {
+    let one = collected_from(&rt, rt.alloc(), &[NO_ROUTE, NO_ROUTE], &[1])?;
+    same(&rt, one.served.connections(), 1);
+    holds(&rt, one.failed);
     Ok(())
 }

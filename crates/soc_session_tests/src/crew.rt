@@ -1,6 +1,7 @@
 //! A crew over a listener and a disk in memory.
 ghost use Rattle.std.specs.Prelude.{◌<◌, ◌≤◌};
 
+use crate::expect::{holds, same};
 use soc_collect::Tally;
 use soc_crew::*;
 use soc_desk::Limits;
@@ -14,6 +15,7 @@ use soc_session::Rules;
 use soc_throttle::RuleSet;
 use soc_turns::SharedBook;
 use std::alloc::Global;
+use std::process::Abort;
 use std::sync::Wait;
 use std::test::Fail;
 use std::thread::Threads;
@@ -55,6 +57,35 @@ fn listener(alloc: Global, scripts: &[&[u8]], fails: &[u64]) -> Result<MemListen
     MemListener::new(alloc, BytesList::new(list), 4096, fails)
 }
 
+// What a crew has around it, but for its listener and its book.
+#[derive(Drop)]
+struct Around {
+    rules: Rules,
+    routes: Routes,
+    clock: MemClock,
+    draws: MemDraws,
+}
+
+fn clock(alloc: Global) -> Result<MemClock, Fail> {
+    Ok(MemClock::new(Numbers::new(vec![in alloc; 1_474_156_800]?)))
+}
+
+fn draws(alloc: Global) -> Result<MemDraws, Fail> {
+    Ok(MemDraws::new(
+        Numbers::new(vec![in alloc; 0]?),
+        Ids16::new(vec![in alloc; [0; 16]]?),
+    ))
+}
+
+fn surroundings(alloc: Global) -> Result<Around, Fail> {
+    Ok(Around {
+        rules: rules(alloc)?,
+        routes: Routes::new(alloc)?,
+        clock: clock(alloc)?,
+        draws: draws(alloc)?,
+    })
+}
+
 // What a crew has served, and whether its listener failed.
 #[derive(Drop)]
 struct Served {
@@ -88,17 +119,11 @@ fn served_over<'a, R: Threads + Wait + Sync>(
     requires collectors { (0 < crew.collectors) × (crew.collectors ≤ 8) }
     requires processors { (0 < crew.processors) × (crew.processors ≤ 8) }
 {
+    let mut around = surroundings(alloc)?;
     let book = match SharedBook::open(alloc, disk, reporter, LIMITS) {
         Ok(book) => book,
         Err(_) => return Err(Fail::from("the journal wasn't opened")),
     };
-    let mut clock = MemClock::new(Numbers::new(vec![in alloc; 1_474_156_800]?));
-    let mut draws = MemDraws::new(
-        Numbers::new(vec![in alloc; 0]?),
-        Ids16::new(vec![in alloc; [0; 16]]?),
-    );
-    let rules = rules(alloc)?;
-    let routes = Routes::new(alloc)?;
     let mut served = Tally::new();
     let CrewEnd {
         book: _book,
@@ -110,11 +135,11 @@ fn served_over<'a, R: Threads + Wait + Sync>(
         crew,
         book,
         reporter,
-        &rules,
-        &routes,
+        &around.rules,
+        &around.routes,
         listener,
-        &mut clock,
-        &mut draws,
+        &mut around.clock,
+        &mut around.draws,
         &OpenGate,
         &mut served,
     );
@@ -125,6 +150,20 @@ fn served_over<'a, R: Threads + Wait + Sync>(
     })
 }
 
+// Expects so many connections and commands, and whether the desk was stopped.
+fn expect_served(rt: &impl Abort, served: &Tally<MemConn>, want: (u64, u64, bool)) {
+    same(rt, served.connections(), want.0);
+    same(rt, served.kept(), want.1);
+    same(rt, served.stopped(), want.2);
+}
+
+// Expects that no listener failed, and that the second reply ends with this.
+fn expect_second(rt: &impl Abort, end: &Served, reply: &[u8]) {
+    holds(rt, !end.failed);
+    let written = end.listener.written(1);
+    holds(rt, written.is_some_and(|text| text.ends_with(reply)));
+}
+
 #[test]
 fn a_stop_ends_the_crew(rt: HostRuntime) -> Result<(), Fail> {
     let two = Crew {
@@ -133,15 +172,8 @@ fn a_stop_ends_the_crew(rt: HostRuntime) -> Result<(), Fail> {
     };
     let asked = listener(rt.alloc(), &[NO_ROUTE, STOP], &[])?;
     let end = served_by(&rt, rt.alloc(), two, asked)?;
-    assert!(rt; end.served.stopped());
-    assert!(rt; !end.failed);
-    assert_eq!(rt; end.served.connections(), 2);
-    assert_eq!(rt; end.served.kept(), 1);
-    assert!(rt;
-        end.listener
-            .written(1)
-            .is_some_and(|text| text.ends_with(b"stopping\n"))
-    );
+    expect_served(&rt, &end.served, (2, 1, true));
+    expect_second(&rt, &end, b"stopping\n");
     Ok(())
 }
 
@@ -153,10 +185,8 @@ fn the_largest_crew_serves_each_connection_once(rt: HostRuntime) -> Result<(), F
     };
     let many = listener(rt.alloc(), &[NO_ROUTE; 40], &[])?;
     let end = served_by(&rt, rt.alloc(), most, many)?;
-    assert!(rt; !end.served.stopped());
-    assert!(rt; !end.failed);
-    assert_eq!(rt; end.served.connections(), 40);
-    assert_eq!(rt; end.served.kept(), 0);
+    expect_served(&rt, &end.served, (40, 0, false));
+    holds(&rt, !end.failed);
     Ok(())
 }
 
@@ -168,8 +198,7 @@ fn a_failed_listener_is_told(rt: HostRuntime) -> Result<(), Fail> {
     };
     let failing = listener(rt.alloc(), &[NO_ROUTE], &[0])?;
     let end = served_by(&rt, rt.alloc(), one, failing)?;
-    assert!(rt; end.failed);
-    assert!(rt; !end.served.stopped());
-    assert_eq!(rt; end.served.connections(), 0);
+    expect_served(&rt, &end.served, (0, 0, false));
+    holds(&rt, end.failed);
     Ok(())
 }

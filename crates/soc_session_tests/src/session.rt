@@ -8,13 +8,14 @@ mod worked;
 
 use self::drip::Drip;
 use self::ordered::{OrderedClock, OrderedDraws};
-use self::routes::{Line, ORDERS, READS, SEARCHES};
+use self::routes::{Line, ORDERS, READS, SEARCHES, line_of};
 use self::sample::{Choice, Sample};
 use self::watched::Watched;
 use self::worked::{
     AMPLE, ANSWERS, BAD_PART_HEAD, CUT_SHORT, DISCARDED, ENDS, FETCH_SUBMIT, FIREFOX, HEADLESS,
     NO_ROUTE, POST_NOTHING, STOP, STOPPING, STORED, WRONG_METHOD,
 };
+use crate::expect::{holds, same};
 use soc_edge::{
     Both, Clock, Draws, Ids16, MemClock, MemDraws, MemSink, MemSource, Numbers, Sink, Source,
 };
@@ -111,21 +112,42 @@ fn serve<X: Source + Sink>(
     serve_with(alloc, choice, link, session_bytes, &mut clock, &mut draws)
 }
 
+/// Numbers of calls that fail.
+fn failing(alloc: Global, calls: &[u64]) -> Result<Numbers, Fail> {
+    Ok(Numbers::new(calls.to_vec(alloc)?))
+}
+
 /// Runs a session over a link of its own, whose calls with these numbers fail.
 fn run(
     alloc: Global,
     choice: Choice,
     input: &[u8],
     session_bytes: u64,
-    read_fails: Vec<u64>,
-    write_fails: Vec<u64>,
+    read_fails: &[u64],
+    write_fails: &[u64],
 ) -> Result<(SessionEnd, MemSink), Fail> {
     let mut link = Both {
-        source: MemSource::new(Bytes::of(alloc, input)?, Numbers::new(read_fails)),
-        sink: MemSink::new(alloc, 32_768, Numbers::new(write_fails))?,
+        source: MemSource::new(Bytes::of(alloc, input)?, failing(alloc, read_fails)?),
+        sink: MemSink::new(alloc, 32_768, failing(alloc, write_fails)?)?,
     };
     let end = serve(alloc, choice, &mut link, session_bytes)?;
     Ok((end, link.sink))
+}
+
+/// Expects what a session over an input writes, and how it ends.
+fn expect_output(
+    rt: &impl Abort,
+    alloc: Global,
+    choice: Choice,
+    input: &[u8],
+    session_bytes: u64,
+    output: &[u8],
+    end: SessionEnd,
+) -> Result<(), Fail> {
+    let (ended, sink) = run(alloc, choice, input, session_bytes, &[], &[])?;
+    same(rt, sink.bytes(), output);
+    same(rt, ended, end);
+    Ok(())
 }
 
 fn expect(
@@ -139,17 +161,7 @@ fn expect(
 ) -> Result<(), Fail> {
     let input = joined(alloc, messages)?;
     let output = joined(alloc, replies)?;
-    let (ended, sink) = run(
-        alloc,
-        choice,
-        &input,
-        session_bytes,
-        Vec::new(alloc),
-        Vec::new(alloc),
-    )?;
-    assert_eq!(rt; sink.bytes(), output.as_slice());
-    assert_eq!(rt; ended, end);
-    Ok(())
+    expect_output(rt, alloc, choice, &input, session_bytes, &output, end)
 }
 
 #[test]
@@ -202,6 +214,24 @@ fn messages_are_cut_short(rt: HostRuntime) -> Result<(), Fail> {
     Ok(())
 }
 
+/// Expects what a session writes over an input in pieces of this size.
+fn expect_by(
+    rt: &impl Abort,
+    alloc: Global,
+    input: &[u8],
+    size: usize,
+    output: &[u8],
+) -> Result<(), Fail> {
+    let mut link = Both {
+        source: Drip { rest: input, size },
+        sink: MemSink::new(alloc, 32_768, Numbers::new(Vec::new(alloc)))?,
+    };
+    let end = serve(alloc, Choice::Own, &mut link, AMPLE)?;
+    same(rt, end, SessionEnd::Ended);
+    same(rt, link.sink.bytes(), output);
+    Ok(())
+}
+
 /// Expects the same replies, whatever pieces the messages come in.
 fn expect_in_pieces(
     rt: &impl Abort,
@@ -212,16 +242,7 @@ fn expect_in_pieces(
     let input = joined(alloc, messages)?;
     let output = joined(alloc, replies)?;
     for size in [1, 2, 3, 5, 7, 1_000] {
-        let mut link = Both {
-            source: Drip {
-                rest: input.as_slice(),
-                size,
-            },
-            sink: MemSink::new(alloc, 32_768, Numbers::new(Vec::new(alloc)))?,
-        };
-        let end = serve(alloc, Choice::Own, &mut link, AMPLE)?;
-        assert_eq!(rt; end, SessionEnd::Ended);
-        assert_eq!(rt; link.sink.bytes(), output.as_slice());
+        expect_by(rt, alloc, &input, size, &output)?;
     }
     Ok(())
 }
@@ -240,16 +261,44 @@ fn refused_bodies_are_passed_over(rt: HostRuntime) -> Result<(), Fail> {
     expect_in_pieces(&rt, rt.alloc(), &messages, &replies)
 }
 
-/// A session ends by its fault behind a front of what it would write, or as it would without one.
-fn expect_front(rt: &impl Abort, ended: (SessionEnd, MemSink), fault: SessionEnd, whole: &[u8]) {
-    let (end, sink) = ended;
+/// Expects that a session ended by its fault behind a front of what it would write, or as it would without one.
+fn expect_front(rt: &impl Abort, end: SessionEnd, written: &[u8], fault: SessionEnd, whole: &[u8]) {
     if end == fault {
-        assert!(rt; whole.starts_with(sink.bytes()));
-        assert!(rt; fault == SessionEnd::ReadFault || sink.bytes().len() < whole.len());
+        holds(rt, whole.starts_with(written));
+        holds(
+            rt,
+            fault == SessionEnd::ReadFault || written.len() < whole.len(),
+        );
         return;
     }
-    assert_eq!(rt; end, SessionEnd::Ended);
-    assert_eq!(rt; sink.bytes(), whole);
+    same(rt, end, SessionEnd::Ended);
+    same(rt, written, whole);
+}
+
+fn expect_read_fault(
+    rt: &impl Abort,
+    alloc: Global,
+    input: &[u8],
+    number: u64,
+    whole: &[u8],
+) -> Result<(), Fail> {
+    let (end, sink) = run(alloc, Choice::Own, input, AMPLE, &[number], &[])?;
+    holds(rt, number > 0 || end == SessionEnd::ReadFault);
+    expect_front(rt, end, sink.bytes(), SessionEnd::ReadFault, whole);
+    Ok(())
+}
+
+fn expect_write_fault(
+    rt: &impl Abort,
+    alloc: Global,
+    input: &[u8],
+    number: u64,
+    whole: &[u8],
+) -> Result<(), Fail> {
+    let (end, sink) = run(alloc, Choice::Own, input, AMPLE, &[], &[number])?;
+    holds(rt, number > 0 || end == SessionEnd::WriteFault);
+    expect_front(rt, end, sink.bytes(), SessionEnd::WriteFault, whole);
+    Ok(())
 }
 
 #[test]
@@ -258,28 +307,8 @@ fn faults_end_sessions(rt: HostRuntime) -> Result<(), Fail> {
     let input = joined(alloc, &[FIREFOX, FETCH_SUBMIT])?;
     let whole = joined(alloc, &[STORED, WRONG_METHOD])?;
     for number in 0..32 {
-        let none = Vec::new(alloc);
-        let read = run(
-            alloc,
-            Choice::Own,
-            &input,
-            AMPLE,
-            vec![in alloc; number]?,
-            none,
-        )?;
-        assert!(rt; number > 0 || read.0 == SessionEnd::ReadFault);
-        expect_front(&rt, read, SessionEnd::ReadFault, &whole);
-        let none = Vec::new(alloc);
-        let written = run(
-            alloc,
-            Choice::Own,
-            &input,
-            AMPLE,
-            none,
-            vec![in alloc; number]?,
-        )?;
-        assert!(rt; number > 0 || written.0 == SessionEnd::WriteFault);
-        expect_front(&rt, written, SessionEnd::WriteFault, &whole);
+        expect_read_fault(&rt, alloc, &input, number, &whole)?;
+        expect_write_fault(&rt, alloc, &input, number, &whole)?;
     }
     Ok(())
 }
@@ -308,48 +337,68 @@ fn sessions_stop(rt: HostRuntime) -> Result<(), Fail> {
     )
 }
 
-/// The message and the reply of a line.
-fn told(alloc: Global, line: &Line) -> Result<(String, String), Fail> {
+fn message_of(alloc: Global, line: &Line<'_>) -> Result<String, Fail> {
+    let length = line.form.len();
     let message = format!(in alloc;
-        "{} HTTP/1.1\r\nHost: h\r\nAuth-Token: {}\r\nContent-Length: {}\r\n\r\n{}",
-        line.request,
-        line.token,
-        line.form.len(),
-        line.form
+        "{} HTTP/1.1\r\nHost: h\r\nAuth-Token: {}\r\nContent-Length: {length}\r\n\r\n{}",
+        line.request, line.token, line.form
     )?;
-    let reply = format!(in alloc;
-        "HTTP/1.1 {}\r\nContent-Type: {}\r\nContent-Length: {}\r\n\r\n{}",
-        line.status,
-        line.kind,
-        line.body.len(),
-        line.body
-    )?;
-    Ok((message, reply))
+    Ok(message)
 }
 
-fn expect_lines(rt: &impl Abort, alloc: Global, lines: &[Line]) -> Result<(), Fail> {
-    for line in lines {
-        let (message, reply) = told(alloc, line)?;
-        let (message, reply) = (message.as_bytes(), reply.as_bytes());
-        let end = SessionEnd::Ended;
-        expect(rt, alloc, line.choice, &[message], AMPLE, &[reply], end)?;
+/// The body of a line, in which `|` stands for a line's end.
+fn body_of(alloc: Global, line: &Line<'_>) -> Result<String, Fail> {
+    let mut body = String::new(alloc);
+    for letter in line.body.chars() {
+        body.push(if letter == '|' { '\n' } else { letter })?;
+    }
+    Ok(body)
+}
+
+fn reply_of(alloc: Global, line: &Line<'_>) -> Result<String, Fail> {
+    let body = body_of(alloc, line)?;
+    let length = body.len();
+    let reply = format!(in alloc;
+        "HTTP/1.1 {}\r\nContent-Type: {}\r\nContent-Length: {length}\r\n\r\n{body}",
+        line.status, line.kind
+    )?;
+    Ok(reply)
+}
+
+fn expect_line(rt: &impl Abort, alloc: Global, line: &Line<'_>) -> Result<(), Fail> {
+    let message = message_of(alloc, line)?;
+    let reply = reply_of(alloc, line)?;
+    expect_output(
+        rt,
+        alloc,
+        line.choice,
+        message.as_bytes(),
+        AMPLE,
+        reply.as_bytes(),
+        SessionEnd::Ended,
+    )
+}
+
+fn expect_lines(rt: &impl Abort, alloc: Global, lines: &str) -> Result<(), Fail> {
+    for line in lines.lines() {
+        expect_line(rt, alloc, &line_of(line))?;
     }
     Ok(())
 }
 
 #[test]
 fn reads_are_answered(rt: HostRuntime) -> Result<(), Fail> {
-    expect_lines(&rt, rt.alloc(), &READS)
+    expect_lines(&rt, rt.alloc(), READS)
 }
 
 #[test]
 fn searches_are_answered(rt: HostRuntime) -> Result<(), Fail> {
-    expect_lines(&rt, rt.alloc(), &SEARCHES)
+    expect_lines(&rt, rt.alloc(), SEARCHES)
 }
 
 #[test]
 fn orders_are_answered(rt: HostRuntime) -> Result<(), Fail> {
-    expect_lines(&rt, rt.alloc(), &ORDERS)
+    expect_lines(&rt, rt.alloc(), ORDERS)
 }
 
 /// A name as long as a head has room for is told whole.
@@ -376,28 +425,52 @@ fn long_names_are_told(rt: HostRuntime) -> Result<(), Fail> {
     )
 }
 
+fn expect_in_time(rt: &impl Abort, link: &Watched<'_>, given: usize) {
+    same(rt, link.given, given);
+    same(rt, link.written, link.due);
+    holds(rt, !link.early);
+}
+
 /// No read is made between a whole message and the end of its reply.
 #[test]
 fn replies_go_out_before_more_is_read(rt: HostRuntime) -> Result<(), Fail> {
-    let alloc = rt.alloc();
     let messages = [
         (FIREFOX, STORED.len()),
         (FETCH_SUBMIT, WRONG_METHOD.len()),
         (FIREFOX, STORED.len()),
     ];
     let mut link = Watched::new(&messages);
-    let end = serve(alloc, Choice::Own, &mut link, AMPLE)?;
-    assert_eq!(rt; end, SessionEnd::Ended);
-    assert_eq!(rt; link.given, messages.len());
-    assert_eq!(rt; link.written, link.due);
-    assert!(rt; !link.early);
+    let end = serve(rt.alloc(), Choice::Own, &mut link, AMPLE)?;
+    same(&rt, end, SessionEnd::Ended);
+    expect_in_time(&rt, &link, messages.len());
     Ok(())
+}
+
+fn expect_order(rt: &impl Abort, clock: &OrderedClock<'_>, draws: &OrderedDraws<'_>) {
+    same(rt, clock.asked, Some(0));
+    same(rt, draws.throttle, Some(1));
+    same(rt, draws.id, Some(2));
+    same(rt, clock.calls.get(), 3);
+}
+
+/// How a session ends over a message that isn't taken, a submission and a stop.
+fn stopped<C: Clock, W: Draws>(
+    alloc: Global,
+    clock: &mut C,
+    draws: &mut W,
+) -> Result<SessionEnd, Fail> {
+    let messages = [
+        (FETCH_SUBMIT, WRONG_METHOD.len()),
+        (FIREFOX, STORED.len()),
+        (STOP, STOPPING.len()),
+    ];
+    let mut link = Watched::new(&messages);
+    serve_with(alloc, Choice::Own, &mut link, AMPLE, clock, draws)
 }
 
 /// A well-formed submission takes a moment, then a throttle draw, then an id draw; another message takes none.
 #[test]
 fn draws_are_taken_in_order(rt: HostRuntime) -> Result<(), Fail> {
-    let alloc = rt.alloc();
     let calls = Cell::new(0);
     let mut clock = OrderedClock {
         calls: &calls,
@@ -408,17 +481,8 @@ fn draws_are_taken_in_order(rt: HostRuntime) -> Result<(), Fail> {
         throttle: None,
         id: None,
     };
-    let messages = [
-        (FETCH_SUBMIT, WRONG_METHOD.len()),
-        (FIREFOX, STORED.len()),
-        (STOP, STOPPING.len()),
-    ];
-    let mut link = Watched::new(&messages);
-    let end = serve_with(alloc, Choice::Own, &mut link, AMPLE, &mut clock, &mut draws)?;
-    assert_eq!(rt; end, SessionEnd::Stopped);
-    assert_eq!(rt; clock.asked, Some(0));
-    assert_eq!(rt; draws.throttle, Some(1));
-    assert_eq!(rt; draws.id, Some(2));
-    assert_eq!(rt; calls.get(), 3);
+    let end = stopped(rt.alloc(), &mut clock, &mut draws)?;
+    same(&rt, end, SessionEnd::Stopped);
+    expect_order(&rt, &clock, &draws);
     Ok(())
 }

@@ -1,3 +1,4 @@
+use crate::expect::same;
 use soc_frames::{Frame, Trust, collapse, drop_return_type, normal, rust_name};
 use soc_raw::Text;
 use std::alloc::{AllocError, Global};
@@ -31,151 +32,93 @@ fn frame(
 }
 
 /// Functions of C++, as symbol files name them, and their texts.
-const CPP: [(&str, &str); 47] = [
-    // the two examples of the rules
-    (
-        "static void nsDocShell::Load<Foo, Bar<int> >(nsIURI*, int) const",
-        "nsDocShell::Load<T>",
-    ),
-    ("Foo<bar", "Foo<T>"),
-    // what follows the parameters
-    ("f(int) const", "f"),
-    ("f(int) const &", "f"),
-    ("f() const &&  ", "f"),
-    ("A::operator&&", "A::operator"),
-    ("f const const", "f"),
-    ("fconst", "fconst"),
-    // what precedes the name
-    ("void f(int)", "f"),
-    ("unsigned int *f(int)", "*f"),
-    ("void __cdecl ns::f(void (*)(int))", "ns::f"),
-    ("std::map<int, char> f()", "f"),
-    ("A::operator bool() const", "A::operator bool"),
-    (
-        "A::operator std::vector<int>  * ()",
-        "A::operator std::vector<T>* ",
-    ),
-    ("bool operator== (A, B)", ""),
-    (
-        "void (anonymous namespace)::f(int)",
-        "(anonymous namespace)::f",
-    ),
-    ("(anonymous namespace) f", "f"),
-    // brackets
-    ("a<b(c>d)e>f", "a<T>f"),
-    ("a(b<c)d", "ad"),
-    ("a<b)c>d", "a<T>d"),
-    ("a(b>c)d", "ad"),
-    ("a((b)c)d", "ad"),
-    ("a>b)c", "a>b)c"),
-    ("a(b", "a"),
-    ("f<a->b>c", "f<T>c"),
-    ("f->g<h>", "f->g<T>"),
-    ("f<(anonymous namespace)::g>h", "f<T>h"),
-    ("f((anonymous namespace)", "f"),
-    ("(f)", "(f)"),
-    ("<f>", "<T>"),
-    ("", ""),
-    // operators
-    ("A::operator()(int)", "A::operator()"),
-    ("A::operator<(A const&)", "A::operator<"),
-    ("A::operator<=>(A)", "A::operator<=>"),
-    ("A::operator<<=(int)", "A::operator<<="),
-    ("A::operator->()", "A::operator->"),
-    ("A::operator->*<B>(C)", "A::operator->*<T>"),
-    ("A::operator>>=(B)", "A::operator>>="),
-    ("A::operator>(B)", "A::operator>"),
-    ("A::operator<<<B>(C)", "A::operator<<<T>"),
-    ("A::operator< <B>(C)", "A::operator< <T>"),
-    ("my_operator<a>", "my_operator<T>"),
-    ("2operator<a>", "2operator<T>"),
-    ("::operator new(unsigned int)", "::operator new"),
-    // spaces
-    ("A::operator,(B)", "A::operator, "),
-    ("A::operator a , b,c,,  d", "A::operator a, b, c, , d"),
-    (
-        "A::operator a  *  &b \u{e9}  c",
-        "A::operator a*&b \u{e9}  c",
-    ),
-];
+const CPP: &str = "\
+static void nsDocShell::Load<Foo, Bar<int> >(nsIURI*, int) const => nsDocShell::Load<T>
+Foo<bar => Foo<T>
+f(int) const => f
+f(int) const & => f
+f() const &&   => f
+A::operator&& => A::operator
+f const const => f
+fconst => fconst
+void f(int) => f
+unsigned int *f(int) => *f
+void __cdecl ns::f(void (*)(int)) => ns::f
+std::map<int, char> f() => f
+A::operator bool() const => A::operator bool
+A::operator std::vector<int>  * () => A::operator std::vector<T>*\x20
+bool operator== (A, B) =>\x20
+void (anonymous namespace)::f(int) => (anonymous namespace)::f
+(anonymous namespace) f => f
+a<b(c>d)e>f => a<T>f
+a(b<c)d => ad
+a<b)c>d => a<T>d
+a(b>c)d => ad
+a((b)c)d => ad
+a>b)c => a>b)c
+a(b => a
+f<a->b>c => f<T>c
+f->g<h> => f->g<T>
+f<(anonymous namespace)::g>h => f<T>h
+f((anonymous namespace) => f
+(f) => (f)
+<f> => <T>
+\x20=>\x20
+A::operator()(int) => A::operator()
+A::operator<(A const&) => A::operator<
+A::operator<=>(A) => A::operator<=>
+A::operator<<=(int) => A::operator<<=
+A::operator->() => A::operator->
+A::operator->*<B>(C) => A::operator->*<T>
+A::operator>>=(B) => A::operator>>=
+A::operator>(B) => A::operator>
+A::operator<<<B>(C) => A::operator<<<T>
+A::operator< <B>(C) => A::operator< <T>
+my_operator<a> => my_operator<T>
+2operator<a> => 2operator<T>
+::operator new(unsigned int) => ::operator new
+A::operator,(B) => A::operator,\x20
+A::operator a , b,c,,  d => A::operator a, b, c, , d
+A::operator a  *  &b é  c => A::operator a*&b é  c";
 
 /// Functions from stacks of Firefox, and their texts.
-const FIREFOX: [(&str, &str); 11] = [
-    (
-        "static bool mozilla::detail::RunnableFunction<`lambda at /builds/worker/dom/Foo.cpp:12:3'>::Run()",
-        "mozilla::detail::RunnableFunction<T>::Run",
-    ),
-    (
-        "RefPtr<mozilla::dom::WorkerPrivate>::~RefPtr()",
-        "RefPtr<T>::~RefPtr",
-    ),
-    (
-        "nsTArray_Impl<RefPtr<nsIFoo>, nsTArrayInfallibleAllocator>::operator[](unsigned int)",
-        "nsTArray_Impl<T>::operator[]",
-    ),
-    (
-        "mozilla::TimeStamp::operator-(mozilla::TimeStamp const&) const",
-        "mozilla::TimeStamp::operator-",
-    ),
-    (
-        "std::operator<<<char, std::char_traits<char> >(std::basic_ostream<char>&, char const*)",
-        "std::operator<<<T>",
-    ),
-    (
-        "mozilla::(anonymous namespace)::RunWatchdog(void*)",
-        "mozilla::(anonymous namespace)::RunWatchdog",
-    ),
-    (
-        "static void mozilla::ipc::MessageChannel::OnMessageReceivedFromLink(class IPC::Message &&)",
-        "mozilla::ipc::MessageChannel::OnMessageReceivedFromLink",
-    ),
-    (
-        "mozilla::Maybe<std::function<void (int)> >::operator->() const",
-        "mozilla::Maybe<T>::operator->",
-    ),
-    (
-        "js::jit::JitActivation::traceRematerializedFrames(JSTracer*)",
-        "js::jit::JitActivation::traceRematerializedFrames",
-    ),
-    ("RtlpWaitOnCriticalSection", "RtlpWaitOnCriticalSection"),
-    (
-        "_PR_MD_SEND(PRFileDesc *, const void *, int, int, unsigned int)",
-        "_PR_MD_SEND",
-    ),
-];
+const FIREFOX: &str = "\
+static bool mozilla::detail::RunnableFunction<`lambda at /builds/worker/dom/Foo.cpp:12:3'>::Run() => mozilla::detail::RunnableFunction<T>::Run
+RefPtr<mozilla::dom::WorkerPrivate>::~RefPtr() => RefPtr<T>::~RefPtr
+nsTArray_Impl<RefPtr<nsIFoo>, nsTArrayInfallibleAllocator>::operator[](unsigned int) => nsTArray_Impl<T>::operator[]
+mozilla::TimeStamp::operator-(mozilla::TimeStamp const&) const => mozilla::TimeStamp::operator-
+std::operator<<<char, std::char_traits<char> >(std::basic_ostream<char>&, char const*) => std::operator<<<T>
+mozilla::(anonymous namespace)::RunWatchdog(void*) => mozilla::(anonymous namespace)::RunWatchdog
+static void mozilla::ipc::MessageChannel::OnMessageReceivedFromLink(class IPC::Message &&) => mozilla::ipc::MessageChannel::OnMessageReceivedFromLink
+mozilla::Maybe<std::function<void (int)> >::operator->() const => mozilla::Maybe<T>::operator->
+js::jit::JitActivation::traceRematerializedFrames(JSTracer*) => js::jit::JitActivation::traceRematerializedFrames
+RtlpWaitOnCriticalSection => RtlpWaitOnCriticalSection
+_PR_MD_SEND(PRFileDesc *, const void *, int, int, unsigned int) => _PR_MD_SEND";
 
 /// Functions of Rust, and their texts.
-const RUST: [(&str, &str); 17] = [
-    (
-        "core::ptr::drop<T>::h0123456789abcdef",
-        "core::ptr::drop<T>",
-    ),
-    (
-        "core::ptr::drop_in_place<alloc::vec::Vec<u8>>::h0123456789abcdef",
-        "core::ptr::drop_in_place<T>",
-    ),
-    (
-        "<alloc::vec::Vec<T,A> as core::ops::drop::Drop>::drop::hfedcba9876543210",
-        "<alloc::vec::Vec<T,A> as core::ops::drop::Drop>::drop",
-    ),
-    ("<a::B<C> as d::E>::f<g::H>", "<a::B<C> as d::E>::f<T>"),
-    (
-        "core::ops::function::FnOnce::call_once<fn(u8) -> u8, (u8)>",
-        "core::ops::function::FnOnce::call_once<T>",
-    ),
-    ("f::h0123456789abcdeF", "f::h0123456789abcdeF"),
-    ("f::h0123456789abcde", "f::h0123456789abcde"),
-    ("::h0123456789abcdef", ""),
-    ("f::h00123456789abcdef", "f::h00123456789abcdef"),
-    ("f(a<b)c>d", "f(a<T>d"),
-    ("f<a)b>(c)", "f<T>(c)"),
-    ("f<a", "f<T>"),
-    ("f<a as b", "f<a as b"),
-    ("a>b<c>", "a>b<T>"),
-    ("f<<a as b>::c>", "f<<a as b>::c>"),
-    ("a as b<c>", "a as b<T>"),
-    ("\u{e9}<\u{e9}>\u{e9} const", "\u{e9}<T>\u{e9} const"),
-];
+const RUST: &str = "\
+core::ptr::drop<T>::h0123456789abcdef => core::ptr::drop<T>
+core::ptr::drop_in_place<alloc::vec::Vec<u8>>::h0123456789abcdef => core::ptr::drop_in_place<T>
+<alloc::vec::Vec<T,A> as core::ops::drop::Drop>::drop::hfedcba9876543210 => <alloc::vec::Vec<T,A> as core::ops::drop::Drop>::drop
+<a::B<C> as d::E>::f<g::H> => <a::B<C> as d::E>::f<T>
+core::ops::function::FnOnce::call_once<fn(u8) -> u8, (u8)> => core::ops::function::FnOnce::call_once<T>
+f::h0123456789abcdeF => f::h0123456789abcdeF
+f::h0123456789abcde => f::h0123456789abcde
+::h0123456789abcdef =>\x20
+f::h00123456789abcdef => f::h00123456789abcdef
+f(a<b)c>d => f(a<T>d
+f<a)b>(c) => f<T>(c)
+f<a => f<T>
+f<a as b => f<a as b
+a>b<c> => a>b<T>
+f<<a as b>::c> => f<<a as b>::c>
+a as b<c> => a as b<T>
+é<é>é const => é<T>é const";
+
+/// The two parts of a table's line.
+fn parts(line: &str) -> (&str, &str) {
+    line.split_once(" => ").unwrap_or((line, ""))
+}
 
 fn normal_text(
     alloc: Global,
@@ -189,17 +132,19 @@ fn normal_text(
 
 #[test]
 fn functions_of_cpp(rt: HostRuntime) -> Result<(), Fail> {
-    for (function, want) in CPP.iter().chain(FIREFOX.iter()) {
+    for line in CPP.lines().chain(FIREFOX.lines()) {
+        let (function, want) = parts(line);
         let text = normal_text(rt.alloc(), Some(function), Some("a/b.cpp"), Some(1), None)?;
         let want = if want.is_empty() { function } else { want };
-        assert_eq!(rt; text.as_str(), *want);
+        same(&rt, text.as_str(), want);
     }
     Ok(())
 }
 
 #[test]
 fn functions_of_rust(rt: HostRuntime) -> Result<(), Fail> {
-    for (function, want) in &RUST {
+    for line in RUST.lines() {
+        let (function, want) = parts(line);
         let text = normal_text(
             rt.alloc(),
             Some(function),
@@ -207,41 +152,63 @@ fn functions_of_rust(rt: HostRuntime) -> Result<(), Fail> {
             None,
             None,
         )?;
-        assert_eq!(rt; text.as_str(), *want);
+        same(&rt, text.as_str(), want);
         let name = rust_name(rt.alloc(), function)?;
-        assert_eq!(rt; name.as_str(), *want);
+        same(&rt, name.as_str(), want);
     }
+    Ok(())
+}
+
+/// Frames without a function, by file, line and module.
+fn expect_place(
+    rt: &(impl AllocGlobal + Abort),
+    file: Option<&str>,
+    line: Option<u32>,
+    module: Option<&str>,
+    want: &str,
+) -> Result<(), Fail> {
+    let text = normal_text(rt.alloc(), None, file, line, module)?;
+    same(rt, text.as_str(), want);
     Ok(())
 }
 
 #[test]
 fn frames_without_a_function(rt: HostRuntime) -> Result<(), Fail> {
-    let alloc = rt.alloc();
-    let line = normal_text(alloc, None, Some("c:\\a/b.cpp"), Some(40), Some("xul.dll"))?;
-    assert_eq!(rt; line.as_str(), "b.cpp#40");
-    let module = normal_text(alloc, None, Some("b.cpp"), None, Some("xul.dll"))?;
-    assert_eq!(rt; module.as_str(), "xul.dll@0x10abc");
-    let nameless = normal_text(alloc, None, None, Some(40), Some(""))?;
-    assert_eq!(rt; nameless.as_str(), "@0x10abc");
-    let nowhere = normal_text(alloc, None, None, None, None)?;
-    assert_eq!(rt; nowhere.as_str(), "@0x7ffe00010abc");
-    let case = normal_text(alloc, Some("f<a as b>"), Some("a.RS"), None, None)?;
-    assert_eq!(rt; case.as_str(), "f<T>");
-    Ok(())
+    expect_place(
+        &rt,
+        Some("c:\\a/b.cpp"),
+        Some(40),
+        Some("xul.dll"),
+        "b.cpp#40",
+    )?;
+    expect_place(&rt, Some("b.cpp"), None, Some("xul.dll"), "xul.dll@0x10abc")?;
+    expect_place(&rt, None, Some(40), Some(""), "@0x10abc")?;
+    expect_place(&rt, None, None, None, "@0x7ffe00010abc")
 }
 
 #[test]
+fn files_of_rust_in_any_case(rt: HostRuntime) -> Result<(), Fail> {
+    let text = normal_text(rt.alloc(), Some("f<a as b>"), Some("a.RS"), None, None)?;
+    same(&rt, text.as_str(), "f<T>");
+    Ok(())
+}
+
+/// Functions, and what is left without the type that they return.
+const RETURNING: &str = "\
+void f(int a) => f(int a)
+void A::operator int() => void A::operator int()
+a<b c => a<b c
+a\x20 =>\x20
+\u{e9} \u{e9} => \u{e9}";
+
+#[test]
 fn steps(rt: HostRuntime) -> Result<(), Fail> {
-    assert_eq!(rt; drop_return_type("void f(int a)"), "f(int a)");
-    assert_eq!(rt;
-        drop_return_type("void A::operator int()"),
-        "void A::operator int()"
-    );
-    assert_eq!(rt; drop_return_type("a<b c"), "a<b c");
-    assert_eq!(rt; drop_return_type("a "), "");
-    assert_eq!(rt; drop_return_type("\u{e9} \u{e9}"), "\u{e9}");
+    for line in RETURNING.lines() {
+        let (function, want) = parts(line);
+        same(&rt, drop_return_type(function), want);
+    }
     let collapsed = collapse(rt.alloc(), "void f<a>(b) const")?;
-    assert_eq!(rt; collapsed.as_str(), "void f<T> const");
+    same(&rt, collapsed.as_str(), "void f<T> const");
     Ok(())
 }
 
@@ -249,9 +216,9 @@ fn steps(rt: HostRuntime) -> Result<(), Fail> {
 const LONGEST: usize = 16_777_216;
 
 fn check_deep(rt: &impl Abort, alloc: Global, name: &str) -> Result<(), Fail> {
-    assert_eq!(rt; rust_name(alloc, name)?.as_str(), "<T>");
+    same(rt, rust_name(alloc, name)?.as_str(), "<T>");
     let text = normal_text(alloc, Some(name), None, None, None)?;
-    assert_eq!(rt; text.as_str(), "<T>");
+    same(rt, text.as_str(), "<T>");
     Ok(())
 }
 

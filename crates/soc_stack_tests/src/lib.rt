@@ -2,6 +2,10 @@
 #![tactic(auto)]
 
 #[cfg(test)]
+mod arm64;
+#[cfg(test)]
+mod expect;
+#[cfg(test)]
 mod frames;
 #[cfg(test)]
 mod report;

@@ -1,10 +1,12 @@
 //! Reports of crashes made by hand.
+use crate::expect::{holds, same};
 use soc_edge::{MemTree, Numbers};
 use soc_raw::{Blobs, Bytes, NoMemory, RawCrash, Text};
 use soc_report::{Kit, KitError, KitText};
 use soc_schema::{Reporter, row_json};
 use soc_siglists::{ListName, RegexMaker};
 use std::alloc::{AllocError, Global};
+use std::process::Abort;
 use std::test::Fail;
 
 const HEAD: &[u8] =
@@ -80,8 +82,9 @@ const WITHOUT_A_DUMP: [((&str, &str), &str); 2] = [
 fn crash_without_a_dump(rt: HostRuntime) -> Result<(), Fail> {
     let alloc = rt.alloc();
     for (annotation, want) in &WITHOUT_A_DUMP {
-        let found = report(alloc, &[], &crash(alloc, &[*annotation], None)?)?;
-        assert_eq!(rt; found.as_slice(), want.as_bytes());
+        let raw = crash(alloc, &[*annotation], None)?;
+        let found = report(alloc, &[], &raw)?;
+        same(&rt, found.as_slice(), want.as_bytes());
     }
     Ok(())
 }
@@ -202,152 +205,130 @@ const FILES: [(&str, &str); 4] = [
 ];
 
 /// An annotation for every field that is made of one, and for those that take part in a field or in a signature.
-const ANNOTATIONS: [(&str, &str); 24] = [
-    ("AbortMessage", "a"),
-    ("AdapterDeviceID", "b"),
-    ("AdapterVendorID", "c"),
-    ("Add-ons", "d"),
-    ("AsyncShutdownTimeout", "e"),
-    ("AvailablePageFile", "000000000000000005"),
-    ("BuildID", "20160918000000"),
-    ("Comments", "f"),
-    ("CrashTime", "100"),
-    ("Email", "g"),
-    ("Hang", "0"),
-    ("InstallTime", "60"),
-    ("MozCrashReason", "h"),
-    ("OOMAllocationSize", "0"),
-    ("PossibleBitFlip", "1"),
-    ("ProcessType", "i"),
-    ("ProductName", "Firefox"),
-    ("ReleaseChannel", "j"),
-    ("StartupCrash", "1"),
-    ("StartupTime", "100"),
-    ("URL", "k"),
-    ("Version", "l"),
-    ("additional_minidumps", "gpu,browser"),
-    ("ipc_channel_error", "m"),
-];
+const ANNOTATIONS: &str = "\
+AbortMessage=a
+AdapterDeviceID=b
+AdapterVendorID=c
+Add-ons=d
+AsyncShutdownTimeout=e
+AvailablePageFile=000000000000000005
+BuildID=20160918000000
+Comments=f
+CrashTime=100
+Email=g
+Hang=0
+InstallTime=60
+MozCrashReason=h
+OOMAllocationSize=0
+PossibleBitFlip=1
+ProcessType=i
+ProductName=Firefox
+ReleaseChannel=j
+StartupCrash=1
+StartupTime=100
+URL=k
+Version=l
+additional_minidumps=gpu,browser
+ipc_channel_error=m";
+
+/// The annotations of such a table.
+fn annotations_of<'a>(
+    alloc: Global,
+    table: &'a str,
+) -> Result<Vec<(&'a str, &'a str)>, AllocError> {
+    let mut annotations = Vec::new(alloc);
+    for line in table.lines() {
+        annotations.push(line.split_once('=').unwrap_or((line, "")))?;
+    }
+    Ok(annotations)
+}
+
+/// A crash with these annotations and that dump.
+fn annotated(alloc: Global, table: &str) -> Result<RawCrash, Fail> {
+    let dump = windows(alloc, &[])?;
+    let annotations = annotations_of(alloc, table)?;
+    crash(alloc, annotations.as_slice(), Some(dump.as_slice()))
+}
 
 #[test]
 fn crash_with_every_field(rt: HostRuntime) -> Result<(), Fail> {
     let alloc = rt.alloc();
-    let dump = windows(alloc, &[])?;
-    let raw = crash(alloc, &ANNOTATIONS, Some(dump.as_slice()))?;
+    let raw = annotated(alloc, ANNOTATIONS)?;
     let found = report(alloc, &FILES, &raw)?;
     let want =
         br#"{"abort_message":"a","adapter_device_id":"b","adapter_vendor_id":"c","addons":"d","address":"0x0000000000000010","async_shutdown_timeout":"e","available_page_file":5,"build_id":20160918000000,"cpu_arch":"amd64","cpu_count":4,"crashing_thread":0,"date":"2016-09-18T00:00:00Z","email":"g","frame_count":2,"install_age":40,"ipc_channel_error":"m","module_count":2,"moz_crash_reason":"h","notes":"oom; abort; shutdown; ipc; bad_hardware","oom_allocation_size":0,"platform":"Windows NT","platform_version":"10.0.19041","process_type":"i","product":"Firefox","proto_signature":"nsDocShell::Load | Thing::Run","reason":"EXCEPTION_ACCESS_VIOLATION_WRITE","release_channel":"j","signature":"bad hardware | IPCError-browser | m","startup_crash":true,"success":true,"throttle_rule":"accept_all","uptime":0,"url":"k","user_comments":"f","uuid":"de1bb258-cbbf-4589-a673-34f800160918","version":"l"}"#;
-    assert_eq!(rt; found.as_slice(), want.as_slice());
+    same(&rt, found.as_slice(), want.as_slice());
     Ok(())
 }
 
-/// Numbers of that dump that are others, an annotation, and what the report then has.
-const CASES: [(&[(u16, u32)], (&str, &str), &str); 22] = [
-    (
-        &[],
-        ("x", ""),
-        r#""signature":"nsDocShell::Load | Thing::Run""#,
-    ),
-    (
-        &[],
-        ("Hang", "1"),
-        r#""signature":"hang | nsDocShell::Load | Thing::Run""#,
-    ),
-    (&[], ("StartupCrash", "true"), r#""startup_crash":false"#),
-    (
-        &[(364, 0xC000_00FD)],
-        ("x", ""),
-        r#""notes":"stackoverflow","platform""#,
-    ),
-    (
-        &[(364, 0xC000_00FD)],
-        ("x", ""),
-        r#""signature":"stackoverflow | nsDocShell::Load | Thing::Run""#,
-    ),
-    (
-        &[(100, 0x8201), (364, 11)],
-        ("x", ""),
-        r#""reason":"SIGSEGV""#,
-    ),
-    (
-        &[(100, 0x8101), (364, 11)],
-        ("x", ""),
-        r#""platform":"Mac OS X","platform_version":"10.0.19041","proto_signature":"nsDocShell::Load | Thing::Run","reason":"0x0000000b""#,
-    ),
-    (
-        &[(100, 0x8203), (364, 6)],
-        ("x", ""),
-        r#""reason":"SIGABRT""#,
-    ),
-    // x86, and ARM64
-    (
-        &[(80, 0), (896, 0x1000_1004), (908, 0x2000_0000)],
-        ("x", ""),
-        r#""signature":"nsDocShell::Load | Thing::Run""#,
-    ),
-    (
-        &[(80, 12), (968, 0x2000_0000), (976, 0x1000_1004)],
-        ("x", ""),
-        r#""signature":"nsDocShell::Load | Thing::Run""#,
-    ),
-    // another architecture, and a context that is too short
-    (&[(80, 5)], ("x", ""), r#""frame_count":0,"module_count":2"#),
-    (
-        &[(516, 100)],
-        ("x", ""),
-        r#""signature":"EMPTY: no frame data available""#,
-    ),
-    // an exception of no thread
-    (
-        &[(356, 2)],
-        ("x", ""),
-        r#""date":"2016-09-18T00:00:00Z","module_count":2"#,
-    ),
-    (
-        &[(356, 2)],
-        ("x", ""),
-        r#""signature":"EMPTY: no crashing thread identified""#,
-    ),
-    // no list of modules, and an empty one
-    (&[(44, 9)], ("x", ""), r#""frame_count":1,"platform""#),
-    (
-        &[(48, 4), (136, 0)],
-        ("x", ""),
-        r#""frame_count":1,"module_count":0,"platform""#,
-    ),
-    // no system, no exception
-    (
-        &[(32, 9)],
-        ("x", ""),
-        r#""frame_count":0,"module_count":2,"reason":"0xc0000005""#,
-    ),
-    (
-        &[(56, 9)],
-        ("x", ""),
-        r#""cpu_count":4,"date":"2016-09-18T00:00:00Z","module_count":2,"platform""#,
-    ),
-    // dumps that are refused
-    (&[(0, 0)], ("x", ""), r#""notes":"dump refused 40 at 0""#),
-    (
-        &[(52, 9999)],
-        ("Hang", "1"),
-        r#""notes":"dump refused 42 at 9999; hang""#,
-    ),
-    (&[(44, 7)], ("x", ""), r#""notes":"dump refused 44 at 44""#),
-    (&[(36, 5)], ("x", ""), r#""success":false"#),
-];
+/// Numbers of that dump that are others, each by its place and in hexadecimal, an annotation, and what the report then has:
+/// for other annotations, exceptions, systems, architectures (x86, ARM64 and another), a context that is too short, an
+/// exception of no thread, no modules, no system, no exception, and dumps that are refused.
+const CASES: &str = r#"- / x= / "signature":"nsDocShell::Load | Thing::Run"
+- / Hang=1 / "signature":"hang | nsDocShell::Load | Thing::Run"
+- / StartupCrash=true / "startup_crash":false
+364=c00000fd / x= / "notes":"stackoverflow","platform"
+364=c00000fd / x= / "signature":"stackoverflow | nsDocShell::Load | Thing::Run"
+100=8201 364=b / x= / "reason":"SIGSEGV"
+100=8101 364=b / x= / "platform":"Mac OS X","platform_version":"10.0.19041","proto_signature":"nsDocShell::Load | Thing::Run","reason":"0x0000000b"
+100=8203 364=6 / x= / "reason":"SIGABRT"
+80=0 896=10001004 908=20000000 / x= / "signature":"nsDocShell::Load | Thing::Run"
+80=c 968=20000000 976=10001004 / x= / "signature":"nsDocShell::Load | Thing::Run"
+80=5 / x= / "frame_count":0,"module_count":2
+516=64 / x= / "signature":"EMPTY: no frame data available"
+356=2 / x= / "date":"2016-09-18T00:00:00Z","module_count":2
+356=2 / x= / "signature":"EMPTY: no crashing thread identified"
+44=9 / x= / "frame_count":1,"platform"
+48=4 136=0 / x= / "frame_count":1,"module_count":0,"platform"
+32=9 / x= / "frame_count":0,"module_count":2,"reason":"0xc0000005"
+56=9 / x= / "cpu_count":4,"date":"2016-09-18T00:00:00Z","module_count":2,"platform"
+0=0 / x= / "notes":"dump refused 40 at 0"
+52=270f / Hang=1 / "notes":"dump refused 42 at 9999; hang"
+44=7 / x= / "notes":"dump refused 44 at 44"
+36=5 / x= / "success":false"#;
+
+/// The numbers of a cell.
+fn numbers_of(alloc: Global, cell: &str) -> Result<Vec<(u16, u32)>, Fail> {
+    let mut numbers = Vec::new(alloc);
+    for pair in cell.split(' ') {
+        if let Some((place, number)) = pair.split_once('=') {
+            let place = place.parse::<u16>().ok().ok_or("no place")?;
+            let number = u32::from_str_radix(number, 16).ok().ok_or("no number")?;
+            numbers.push((place, number))?;
+        }
+    }
+    Ok(numbers)
+}
+
+/// That dump with the numbers of a cell.
+fn dump_of(alloc: Global, cell: &str) -> Result<Vec<u8>, Fail> {
+    let numbers = numbers_of(alloc, cell)?;
+    Ok(windows(alloc, numbers.as_slice())?)
+}
+
+/// The report of a crash with that dump and an annotation.
+fn report_of(alloc: Global, numbers: &str, annotation: &str) -> Result<Bytes, Fail> {
+    let dump = dump_of(alloc, numbers)?;
+    let annotations = annotations_of(alloc, annotation)?;
+    let raw = crash(alloc, annotations.as_slice(), Some(dump.as_slice()))?;
+    report(alloc, &FILES, &raw)
+}
+
+fn expect_within(rt: &impl Abort, report: &Bytes, want: &str) -> Result<(), Fail> {
+    let Ok(text) = str::from_utf8(report.as_slice()) else {
+        return Err(Fail::from(NoMemory));
+    };
+    assert!(rt; text.contains(want), "{want} in {text}");
+    Ok(())
+}
 
 #[test]
 fn crashes(rt: HostRuntime) -> Result<(), Fail> {
-    let alloc = rt.alloc();
-    for (words, annotation, want) in &CASES {
-        let dump = windows(alloc, words)?;
-        let raw = crash(alloc, &[*annotation], Some(dump.as_slice()))?;
-        let found = report(alloc, &FILES, &raw)?;
-        let Ok(text) = str::from_utf8(found.as_slice()) else {
-            return Err(Fail::from(NoMemory));
-        };
-        assert!(rt; text.contains(*want), "{want} in {text}");
+    for line in CASES.lines() {
+        let (numbers, rest) = line.split_once(" / ").unwrap_or((line, ""));
+        let (annotation, want) = rest.split_once(" / ").unwrap_or((rest, ""));
+        let found = report_of(rt.alloc(), numbers, annotation)?;
+        expect_within(&rt, &found, want)?;
     }
     Ok(())
 }
@@ -376,55 +357,71 @@ fn with_stack(alloc: Global, others: &[(u16, u32)]) -> Result<Vec<u8>, AllocErro
     Ok(dump)
 }
 
-/// Lists, numbers of that dump that are others, and what the report has without symbols.
-const PLACES: [(&[(&str, &str)], &[(u16, u32)], &str); 6] = [
-    (
-        &[],
-        &[],
-        r#""proto_signature":"@0x50000000 | xul.dll@0x2000 | xul.dll@0x30 | mozglue.dll@0x10 | xul.dll@0x2000 | xul.dll@0x3000""#,
-    ),
-    (
-        &[("prefix.txt", "@0x\nxul")],
-        &[],
-        r#""signature":"@0x50000000 | xul.dll | mozglue.dll""#,
-    ),
-    (
-        &[("sentinel.txt", "mozglue")],
-        &[],
-        r#""signature":"mozglue.dll""#,
-    ),
-    (
-        &[("irrelevant.txt", "@0x\nxul\nmoz")],
-        &[],
-        r#""signature":"EMPTY: no frame data available""#,
-    ),
-    // the first module has the long name
-    (
-        &[("irrelevant.txt", "@0x")],
-        &[(160, 1984)],
-        r#"xxx...","success":true"#,
-    ),
-    (
-        &[("irrelevant.txt", "@0x\nx"), ("sentinel.txt", "y")],
-        &[(160, 1984)],
-        r#""signature":"mozglue.dll""#,
-    ),
-];
+/// The report of a crash with that dump, with these lists and no symbols.
+fn report_of_stack(
+    alloc: Global,
+    files: &[(&str, &str)],
+    numbers: &[(u16, u32)],
+) -> Result<Bytes, Fail> {
+    let dump = with_stack(alloc, numbers)?;
+    let raw = crash(alloc, &[], Some(dump.as_slice()))?;
+    report(alloc, files, &raw)
+}
+
+fn expect_place(
+    rt: &(impl AllocGlobal + Abort),
+    files: &[(&str, &str)],
+    numbers: &[(u16, u32)],
+    want: &str,
+) -> Result<(), Fail> {
+    let found = report_of_stack(rt.alloc(), files, numbers)?;
+    expect_within(rt, &found, r#""frame_count":6"#)?;
+    expect_within(rt, &found, want)
+}
 
 #[test]
 fn places(rt: HostRuntime) -> Result<(), Fail> {
-    let alloc = rt.alloc();
-    for (files, words, want) in &PLACES {
-        let dump = with_stack(alloc, words)?;
-        let raw = crash(alloc, &[], Some(dump.as_slice()))?;
-        let found = report(alloc, files, &raw)?;
-        let Ok(text) = str::from_utf8(found.as_slice()) else {
-            return Err(Fail::from(NoMemory));
-        };
-        assert!(rt; text.contains(r#""frame_count":6"#), "6 frames in {text}");
-        assert!(rt; text.contains(*want), "{want} in {text}");
-    }
-    Ok(())
+    expect_place(
+        &rt,
+        &[],
+        &[],
+        r#""proto_signature":"@0x50000000 | xul.dll@0x2000 | xul.dll@0x30 | mozglue.dll@0x10 | xul.dll@0x2000 | xul.dll@0x3000""#,
+    )?;
+    expect_place(
+        &rt,
+        &[("prefix.txt", "@0x\nxul")],
+        &[],
+        r#""signature":"@0x50000000 | xul.dll | mozglue.dll""#,
+    )?;
+    expect_place(
+        &rt,
+        &[("sentinel.txt", "mozglue")],
+        &[],
+        r#""signature":"mozglue.dll""#,
+    )?;
+    expect_place(
+        &rt,
+        &[("irrelevant.txt", "@0x\nxul\nmoz")],
+        &[],
+        r#""signature":"EMPTY: no frame data available""#,
+    )
+}
+
+/// The first module has the long name.
+#[test]
+fn places_in_a_module_of_a_long_name(rt: HostRuntime) -> Result<(), Fail> {
+    expect_place(
+        &rt,
+        &[("irrelevant.txt", "@0x")],
+        &[(160, 1984)],
+        r#"xxx...","success":true"#,
+    )?;
+    expect_place(
+        &rt,
+        &[("irrelevant.txt", "@0x\nx"), ("sentinel.txt", "y")],
+        &[(160, 1984)],
+        r#""signature":"mozglue.dll""#,
+    )
 }
 
 /// The refusal of these files, as a name and a number.
@@ -449,44 +446,73 @@ const BAD_LIST: [(&str, &str); 3] = [
 ];
 
 #[test]
-fn refusals(rt: HostRuntime) -> Result<(), Fail> {
-    let alloc = rt.alloc();
-    let missing = refusal(alloc, &NO_FILE)?;
-    assert!(rt;
-        matches!(&missing, Some(KitError::Missing { name }) if name.as_str() == "symbols/y.sym")
+fn a_file_is_missing(rt: HostRuntime) -> Result<(), Fail> {
+    let missing = refusal(rt.alloc(), &NO_FILE)?;
+    holds(
+        &rt,
+        matches!(&missing, Some(KitError::Missing { name }) if name.as_str() == "symbols/y.sym"),
     );
-    let bad = refusal(alloc, &BAD_FILE)?;
-    assert!(rt;
-        matches!(&bad, Some(KitError::BadLine { name, line: 2 }) if name.as_str() == "symbols/x.sym")
+    Ok(())
+}
+
+#[test]
+fn a_line_is_bad(rt: HostRuntime) -> Result<(), Fail> {
+    let bad = refusal(rt.alloc(), &BAD_FILE)?;
+    holds(
+        &rt,
+        matches!(&bad, Some(KitError::BadLine { name, line: 2 }) if name.as_str() == "symbols/x.sym"),
     );
-    let bad = refusal(alloc, &BAD_LIST)?;
-    assert!(rt;
+    Ok(())
+}
+
+#[test]
+fn a_pattern_is_bad(rt: HostRuntime) -> Result<(), Fail> {
+    let bad = refusal(rt.alloc(), &BAD_LIST)?;
+    holds(
+        &rt,
         matches!(
             &bad,
             Some(KitError::BadPattern {
                 list: ListName::Prefix,
                 line: 2
             })
-        )
+        ),
     );
     Ok(())
 }
 
-#[test]
-fn most_paths(rt: HostRuntime) -> Result<(), Fail> {
-    let alloc = rt.alloc();
+/// The refusal of this list of symbol files.
+fn refusal_of(alloc: Global, list: &str) -> Result<Option<KitError>, NoMemory> {
+    let file = ("symbols/x.sym", "MODULE a b c d\n");
+    refusal(alloc, &[("symbols.txt", list), file])
+}
+
+/// As many paths as a list may have.
+fn most(alloc: Global) -> Result<String, AllocError> {
     let mut list = String::new(alloc);
     for _ in 0..4096 {
         list.push_str("x.sym\n")?;
     }
     list.push_str("# no more\n")?;
-    let file = ("symbols/x.sym", "MODULE a b c d\n");
-    let found = refusal(alloc, &[("symbols.txt", list.as_str()), file])?;
-    assert!(rt; found.is_none());
+    Ok(list)
+}
+
+#[test]
+fn most_paths(rt: HostRuntime) -> Result<(), Fail> {
+    let list = most(rt.alloc())?;
+    let found = refusal_of(rt.alloc(), list.as_str())?;
+    holds(&rt, found.is_none());
+    Ok(())
+}
+
+#[test]
+fn more_paths(rt: HostRuntime) -> Result<(), Fail> {
+    let mut list = most(rt.alloc())?;
     list.push_str("y.sym")?;
-    let found = refusal(alloc, &[("symbols.txt", list.as_str()), file])?;
-    assert!(rt;
-        matches!(&found, Some(KitError::Missing { name }) if name.as_str() == "symbols.txt")
+    let found = refusal_of(rt.alloc(), list.as_str())?;
+    holds(
+        &rt,
+        matches!(&found, Some(KitError::Missing { name }) if name.as_str() == "symbols.txt"),
     );
     Ok(())
 }
@@ -507,9 +533,9 @@ fn digests(rt: HostRuntime) -> Result<(), Fail> {
         0x73, 0x2d, 0x8a, 0xd5, 0x9b, 0x14, 0xe4, 0xff, 0xb2, 0x84, 0xf6, 0x28, 0x7c, 0x20, 0xbe,
         0x71, 0xd9,
     ];
-    assert_eq!(rt; texts.digest(), digest);
+    same(&rt, texts.digest(), digest);
     let kit = Kit::read(alloc, &texts, &mut RegexMaker::new())?;
-    assert_eq!(rt; Reporter::digest(&kit), Some(digest));
+    same(&rt, Reporter::digest(&kit), Some(digest));
     Ok(())
 }
 

@@ -1,4 +1,5 @@
 //! Signatures of made crashes.
+use crate::expect::same;
 use soc_raw::{NoMemory, Text, TextList};
 use soc_siglists::{Lists, RegexMaker};
 use soc_sigrules::{SigInput, Signature, signature};
@@ -28,68 +29,96 @@ fn crash(alloc: Global, frames: &str) -> Result<SigInput, NoMemory> {
     })
 }
 
-/// The signature under an irrelevant, a prefix and a sentinel list.
-fn signed(alloc: Global, lists: [&str; 3], input: &SigInput) -> Result<Signature, Fail> {
+/// The signature under these lists.
+fn signed(
+    alloc: Global,
+    irrelevant: &str,
+    prefix: &str,
+    sentinel: &str,
+    input: &SigInput,
+) -> Result<Signature, Fail> {
     let lists = Lists::read(
         alloc,
         &mut RegexMaker::new(),
-        lists[0].as_bytes(),
-        lists[1].as_bytes(),
-        lists[2].as_bytes(),
+        irrelevant.as_bytes(),
+        prefix.as_bytes(),
+        sentinel.as_bytes(),
     )?;
     Ok(signature(alloc, input, &lists)?)
 }
 
-/// The three lists, frames, and the signature: ends, sentinels that are irrelevant or prefixes, modules, what is asked of
-/// the whole frame, and matches that begin where frames do.
-const STACKS: [([&str; 3], &str, &str); 19] = [
-    (["a", "b", ""], "a;b;c;d", "b | c"),
-    (["a", "b", "c"], "a;b;c;d", "c"),
-    (["", "", ""], "", "EMPTY: no frame data available"),
-    (["a", "", ""], "a;abc", "EMPTY: no frame data available"),
-    (["", "", ""], "f;g", "f"),
-    (["", "a\nb", ""], "a;b", "a | b"),
-    (["b", "", "b"], "a;b;c", "c"),
-    (["", "b", "b"], "a;b;c;d", "b | c"),
-    (["", "a\nb\nc", "b\nc"], "a;b;c;d", "b | c | d"),
-    (["", "", "c"], "a;b;c;d", "c"),
-    (
-        ["", "xul", ""],
-        "xul.dll@0x1;xul.dll@0x2;XUL.DLL@0x2;f",
-        "xul.dll | XUL.DLL",
-    ),
-    (
-        ["", "xul", ""],
-        "xul.dll;xul.dll@0x2;xul.dll@0x3;f",
-        "xul.dll | f",
-    ),
-    (
-        ["", "xul", ""],
-        "xul.dll@0x1;xul.dll;f",
-        "xul.dll | xul.dll | f",
-    ),
-    (
-        ["", "xul", ""],
-        "xul.dll@0x1;ntdll.dll@0x2;xul.dll@0x1;f",
-        "xul.dll | ntdll.dll",
-    ),
-    (["", "a", ""], "a.DlL@0.dll@1;b", "a.DlL | b"),
-    (["", "", ""], ".dll@", ".dll"),
-    (["", "", ""], "libc.so@0x1f", "libc.so@0x1f"),
-    (
-        ["xul.dll@0x1", "xul.dll$", ""],
-        "xul.dll@0x1;xul.dll@0x2;f",
-        "xul.dll | f",
-    ),
-    (["b", "f.*", "g"], "ab;cf;dg", "ab"),
-];
+/// The irrelevant, the prefix and the sentinel list, frames, and the signature: ends, sentinels that are irrelevant or
+/// prefixes, modules, what is asked of the whole frame, and matches that begin where frames do.
+const STACKS: &str = "\
+a / b / / a;b;c;d / b | c
+a / b / c / a;b;c;d / c
+/ / / / EMPTY: no frame data available
+a / / / a;abc / EMPTY: no frame data available
+/ / / f;g / f
+/ a;b / / a;b / a | b
+b / / b / a;b;c / c
+/ b / b / a;b;c;d / b | c
+/ a;b;c / b;c / a;b;c;d / b | c | d
+/ / c / a;b;c;d / c
+/ xul / / xul.dll@0x1;xul.dll@0x2;XUL.DLL@0x2;f / xul.dll | XUL.DLL
+/ xul / / xul.dll;xul.dll@0x2;xul.dll@0x3;f / xul.dll | f
+/ xul / / xul.dll@0x1;xul.dll;f / xul.dll | xul.dll | f
+/ xul / / xul.dll@0x1;ntdll.dll@0x2;xul.dll@0x1;f / xul.dll | ntdll.dll
+/ a / / a.DlL@0.dll@1;b / a.DlL | b
+/ / / .dll@ / .dll
+/ / / libc.so@0x1f / libc.so@0x1f
+xul.dll@0x1 / xul.dll$ / / xul.dll@0x1;xul.dll@0x2;f / xul.dll | f
+b / f.* / g / ab;cf;dg / ab";
+
+/// The cells of a table's line.
+fn cells(line: &str) -> [&str; 5] {
+    let mut cells = [""; 5];
+    let mut at = 0;
+    for cell in line.split('/') {
+        if at < 5 {
+            cells[at] = cell.trim();
+            at += 1;
+        }
+    }
+    cells
+}
+
+/// A list of these patterns.
+fn list_of(alloc: Global, patterns: &str) -> Result<String, NoMemory> {
+    let mut list = String::new(alloc);
+    for pattern in patterns.split(';') {
+        list.push_str(pattern)?;
+        list.push('\n')?;
+    }
+    Ok(list)
+}
+
+/// The signature under lists of these patterns.
+fn signed_by(
+    alloc: Global,
+    irrelevant: &str,
+    prefix: &str,
+    sentinel: &str,
+    input: &SigInput,
+) -> Result<Signature, Fail> {
+    let prefixes = list_of(alloc, prefix)?;
+    let sentinels = list_of(alloc, sentinel)?;
+    signed(
+        alloc,
+        irrelevant,
+        prefixes.as_str(),
+        sentinels.as_str(),
+        input,
+    )
+}
 
 #[test]
 fn stacks(rt: HostRuntime) -> Result<(), Fail> {
     let alloc = rt.alloc();
-    for (lists, frames, want) in &STACKS {
-        let found = signed(alloc, *lists, &crash(alloc, frames)?)?;
-        assert_eq!(rt; found.text.as_str(), *want);
+    for line in STACKS.lines() {
+        let [irrelevant, prefix, sentinel, frames, want] = cells(line);
+        let found = signed_by(alloc, irrelevant, prefix, sentinel, &crash(alloc, frames)?)?;
+        same(&rt, found.text.as_str(), want);
     }
     Ok(())
 }
@@ -118,38 +147,41 @@ const LONGS: [(Long, Long); 7] = [
     (("x", 255, " y"), ("x", 252, "...")),
 ];
 
+fn signed_long(alloc: Global, frames: Long) -> Result<Signature, Fail> {
+    let frames = long(alloc, frames)?;
+    signed(alloc, "", "[x ]", "", &crash(alloc, frames.as_str())?)
+}
+
 #[test]
 fn longs(rt: HostRuntime) -> Result<(), Fail> {
-    let alloc = rt.alloc();
     for (frames, want) in &LONGS {
-        let frames = long(alloc, *frames)?;
-        let want = long(alloc, *want)?;
-        let found = signed(alloc, ["", "[x ]", ""], &crash(alloc, frames.as_str())?)?;
-        assert_eq!(rt; found.text.as_str(), want.as_str());
+        let found = signed_long(rt.alloc(), *frames)?;
+        let want = long(rt.alloc(), *want)?;
+        same(&rt, found.text.as_str(), want.as_str());
     }
     Ok(())
 }
 
 /// Sizes of allocations that failed, and signatures.
-const SIZES: [(&str, &str); 8] = [
-    ("262144", "OOM | small"),
-    ("000000000000000001", "OOM | small"),
-    ("262145", "OOM | large | f"),
-    ("999999999999999999", "OOM | large | f"),
-    ("0000000000000000001", "OOM | unknown | f"),
-    ("many", "OOM | unknown | f"),
-    ("", "OOM | unknown | f"),
-    ("+1", "OOM | unknown | f"),
-];
+const SIZES: &str = "\
+262144 OOM | small
+000000000000000001 OOM | small
+262145 OOM | large | f
+999999999999999999 OOM | large | f
+0000000000000000001 OOM | unknown | f
+many OOM | unknown | f
+\x20OOM | unknown | f
++1 OOM | unknown | f";
 
 #[test]
 fn sizes(rt: HostRuntime) -> Result<(), Fail> {
     let alloc = rt.alloc();
-    for (size, want) in &SIZES {
+    for line in SIZES.lines() {
+        let (size, want) = line.split_once(' ').unwrap_or((line, ""));
         let mut input = crash(alloc, "f")?;
         input.oom = Some(Text::of(alloc, size)?);
-        let found = signed(alloc, ["", "", ""], &input)?;
-        assert_eq!(rt; found.text.as_str(), *want);
+        let found = signed(alloc, "", "", "", &input)?;
+        same(&rt, found.text.as_str(), want);
     }
     Ok(())
 }

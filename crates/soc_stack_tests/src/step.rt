@@ -1,7 +1,10 @@
+use crate::expect::same_at;
 use soc_cfi::{Memory, Rules};
 use soc_frames::Trust;
 use soc_step::{Caller, Machine, PLACES, Register, Registers, Surroundings, Width};
 use soc_symfile::SymFile;
+use std::alloc::{AllocError, Global};
+use std::process::Abort;
 use std::test::Fail;
 
 /// Five registers, of which a call keeps `fp` and `b`.
@@ -179,35 +182,38 @@ fn rows() -> [Row; 9] {
     ]
 }
 
+/// A symbol file with this rule.
+fn rule_text(alloc: Global, rule: &str) -> Result<String, AllocError> {
+    format!(in alloc; "MODULE a b c d\nSTACK CFI INIT 100 10 a: {rule}\n")
+}
+
+fn expect_step(rt: &impl Abort, file: &SymFile<'_>, row: &Row) {
+    let (frame, text, trust, found) = row;
+    let registers = Registers {
+        machine: machine(Width::Eight),
+        values: values(*frame),
+    };
+    let rules = file.cfi(0x100).map(|span| Rules::at(span, 0x100));
+    let caller = Some(Caller {
+        values: values(*found),
+        trust: *trust,
+    });
+    for (first, covered) in [(true, 0x1000_0100), (false, 0x1000_00ff)] {
+        let around = Around {
+            covered,
+            rules,
+            last: 0x7018,
+        };
+        same_at(rt, text, registers.caller(first, &around), caller);
+    }
+}
+
 #[test]
 fn steps(rt: HostRuntime) -> Result<(), Fail> {
-    for (frame, text, trust, found) in rows() {
-        let text = format!(in rt.alloc(); "MODULE a b c d\nSTACK CFI INIT 100 10 a: {text}\n")?;
+    for row in &rows() {
+        let text = rule_text(rt.alloc(), row.1)?;
         let file = SymFile::read(rt.alloc(), text.as_bytes())?;
-        let registers = Registers {
-            machine: machine(Width::Eight),
-            values: values(frame),
-        };
-        let rules = file.cfi(0x100).map(|span| Rules::at(span, 0x100));
-        let last = 0x7018;
-        let caller = Some(Caller {
-            values: values(found),
-            trust,
-        });
-        let covered = 0x1000_0100;
-        let around = Around {
-            covered,
-            rules,
-            last,
-        };
-        assert_eq!(rt; registers.caller(true, &around), caller, "{text}");
-        let covered = 0x1000_00ff;
-        let around = Around {
-            covered,
-            rules,
-            last,
-        };
-        assert_eq!(rt; registers.caller(false, &around), caller, "{text}");
+        expect_step(&rt, &file, row);
     }
     Ok(())
 }

@@ -1,7 +1,8 @@
+use crate::expect::same;
 use soc_dump::Dump;
 use soc_frames::Trust;
 use soc_symfile::SymFile;
-use soc_walk::{Symbols, walk};
+use soc_walk::{Frames, Symbols, walk};
 use std::alloc::Global;
 use std::process::Abort;
 use std::test::Fail;
@@ -186,22 +187,35 @@ FUNC 2000 10 0 Thing::Run()
 /// A frame's instruction pointer, how it was found, and its offset.
 type Shown = (u64, Trust, u64);
 
-fn check(rt: &impl Abort, alloc: Global, made: &Made, wanted: &[Shown]) -> Result<(), Fail> {
-    let kit = Kit {
-        xul: SymFile::read(alloc, XUL_SYMBOLS)?,
-        moz: SymFile::read(alloc, MOZ_SYMBOLS)?,
-    };
-    let dump = Dump::read(alloc, &made.file)?;
-    let frames = walk(alloc, &dump, 0, &kit)?;
+fn expect_frames(rt: &impl Abort, frames: &Frames, wanted: &[Shown]) {
     assert_eq!(rt; frames.len(), wanted.len());
     for (i, (instruction, trust, offset)) in wanted.iter().enumerate() {
         if i < frames.len() {
             let frame = frames.at(i);
-            assert_eq!(rt; frame.instruction, *instruction);
-            assert_eq!(rt; frame.trust, *trust);
-            assert_eq!(rt; frame.offset, *offset);
+            same(rt, frame.instruction, *instruction);
+            same(rt, frame.trust, *trust);
+            same(rt, frame.offset, *offset);
         }
     }
+}
+
+fn symbols_of_both(alloc: Global) -> Result<Kit<'static>, Fail> {
+    Ok(Kit {
+        xul: SymFile::read(alloc, XUL_SYMBOLS)?,
+        moz: SymFile::read(alloc, MOZ_SYMBOLS)?,
+    })
+}
+
+/// The frames of a dump's thread.
+fn walked(alloc: Global, made: &Made) -> Result<Frames, Fail> {
+    let kit = symbols_of_both(alloc)?;
+    let dump = Dump::read(alloc, &made.file)?;
+    Ok(walk(alloc, &dump, 0, &kit)?)
+}
+
+fn check(rt: &impl Abort, alloc: Global, made: &Made, wanted: &[Shown]) -> Result<(), Fail> {
+    let frames = walked(alloc, made)?;
+    expect_frames(rt, &frames, wanted);
     Ok(())
 }
 

@@ -22,8 +22,8 @@ fn ask_to_prioritise(
     who: Who,
     which: Which,
 ) -> Result<Reply, Fail> {
-    let caller = caller(alloc, who)?;
     let id = id(alloc, which)?;
+    let caller = caller(alloc, who)?;
     Ok(book.ask(Command::Priority { caller, id }).reply)
 }
 
@@ -33,8 +33,8 @@ fn ask_to_reprocess(
     who: Who,
     which: Which,
 ) -> Result<Reply, Fail> {
-    let caller = caller(alloc, who)?;
     let id = id(alloc, which)?;
+    let caller = caller(alloc, who)?;
     Ok(book.ask(Command::Reprocess { caller, id }).reply)
 }
 
@@ -44,8 +44,8 @@ fn ask_to_withdraw(
     who: Who,
     which: Which,
 ) -> Result<Reply, Fail> {
-    let caller = caller(alloc, who)?;
     let id = id(alloc, which)?;
+    let caller = caller(alloc, who)?;
     Ok(book.ask(Command::Withdraw { caller, id }).reply)
 }
 
@@ -83,8 +83,8 @@ fn prioritise(
     who: Who,
     which: Which,
 ) -> Result<Reply, Fail> {
-    let caller = caller(alloc, who)?;
     let id = id(alloc, which)?;
+    let caller = caller(alloc, who)?;
     Ok(book.prioritise(&caller, id))
 }
 
@@ -94,8 +94,8 @@ fn reprocess(
     who: Who,
     which: Which,
 ) -> Result<Reply, Fail> {
-    let caller = caller(alloc, who)?;
     let id = id(alloc, which)?;
+    let caller = caller(alloc, who)?;
     Ok(book.reprocess(&caller, id))
 }
 
@@ -105,8 +105,8 @@ fn withdraw(
     who: Who,
     which: Which,
 ) -> Result<Reply, Fail> {
-    let caller = caller(alloc, who)?;
     let id = id(alloc, which)?;
+    let caller = caller(alloc, who)?;
     Ok(book.withdraw(&caller, id))
 }
 
@@ -116,8 +116,8 @@ fn annotations(
     who: Who,
     which: Which,
 ) -> Result<Reply, Fail> {
-    let caller = caller(alloc, who)?;
     let id = id(alloc, which)?;
+    let caller = caller(alloc, who)?;
     Ok(book.raw(&caller, id))
 }
 
@@ -127,8 +127,8 @@ fn report(
     who: Who,
     which: Which,
 ) -> Result<Reply, Fail> {
-    let caller = caller(alloc, who)?;
     let id = id(alloc, which)?;
+    let caller = caller(alloc, who)?;
     Ok(book.processed(&caller, id))
 }
 
@@ -139,8 +139,8 @@ fn dump(
     which: Which,
     name: &'static str,
 ) -> Result<Reply, Fail> {
-    let caller = caller(alloc, who)?;
     let id = id(alloc, which)?;
+    let caller = caller(alloc, who)?;
     Ok(book.dump(&caller, id, name))
 }
 

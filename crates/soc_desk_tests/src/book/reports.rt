@@ -1,6 +1,7 @@
 //! Reports that are kept for later runs, and crashes whose reports want memory.
 use super::acts::{Answer, Which, told};
 use super::{LIMITS, disk, put};
+use crate::expect::{holds, same};
 use soc_book::Book;
 use soc_edge::MemDisk;
 use soc_raw::{NoMemory, RawCrash};
@@ -54,9 +55,9 @@ fn reports_are_kept(rt: HostRuntime) -> Result<(), Fail> {
     let alloc = rt.alloc();
     let mut disk = disk(alloc, &[])?;
     put(alloc, &mut disk, Which::Firefox)?;
-    assert!(rt; run(alloc, &mut disk, 1)? == [1, 0, 0, 1, 0]);
-    assert!(rt; run(alloc, &mut disk, 1)? == [0, 1, 0, 0, 0]);
-    assert!(rt; run(alloc, &mut disk, 2)? == [1, 0, 0, 1, 0]);
+    holds(&rt, run(alloc, &mut disk, 1)? == [1, 0, 0, 1, 0]);
+    holds(&rt, run(alloc, &mut disk, 1)? == [0, 1, 0, 0, 0]);
+    holds(&rt, run(alloc, &mut disk, 2)? == [1, 0, 0, 1, 0]);
     Ok(())
 }
 
@@ -96,8 +97,8 @@ fn a_crash_whose_report_wants_memory_stays_due(rt: HostRuntime) -> Result<(), Fa
     let mut disk = disk(alloc, &[])?;
     put(alloc, &mut disk, Which::Firefox)?;
     let (answers, due) = turned_without_memory(alloc, &mut disk)?;
-    assert_eq!(rt; answers, [("no memory", 0), ("no memory", 0)]);
-    assert_eq!(rt; due, 1);
-    assert!(rt; run(alloc, &mut disk, 1)? == [1, 0, 0, 1, 0]);
+    same(&rt, answers, [("no memory", 0), ("no memory", 0)]);
+    same(&rt, due, 1);
+    holds(&rt, run(alloc, &mut disk, 1)? == [1, 0, 0, 1, 0]);
     Ok(())
 }

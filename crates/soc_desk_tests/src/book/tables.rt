@@ -2,6 +2,7 @@
 use super::acts::{Act, Answer, Which, Who, told};
 use super::calls::{asked, called};
 use super::{LIMITS, disk};
+use crate::expect::holds;
 use soc_book::Book;
 use soc_desk::Limits;
 use soc_edge::MemDisk;
@@ -171,37 +172,46 @@ const TURNS: [(Act, Answer); 14] = [
 
 #[test]
 fn submissions(rt: HostRuntime) -> Result<(), Fail> {
-    assert!(rt; is_so(rt.alloc(), LIMITS, &SUBMISSIONS, [2, 2, 1, 0, 0, 0])?);
+    holds(
+        &rt,
+        is_so(rt.alloc(), LIMITS, &SUBMISSIONS, [2, 2, 1, 0, 0, 0])?,
+    );
     Ok(())
 }
 
 #[test]
 fn asks(rt: HostRuntime) -> Result<(), Fail> {
-    assert!(rt; is_so(rt.alloc(), LIMITS, &ASKS, [4, 1, 1, 0, 1, 2])?);
+    holds(&rt, is_so(rt.alloc(), LIMITS, &ASKS, [4, 1, 1, 0, 1, 2])?);
     Ok(())
 }
 
 #[test]
 fn withdrawals(rt: HostRuntime) -> Result<(), Fail> {
-    assert!(rt; is_so(rt.alloc(), LIMITS, &WITHDRAWALS, [3, 0, 0, 1, 0, 0])?);
+    holds(
+        &rt,
+        is_so(rt.alloc(), LIMITS, &WITHDRAWALS, [3, 0, 0, 1, 0, 0])?,
+    );
     Ok(())
 }
 
 #[test]
 fn reads(rt: HostRuntime) -> Result<(), Fail> {
-    assert!(rt; is_so(rt.alloc(), LIMITS, &READS, [2, 1, 0, 0, 1, 0])?);
+    holds(&rt, is_so(rt.alloc(), LIMITS, &READS, [2, 1, 0, 0, 1, 0])?);
     Ok(())
 }
 
 #[test]
 fn searches(rt: HostRuntime) -> Result<(), Fail> {
-    assert!(rt; is_so(rt.alloc(), LIMITS, &SEARCHES, [2, 1, 0, 0, 1, 0])?);
+    holds(
+        &rt,
+        is_so(rt.alloc(), LIMITS, &SEARCHES, [2, 1, 0, 0, 1, 0])?,
+    );
     Ok(())
 }
 
 #[test]
 fn turns(rt: HostRuntime) -> Result<(), Fail> {
-    assert!(rt; is_so(rt.alloc(), LIMITS, &TURNS, [4, 1, 0, 0, 1, 1])?);
+    holds(&rt, is_so(rt.alloc(), LIMITS, &TURNS, [4, 1, 0, 0, 1, 1])?);
     Ok(())
 }
 
@@ -212,6 +222,6 @@ fn a_full_journal(rt: HostRuntime) -> Result<(), Fail> {
         crashes: 2,
     };
     let acts = [(Act::Submit(Which::Firefox), ("journal full", 0))];
-    assert!(rt; is_so(rt.alloc(), limits, &acts, [0, 0, 0, 0, 0, 0])?);
+    holds(&rt, is_so(rt.alloc(), limits, &acts, [0, 0, 0, 0, 0, 0])?);
     Ok(())
 }

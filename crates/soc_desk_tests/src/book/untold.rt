@@ -6,6 +6,7 @@ ghost use Rattle.soc_edge.specs.Untold.{untold_disk, IsDisk-untold};
 
 use super::acts::{Answer, told, with};
 use super::{FIREFOX, LIMITS, crash, disk};
+use crate::expect::same;
 use soc_book::Book;
 use soc_edge::{Disk, Failed, MemDisk};
 use soc_schema::{Bare, Permission};
@@ -67,14 +68,15 @@ impl Disk for Zeroed {
 
 /// The answers to a raw read, a turn, a drain and a second submission of a crash whose record was lost.
 fn answers(alloc: Global, zeroed: &mut Zeroed) -> Result<([Answer; 5], u32, u64), Fail> {
-    let mut book = Book::open(alloc, zeroed, &Bare, LIMITS)?;
     let raw = crash(alloc, FIREFOX)?;
+    let again = crash(alloc, FIREFOX)?;
+    let mut book = Book::open(alloc, zeroed, &Bare, LIMITS)?;
     let id = raw.id;
     let stored = book.submit(raw);
     let shown = book.raw(&with(Permission::Public), id);
     let turned = book.turn();
     let drained = book.drain();
-    let repeated = book.submit(crash(alloc, FIREFOX)?);
+    let repeated = book.submit(again);
     let answers = [
         told(&stored),
         told(&shown),
@@ -96,17 +98,18 @@ fn an_altered_crash_is_told_from_others(rt: HostRuntime) -> Result<(), Fail> {
         faults: 0,
     };
     let (answers, due, front) = answers(alloc, &mut zeroed)?;
-    assert_eq!(rt;
+    same(
+        &rt,
         answers,
         [
             ("stored", 1),
             ("altered", 0),
             ("altered", 0),
             ("altered", 0),
-            ("other content", 0)
-        ]
+            ("other content", 0),
+        ],
     );
-    assert_eq!(rt; due, 1);
-    assert_eq!(rt; front, 1);
+    same(&rt, due, 1);
+    same(&rt, front, 1);
     Ok(())
 }

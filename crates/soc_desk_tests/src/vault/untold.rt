@@ -5,8 +5,12 @@ ghost use Rattle.soc_edge.specs.Faults.{Rose};
 ghost use Rattle.soc_edge.specs.Untold.{untold_disk, IsDisk-untold};
 
 use super::{asking, bodies_on, disk_that_fails, kept, opened};
+use crate::expect::{holds, same};
 use soc_edge::{Disk, Failed, MemDisk};
 use soc_journal::{OpenError, ReadError, Settled};
+use soc_vault::Vault;
+use std::alloc::Global;
+use std::process::Abort;
 use std::test::Fail;
 
 // A disk that tells nothing. From its call of this number on, counted from 0, each read gives zeros.
@@ -62,6 +66,21 @@ impl Disk for Zeroed {
     }
 }
 
+// Expects that an entry is kept, and is then altered.
+fn expect_altered(
+    rt: &impl Abort,
+    alloc: Global,
+    vault: &mut Vault<'_, Zeroed>,
+) -> Result<(), Fail> {
+    let entry = asking(alloc, b"first")?;
+    same(rt, kept(vault, &entry), Some(8));
+    holds(rt, matches!(vault.read(alloc, 8), Err(ReadError::Altered)));
+    same(rt, vault.holds(8, b"first"), Err(Failed));
+    holds(rt, !vault.is_in_doubt());
+    same(rt, vault.settle(), Ok(Settled::Clean));
+    Ok(())
+}
+
 #[test]
 fn a_disk_that_gives_zeros_is_altered(rt: HostRuntime) -> Result<(), Fail> {
     let alloc = rt.alloc();
@@ -74,13 +93,8 @@ fn a_disk_that_gives_zeros_is_altered(rt: HostRuntime) -> Result<(), Fail> {
     };
     // The opening makes the calls 0 to 3 and 4 for the closed gate. The keep's first sync, its call 6, succeeds.
     let mut vault = opened(alloc, &mut zeroed, 1000)?;
-    let place = kept(&mut vault, &asking(alloc, b"first")?).ok_or("not kept")?;
-    assert_eq!(rt; place, 8);
-    assert!(rt; matches!(vault.read(alloc, place), Err(ReadError::Altered)));
-    assert_eq!(rt; vault.holds(place, b"first"), Err(Failed));
-    assert!(rt; !vault.is_in_doubt());
-    assert_eq!(rt; vault.settle(), Ok(Settled::Clean));
+    expect_altered(&rt, alloc, &mut vault)?;
     let disk = vault.into_disk();
-    assert_eq!(rt; bodies_on(alloc, disk).err(), Some(OpenError::NotOurs));
+    same(&rt, bodies_on(alloc, disk).err(), Some(OpenError::NotOurs));
     Ok(())
 }

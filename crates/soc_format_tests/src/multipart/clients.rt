@@ -1,6 +1,7 @@
 //! Bodies as curl, Python's requests, Breakpad and Crashpad sent them, their dumps cut short, and dumps that hold what
 //! is almost a delimiter.
-use soc_multipart::read_whole;
+use crate::expect::{holds, same};
+use soc_multipart::{Part, read_whole};
 use std::alloc::{AllocError, Global};
 use std::process::Abort;
 use std::test::Fail;
@@ -25,6 +26,17 @@ pub const BREAKPAD: &[u8] =
 pub const CRASHPAD: &[u8] =
     b"-----MultipartBoundary-iMh4SJnj2ggwco2ItftpfZtV88bMls0N---\r\nContent-Disposition: form-data; name=\"lsb-release\"\r\n\r\nDebian GNU/Linux 12 (bookworm)\r\n-----MultipartBoundary-iMh4SJnj2ggwco2ItftpfZtV88bMls0N---\r\nContent-Disposition: form-data; name=\"upload_file_minidump\"; filename=\"38a06dc2-8a09-4c84-9395-32f5684a6610.dmp\"\r\nContent-Type: application/octet-stream\r\n\r\nMDMP\x93\xa7\0\0\r\n-----MultipartBoundary-iMh4SJnj2ggwco2ItftpfZtV88bMls0N-----\r\n";
 
+fn expect_said(rt: &impl Abort, part: &Part<'_>, said: Said) {
+    let (name, file, kind, content) = said;
+    same(rt, part.name.as_str(), name);
+    match &part.file {
+        Some(text) => same(rt, Some(text.as_str()), file),
+        None => holds(rt, file.is_none()),
+    }
+    same(rt, part.kind.as_str(), kind);
+    holds(rt, part.content == content);
+}
+
 fn expect(
     rt: &(impl Abort + AllocGlobal),
     boundary: &[u8],
@@ -33,14 +45,8 @@ fn expect(
 ) -> Result<(), Fail> {
     let parts = read_whole(rt.alloc(), boundary, body)?;
     assert_eq!(rt; parts.len(), 2);
-    for (part, (name, file, kind, content)) in parts.iter().zip(said) {
-        assert_eq!(rt; part.name.as_str(), name);
-        match &part.file {
-            Some(text) => assert_eq!(rt; Some(text.as_str()), file),
-            None => assert!(rt; file.is_none()),
-        }
-        assert_eq!(rt; part.kind.as_str(), kind);
-        assert!(rt; part.content == content);
+    for (part, said) in parts.iter().zip(said) {
+        expect_said(rt, part, said);
     }
     Ok(())
 }
@@ -132,21 +138,32 @@ pub fn dump_with(alloc: Global, almost: &[u8], offset: usize) -> Result<Vec<u8>,
     Ok(dump)
 }
 
+/// A body whose one part is this dump.
+fn body_of(alloc: Global, dump: &[u8]) -> Result<Vec<u8>, AllocError> {
+    let mut body = Vec::from_slice(
+        alloc,
+        b"--b\r\nContent-Disposition: form-data; name=a; filename=b\r\n\r\n",
+    )?;
+    body.extend_from_slice(dump)?;
+    body.extend_from_slice(b"\r\n--b--\r\n")?;
+    Ok(body)
+}
+
+/// Expects that a dump with what is almost a delimiter is the one part of its body.
+fn expect_dump(rt: &impl Abort, alloc: Global, almost: &[u8], offset: usize) -> Result<(), Fail> {
+    let dump = dump_with(alloc, almost, offset)?;
+    let body = body_of(alloc, dump.as_slice())?;
+    let parts = read_whole(alloc, b"b", body.as_slice())?;
+    assert_eq!(rt; parts.len(), 1);
+    assert!(rt; parts[0].content == dump.as_slice(), "at {offset}");
+    Ok(())
+}
+
 #[test]
 fn near_delimiters_at_each_place(rt: HostRuntime) -> Result<(), Fail> {
-    let alloc = rt.alloc();
     for almost in &ALMOST {
         for offset in 0..=64 {
-            let dump = dump_with(alloc, almost, offset)?;
-            let mut body = Vec::from_slice(
-                alloc,
-                b"--b\r\nContent-Disposition: form-data; name=a; filename=b\r\n\r\n",
-            )?;
-            body.extend_from_slice(dump.as_slice())?;
-            body.extend_from_slice(b"\r\n--b--\r\n")?;
-            let parts = read_whole(alloc, b"b", body.as_slice())?;
-            assert_eq!(rt; parts.len(), 1);
-            assert!(rt; parts[0].content == dump.as_slice(), "at {offset}");
+            expect_dump(&rt, rt.alloc(), almost, offset)?;
         }
     }
     Ok(())

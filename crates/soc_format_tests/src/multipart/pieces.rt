@@ -1,6 +1,7 @@
 //! Bodies in pieces: what a reader answers at each cut, and in pieces of several sizes.
 use super::clients::{ALMOST, BREAKPAD, CRASHPAD, CURL, REQUESTS, dump_with};
-use soc_multipart::{OwnedParts, Parts, PartsError, Reader, read_whole};
+use crate::expect::{holds, same};
+use soc_multipart::{OwnedPart, OwnedParts, Part, Parts, PartsError, Reader, read_whole};
 use soc_text::{after, before};
 use std::alloc::{AllocError, Global};
 use std::process::Abort;
@@ -36,22 +37,26 @@ fn read_cut(
     reader.finish()
 }
 
+fn expect_same_part(rt: &impl Abort, piece: &OwnedPart, part: &Part<'_>) {
+    same(rt, piece.name.as_str(), part.name.as_str());
+    holds(rt, piece.file.is_some() == part.file.is_some());
+    same(rt, piece.kind.as_str(), part.kind.as_str());
+    holds(rt, piece.content.as_slice() == part.content);
+}
+
 fn expect_same(
     rt: &impl Abort,
-    pieces: Result<OwnedParts, PartsError>,
+    pieces: &Result<OwnedParts, PartsError>,
     whole: &Result<Parts<'_>, PartsError>,
 ) {
     match (pieces, whole) {
         (Ok(pieces), Ok(whole)) => {
             assert_eq!(rt; pieces.len(), whole.len());
             for (piece, part) in pieces.iter().zip(whole) {
-                assert_eq!(rt; piece.name.as_str(), part.name.as_str());
-                assert!(rt; piece.file.is_some() == part.file.is_some());
-                assert_eq!(rt; piece.kind.as_str(), part.kind.as_str());
-                assert!(rt; piece.content.as_slice() == part.content);
+                expect_same_part(rt, piece, part);
             }
         }
-        (Err(error), Err(wanted)) => assert!(rt; error == *wanted),
+        (Err(error), Err(wanted)) => holds(rt, error == wanted),
         _ => assert!(rt; false, "pieces and the whole differ"),
     }
 }
@@ -61,7 +66,7 @@ fn expect_all(rt: &(impl Abort + AllocGlobal), boundary: &[u8], body: &[u8]) {
     let alloc = rt.alloc();
     let whole = read_whole(alloc, boundary, body);
     for at in 0..=body.len() {
-        expect_same(rt, read_cut(alloc, boundary, body, at), &whole);
+        expect_same(rt, &read_cut(alloc, boundary, body, at), &whole);
     }
     expect_sizes(rt, boundary, body);
 }
@@ -70,7 +75,7 @@ fn expect_sizes(rt: &(impl Abort + AllocGlobal), boundary: &[u8], body: &[u8]) {
     let alloc = rt.alloc();
     let whole = read_whole(alloc, boundary, body);
     for size in [1, 2, 3, 5, 7, 1000] {
-        expect_same(rt, read_pieces(alloc, boundary, body, size), &whole);
+        expect_same(rt, &read_pieces(alloc, boundary, body, size), &whole);
     }
 }
 
@@ -173,20 +178,27 @@ fn body_with_head(alloc: Global, bytes: usize, rest: &[u8]) -> Result<Vec<u8>, A
     Ok(body)
 }
 
+fn expect_many(rt: &(impl Abort + AllocGlobal), count: usize) -> Result<(), Fail> {
+    let body = body_of_many(rt.alloc(), count)?;
+    expect_sizes(rt, b"b", body.as_slice());
+    Ok(())
+}
+
+fn expect_head(rt: &(impl Abort + AllocGlobal), bytes: usize, rest: &[u8]) -> Result<(), Fail> {
+    let body = body_with_head(rt.alloc(), bytes, rest)?;
+    expect_sizes(rt, b"b", body.as_slice());
+    Ok(())
+}
+
 #[test]
 fn limits(rt: HostRuntime) -> Result<(), Fail> {
-    let most = body_of_many(rt.alloc(), 512)?;
-    expect_sizes(&rt, b"b", most.as_slice());
-    let more = body_of_many(rt.alloc(), 513)?;
-    expect_sizes(&rt, b"b", more.as_slice());
+    expect_many(&rt, 512)?;
+    expect_many(&rt, 513)?;
     // With its line ends, a line of 977 bytes makes a head of 1,024.
     for bytes in 974..981 {
-        let content = body_with_head(rt.alloc(), bytes, b"\r\n\r\nx\r\n--b--")?;
-        expect_sizes(&rt, b"b", content.as_slice());
-        let none = body_with_head(rt.alloc(), bytes, b"\r\n\r\n--b--")?;
-        expect_sizes(&rt, b"b", none.as_slice());
-        let cut = body_with_head(rt.alloc(), bytes, b"")?;
-        expect_sizes(&rt, b"b", cut.as_slice());
+        expect_head(&rt, bytes, b"\r\n\r\nx\r\n--b--")?;
+        expect_head(&rt, bytes, b"\r\n\r\n--b--")?;
+        expect_head(&rt, bytes, b"")?;
     }
     Ok(())
 }
@@ -199,13 +211,16 @@ fn fed(alloc: Global, body: &[u8]) -> Result<(), PartsError> {
 #[test]
 fn refusals_come_early(rt: HostRuntime) -> Result<(), Fail> {
     let bad = Err(PartsError::BadPartHead { part: 0 });
-    assert!(rt; fed(rt.alloc(), b"--b\r\nX: y\r\n\r\n") == bad);
+    holds(&rt, fed(rt.alloc(), b"--b\r\nX: y\r\n\r\n") == bad);
     let line = body_with_head(rt.alloc(), 1100, b"")?;
-    assert!(rt; fed(rt.alloc(), line.as_slice()) == bad);
+    holds(&rt, fed(rt.alloc(), line.as_slice()) == bad);
     let many = body_of_many(rt.alloc(), 513)?;
-    assert!(rt; fed(rt.alloc(), many.as_slice()) == Err(PartsError::TooManyParts));
-    assert!(rt; fed(rt.alloc(), b"--b\r\nX: y\r\n").is_ok());
-    assert!(rt; fed(rt.alloc(), b"no delimiter").is_ok());
+    holds(
+        &rt,
+        fed(rt.alloc(), many.as_slice()) == Err(PartsError::TooManyParts),
+    );
+    holds(&rt, fed(rt.alloc(), b"--b\r\nX: y\r\n").is_ok());
+    holds(&rt, fed(rt.alloc(), b"no delimiter").is_ok());
     Ok(())
 }
 
@@ -213,10 +228,13 @@ fn refusals_come_early(rt: HostRuntime) -> Result<(), Fail> {
 fn a_refusal_stays(rt: HostRuntime) -> Result<(), Fail> {
     let bad = Err(PartsError::BadPartHead { part: 0 });
     let mut reader = Reader::new(rt.alloc(), b"b")?;
-    assert!(rt; reader.feed(b"--b\r\nX: y\r\n\r\n") == bad);
-    assert!(rt; reader.feed(b"x\r\n--b--") == bad);
-    assert!(rt; reader.finish().err() == Some(PartsError::BadPartHead { part: 0 }));
+    holds(&rt, reader.feed(b"--b\r\nX: y\r\n\r\n") == bad);
+    holds(&rt, reader.feed(b"x\r\n--b--") == bad);
+    holds(
+        &rt,
+        reader.finish().err() == Some(PartsError::BadPartHead { part: 0 }),
+    );
     let refused = Reader::new(rt.alloc(), b"b ").err();
-    assert!(rt; refused == Some(PartsError::BadBoundary));
+    holds(&rt, refused == Some(PartsError::BadBoundary));
     Ok(())
 }

@@ -1,5 +1,6 @@
 //! Threads that run beside each other, told by gates. A gate looks a thousand million times at most, and then goes on.
 use super::*;
+use crate::expect::{holds, same};
 use soc_service::Point;
 use std::sync::atomic::{AtomicBool, AtomicUsize, Ordering};
 
@@ -50,6 +51,12 @@ impl Gate for HoldingGate {
     }
 }
 
+// Expects that each first thread was met by a second.
+fn expect_met(rt: &impl Abort, gate: &HoldingGate) {
+    holds(rt, !gate.asked.missed.load(Ordering::SeqCst));
+    holds(rt, !gate.taken.missed.load(Ordering::SeqCst));
+}
+
 #[test]
 fn two_collectors_and_two_processors_run_beside_each_other(rt: HostRuntime) -> Result<(), Fail> {
     let gate = HoldingGate {
@@ -66,10 +73,9 @@ fn two_collectors_and_two_processors_run_beside_each_other(rt: HostRuntime) -> R
         "2",
     ];
     let unasked = listener(rt.alloc(), &[], &[])?;
-    let ran = run_by(&rt, rt.alloc(), &words, unasked, &gate)?;
-    assert_eq!(rt; ran.status, 0);
-    assert!(rt; !gate.asked.missed.load(Ordering::SeqCst));
-    assert!(rt; !gate.taken.missed.load(Ordering::SeqCst));
+    let status = run_by(&rt, rt.alloc(), &words, unasked, &gate)?.status;
+    same(&rt, status, 0);
+    expect_met(&rt, &gate);
     Ok(())
 }
 
@@ -120,14 +126,18 @@ const REPORT: &[u8] =
 const ROW: &[u8] =
     b"{\"date\":\"2016-09-18T00:00:00Z\",\"product\":\"Firefox\",\"signature\":\"EMPTY: no crashing thread identified\",\"success\":false,\"throttle_rule\":\"accept_all\",\"uuid\":\"de1bb258-cbbf-4589-a673-34f800160918\"}";
 
+// Expects a report on the second connection.
+fn expect_report(rt: &impl Abort, ran: &Ran) {
+    expect_end(rt, ran, 0, b"crashes 1\nreports 1\n");
+    holds(rt, ends_with(&ran.listener, 1, ROW));
+}
+
 #[test]
 fn a_report_is_made_before_the_last_sweep(rt: HostRuntime) -> Result<(), Fail> {
     let gate = LateGate::new();
     let three = listener(rt.alloc(), &[SUBMISSION, REPORT, STOP], &[])?;
     let ran = run_by(&rt, rt.alloc(), ONE, three, &gate)?;
-    assert_eq!(rt; ran.status, 0);
-    assert_eq!(rt; ran.output.bytes(), b"crashes 1\nreports 1\n".as_slice());
-    assert!(rt; ends_with(&ran.listener, 1, ROW));
-    assert!(rt; !gate.missed.load(Ordering::SeqCst));
+    expect_report(&rt, &ran);
+    holds(&rt, !gate.missed.load(Ordering::SeqCst));
     Ok(())
 }

@@ -1,5 +1,6 @@
 //! Storms, of which nothing that is handed in is touched but the output.
 use super::*;
+use crate::expect::holds;
 
 // What a storm of 2,000 crashes tells.
 const STORM: &[u8] =
@@ -12,8 +13,7 @@ fn tells<R: Threads + Wait + Sync>(
     words: &[&str],
     text: &[u8],
 ) -> Result<bool, NoMemory> {
-    let unasked = listener(alloc, &[SUBMISSION], &[])?;
-    let ran = run(rt, alloc, words, unasked)?;
+    let ran = run(rt, alloc, words, &[SUBMISSION], &[])?;
     Ok(
         ran.status == 0
             && ran.output.bytes() == text
@@ -42,29 +42,29 @@ fn tells_all<R: Threads + Wait + Sync>(
 
 #[test]
 fn a_storm_by_one_processor(rt: HostRuntime) -> Result<(), Fail> {
-    assert!(rt; tells_all(&rt, rt.alloc(), "1")?);
+    holds(&rt, tells_all(&rt, rt.alloc(), "1")?);
     Ok(())
 }
 
 #[test]
 fn a_storm_by_two_processors(rt: HostRuntime) -> Result<(), Fail> {
-    assert!(rt; tells_all(&rt, rt.alloc(), "2")?);
+    holds(&rt, tells_all(&rt, rt.alloc(), "2")?);
     Ok(())
 }
 
 #[test]
 fn a_storm_by_four_processors(rt: HostRuntime) -> Result<(), Fail> {
-    assert!(rt; tells_all(&rt, rt.alloc(), "4")?);
+    holds(&rt, tells_all(&rt, rt.alloc(), "4")?);
     Ok(())
 }
 
 #[test]
 fn a_storm_of_one_or_few(rt: HostRuntime) -> Result<(), Fail> {
     let one = b"crashes 1\nreports 1\nmade1.dll 1\n";
-    assert!(rt; tells(&rt, rt.alloc(), &["storm"], one)?);
+    holds(&rt, tells(&rt, rt.alloc(), &["storm"], one)?);
     let words = ["storm", "--seed", "3", "--count", "7", "--collectors", "8"];
     let few =
         b"crashes 7\nreports 7\nmade0.dll 1\nmade1.dll 1\nmade2.dll 1\nmade3.dll 2\nmade4.dll 2\n";
-    assert!(rt; tells(&rt, rt.alloc(), &words, few)?);
+    holds(&rt, tells(&rt, rt.alloc(), &words, few)?);
     Ok(())
 }

@@ -1,4 +1,5 @@
 //! Worked rows of the tokens.
+use crate::expect::{same, same_at};
 use soc_serve::{TokensError, read_tokens};
 use std::test::Fail;
 
@@ -18,15 +19,17 @@ fn reads_tokens(rt: HostRuntime) -> Result<(), Fail> {
         ("token", Some(TokensError::NotToml)),
     ];
     for (text, expected) in &files {
-        assert_eq!(rt;
+        same_at(
+            &rt,
+            text,
             read_tokens(alloc, text.as_bytes()).err(),
             *expected,
-            "at {text}"
         );
     }
-    assert_eq!(rt;
+    same(
+        &rt,
         read_tokens(alloc, b"# \xff").err(),
-        Some(TokensError::NotToml)
+        Some(TokensError::NotToml),
     );
     Ok(())
 }
