@@ -1,7 +1,7 @@
 #!/usr/bin/env python3
 """Prints how much memory `socorro replay` holds at its peak: for nothing, for a submission of 16 MiB whose bulk is one dump,
 for one whose bulk is a JSON part of short keys, and for a body of 16 MiB that no route takes.
-usage: bench/peak.py     (the program must be built: `rt ci socorro`)"""
+usage: bench/peak.py     (the program must be built: `cd crates/socorro && rt run`)"""
 import os
 import re
 import subprocess
@@ -56,7 +56,7 @@ def peak(body):
 
 def main():
     if not os.access(PROGRAM, os.X_OK):
-        sys.exit("build %s first: rt ci socorro" % PROGRAM)
+        sys.exit("build %s first: cd crates/socorro && rt run" % PROGRAM)
     least, _ = peak(b"")
     print("nothing: %d KB" % least)
     for name, body in [

@@ -112,6 +112,3 @@ fn found_on(disk: &mut MemDisk, limit: u64, most: u64) -> Result<u64, Fault>
     }
     Err(Fault::TooManyEntries)
 }
-
-#[cfg(test)]
-mod tests;

@@ -123,6 +123,3 @@ fn cut_often(alloc: Global, boundary: &[u8], body: &[u8]) -> Result<Counts, Part
     }
     Ok(counts)
 }
-
-#[cfg(test)]
-mod tests;
