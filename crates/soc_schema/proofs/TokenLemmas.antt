@@ -1,7 +1,7 @@
 -- What holds of the words and the tokens of a token file, along their lists.
-use Rattle.std.proofs.Common.{◌≡◌, ℕ, ◌+◌, ◌<◌, ◌≤◌, List, [], ◌∷◌, ◌++◌, length, get_or, drop, drop-cons, add-one, cond, false, bytes_eq, None, Some, Result, Err, option_and_then, refl, sym, ap, ◌∙◌, arith, length-append, ⊎_elim}
-use Rattle.std.specs.List.{find}
-use Rattle.std.specs.Option.{option_map_or}
+use Rattle.std.proofs.Common.{◌≡◌, ℕ, ◌+◌, ◌<◌, ◌≤◌, List, [], ◌∷◌, ◌++◌, length, get_or, drop, drop-cons, add-one, cond, Bool, Bor, Option, true, false, ◌||◌, is_some, bytes_eq, None, Some, Result, Err, option_and_then, refl, sym, ap, ◌∙◌, arith, length-append, ⊎_elim}
+use Rattle.std.specs.List.{find, list_any}
+use Rattle.std.specs.Option.{option_copied, option_map_or}
 use Rattle.std.proofs.lemmas.Bool.{le-ltb, cases_lt}
 use Rattle.toml.specs.Data.{Data}
 use Rattle.toml.specs.View.{view, items_view}
@@ -49,3 +49,12 @@ tokens_from-taken values i value all before tokens more t so_far within read sam
     let step = so_far ∙ (tokens_from-next values i value tokens within read ∙ (ap (λ o. option_map_or (λ t. tokens_from (tokens ++ t ∷ []) (items_view (drop (i + 1) values))) o (Err (length tokens))) (sym next') ∙ ap (λ l. tokens_from l (items_view (drop (i + 1) values))) (sym pushed))) in
     let few : length tokens < 256 = next_token-few tokens (view value) t next' in
     (step, omega (arith, ap length pushed, length-append tokens (t ∷ [])))
+
+-- a test finds an element where the list has one
+pub is_some-find : {X : Type 0} (p : X → Bool) (xs : List X) → is_some (find p xs) ≡ list_any p xs
+is_some-find p [] = refl
+is_some-find p (x ∷ xs) = elim (p x) as (λ b. is_some (cond b (Some x) (find p xs)) ≡ (b || list_any p xs)) [ true ↦ refl | false ↦ is_some-find p xs ]
+
+pub is_some-copied : {X : Type 0} (o : Option (Bor X)) → is_some o ≡ is_some (option_copied o)
+is_some-copied None = refl
+is_some-copied (Some x) = refl

@@ -27,8 +27,8 @@ const GIVEN_PERMISSIONS: [Permission; 4] = [
     Permission::Operate,
 ];
 
-/// What a token gives to who brings its key.
-#[derive(Debug, Drop)]
+/// What a token gives to who brings its key. It has no `Debug`, so that no key is printed by accident.
+#[derive(Drop)]
 pub struct Token {
     /// 1 to 64 visible ASCII characters.
     pub key: Text,
@@ -64,7 +64,7 @@ impl From<NoMemory> for TokenError {
 }
 
 /// Tokens in the order of their document, each with a key of its own.
-#[derive(Debug, Drop)]
+#[derive(Drop)]
 pub struct Tokens {
     tokens: Vec<Token>,
 }
@@ -106,7 +106,7 @@ impl Tokens {
         ensures { result ≡ is_known self.now (option_copied key.entry) }
     {
         match key {
-            Some(key) => has_key(self.tokens.as_slice(), key),
+            Some(key) => self.has_key(key),
             None => true,
         }
     }
@@ -148,6 +148,19 @@ impl Tokens {
         }
         None
     }
+
+    fn has_key(&self, key: &str) -> bool
+        ensures { result ≡ has_key key.now self.now }
+    {
+        self.with_key(key).is_some()
+    }
+
+    fn push(&mut self, token: Token) -> Result<(), NoMemory>
+        ensures { OnOk result (self.new ≡ self.old ++ token ∷ []) }
+    {
+        self.tokens.push(token)?;
+        Ok(())
+    }
 }
 
 fn caller_with(permissions: Permissions, products: &Products) -> Result<Option<Caller>, NoMemory>
@@ -163,30 +176,23 @@ fn read_array(alloc: Global, array: &Array) -> Result<Tokens, TokenError>
     ensures ok { IfOk result (λ tokens. tokens_from [] (array_view array.now) ≡ Ok tokens) }
     ensures bad { IfErr result (IsRefusal (tokens_from [] (array_view array.now))) }
 {
-    let mut tokens = Vec::new(alloc);
+    let mut tokens = Tokens::none(alloc);
     for value in array {
         match read_next(alloc, &tokens, value)? {
-            Some(token) => push(&mut tokens, token)?,
+            Some(token) => tokens.push(token)?,
             None => {
-                let index = tokens.len() as u32;
+                let index = tokens.tokens.len() as u32;
                 return Err(TokenError::BadToken { index });
             }
         }
     }
-    Ok(Tokens { tokens })
+    Ok(tokens)
 }
 
-fn push(tokens: &mut Vec<Token>, token: Token) -> Result<(), NoMemory>
-    ensures { OnOk result (tokens.new.items ≡ tokens.old.items ++ token ∷ []) }
-{
-    tokens.push(token)?;
-    Ok(())
-}
-
-fn read_next(alloc: Global, earlier: &[Token], value: &Value) -> Result<Option<Token>, NoMemory>
+fn read_next(alloc: Global, earlier: &Tokens, value: &Value) -> Result<Option<Token>, NoMemory>
     ensures { IfOk result (λ token. token ≡ next_token earlier.now (view value.now)) }
 {
-    if earlier.len() >= MOST_TOKENS {
+    if earlier.tokens.len() >= MOST_TOKENS {
         return Ok(None);
     }
     let Some(table) = value.as_table() else {
@@ -195,21 +201,10 @@ fn read_next(alloc: Global, earlier: &[Token], value: &Value) -> Result<Option<T
     let Some(token) = read_token(alloc, table)? else {
         return Ok(None);
     };
-    if has_key(earlier, token.key.as_str()) {
+    if earlier.has_key(token.key.as_str()) {
         return Ok(None);
     }
     Ok(Some(token))
-}
-
-fn has_key(tokens: &[Token], key: &str) -> bool
-    ensures { result ≡ has_key key.now tokens.now }
-{
-    for token in tokens {
-        if token.key.as_str() == key {
-            return true;
-        }
-    }
-    false
 }
 
 fn read_token(alloc: Global, table: &Table) -> Result<Option<Token>, NoMemory>
@@ -221,10 +216,10 @@ fn read_token(alloc: Global, table: &Table) -> Result<Option<Token>, NoMemory>
     let Some(key) = soc_toml::visible_at(table, "key", 64) else {
         return Ok(None);
     };
-    let Some(products) = products_at(alloc, table)? else {
+    let Some(permissions) = permissions_at(alloc, table)? else {
         return Ok(None);
     };
-    let Some(permissions) = permissions_at(alloc, table)? else {
+    let Some(products) = products_at(alloc, table)? else {
         return Ok(None);
     };
     Ok(Some(Token {
