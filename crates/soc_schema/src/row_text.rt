@@ -83,8 +83,8 @@ fn push_cell(bytes: &mut Vec<u8>, cell: &Cell) -> Result<(), NoMemory>
     bytes.push(cell.field.place())?;
     match &cell.value {
         Value::Text(text) => push_text(bytes, text.as_str()),
-        Value::Number(number) => push_number(bytes, *number),
-        Value::Flag(flag) => push_flag(bytes, *flag),
+        Value::Number(number) => push_tagged(bytes, NUMBER, &number.to_le_bytes()),
+        Value::Flag(flag) => push_tagged(bytes, FLAG, &[u8::from(*flag)]),
     }
 }
 
@@ -103,25 +103,17 @@ fn push_text(bytes: &mut Vec<u8>, text: &str) -> Result<(), NoMemory>
     requires { length text.now < 2 ^ 32 }
     ensures { OnOk result (bytes.new.items ≡ bytes.old.items ++ TEXT ∷ counted text.now) }
 {
-    bytes.push(TEXT)?;
-    bytes.extend_from_slice(&(text.len() as u32).to_le_bytes())?;
+    push_tagged(bytes, TEXT, &(text.len() as u32).to_le_bytes())?;
     bytes.extend_from_slice(text.as_bytes())?;
     Ok(())
 }
 
-fn push_number(bytes: &mut Vec<u8>, number: u64) -> Result<(), NoMemory>
-    ensures { OnOk result (bytes.new.items ≡ bytes.old.items ++ NUMBER ∷ to_le_bytes w64 number) }
+/// Adds a tag and what follows it.
+fn push_tagged(bytes: &mut Vec<u8>, tag: u8, value: &[u8]) -> Result<(), NoMemory>
+    ensures { OnOk result (bytes.new.items ≡ bytes.old.items ++ tag ∷ value.now) }
 {
-    bytes.push(NUMBER)?;
-    bytes.extend_from_slice(&number.to_le_bytes())?;
-    Ok(())
-}
-
-fn push_flag(bytes: &mut Vec<u8>, flag: bool) -> Result<(), NoMemory>
-    ensures { OnOk result (bytes.new.items ≡ bytes.old.items ++ FLAG ∷ (if flag then 1 else 0) ∷ []) }
-{
-    bytes.push(FLAG)?;
-    bytes.push(u8::from(flag))?;
+    bytes.push(tag)?;
+    bytes.extend_from_slice(value)?;
     Ok(())
 }
 
