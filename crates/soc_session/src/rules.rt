@@ -3,7 +3,7 @@ use soc_schema::{Products, Tokens};
 use soc_throttle::RuleSet;
 
 /// What a session goes by.
-#[derive(Debug, Drop)]
+#[derive(Drop)]
 pub struct Rules {
     /// Which crashes are kept.
     pub rules: RuleSet,
