@@ -11,7 +11,7 @@ use crate::fault::Fault;
 use soc_edge::{
     Both, Disk, Ids16, MemClock, MemDisk, MemDraws, MemSink, MemSource, MemTree, Numbers,
 };
-use soc_raw::Bytes;
+use soc_raw::{Bytes, FIRST_MOMENT, LAST_MOMENT};
 use soc_siglists::FailingMaker;
 use soc_tests::run_in_memory;
 use soc_toml::{text_at, value_at};
@@ -20,11 +20,6 @@ use toml::Table;
 
 /// The first second of 18 September 2016.
 const MOMENT: u64 = 1_474_156_800;
-
-/// The moments of the years 2000 to 2099.
-const FIRST_MOMENT: u64 = 946_684_800;
-
-const LAST_MOMENT: u64 = 4_102_444_799;
 
 /// The most bytes that a run may write on its output.
 const OUTPUT: usize = 65_536;

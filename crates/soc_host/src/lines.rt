@@ -1,11 +1,11 @@
 //! The lines that the service ends with.
-ghost use Rattle.std.specs.Prelude.{◌≡◌, ◌++◌, IfOk, IsErrOf};
+ghost use Rattle.std.specs.Prelude.{◌≡◌, IfOk, IsErrOf};
 ghost use Rattle.soc_edge.specs.Told.{OnlyWrites, WriteFailed};
-ghost use Rattle.soc_serve.specs.Check.{count_line};
 ghost use Rattle.soc_host.specs.Lines.{Tells, lines_of};
 
 use soc_edge::{Sink, write_all};
 use soc_raw::NoMemory;
+use soc_serve::push_line;
 use std::alloc::Global;
 
 /// What became of the lines.
@@ -45,15 +45,4 @@ pub(crate) fn counts_text(alloc: Global, crashes: u32, reports: u32) -> Result<V
     push_line(&mut text, b"crashes ", u64::from(crashes))?;
     push_line(&mut text, b"reports ", u64::from(reports))?;
     Ok(text)
-}
-
-/// Adds a line with a name and a number.
-pub(crate) fn push_line(text: &mut Vec<u8>, name: &[u8], count: u64) -> Result<(), NoMemory>
-    ensures { IfOk result (λ _. text.new.items ≡ text.old.items ++ count_line name.now count) }
-{
-    let mut digits = itoa::Buffer::new();
-    text.extend_from_slice(name)?;
-    text.extend_from_slice(digits.format(count).as_bytes())?;
-    text.push(b'\n')?;
-    Ok(())
 }

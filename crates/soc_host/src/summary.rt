@@ -7,7 +7,7 @@ ghost use Rattle.soc_book.specs.inner.Stands.{Stands};
 ghost use Rattle.soc_host.specs.Storm.{Subsides, signatures_of, term_line, term_lines};
 ghost use Rattle.soc_host.specs.inner.Storm.{by_value, signature_asked};
 
-use crate::lines::{counts_text, push_line};
+use crate::lines::counts_text;
 use crate::sweep::drain;
 use soc_book::Book;
 use soc_desk::Reply;
@@ -15,6 +15,7 @@ use soc_edge::Disk;
 use soc_query::{Query, Term};
 use soc_raw::{Bytes, NoMemory, Pairs, Text};
 use soc_schema::{Caller, Permissions, Products, Reporter, Value};
+use soc_serve::push_line;
 use soc_store::compare_values;
 use std::alloc::Global;
 

@@ -91,8 +91,8 @@ fn counts_text(alloc: Global, counts: Counts) -> Result<Bytes, NoMemory>
     Ok(Bytes::from(text))
 }
 
-/// Adds a line with a name and a number.
-fn push_line(text: &mut Vec<u8>, name: &[u8], count: u64) -> Result<(), NoMemory>
+/// Adds a line with a name and a number, as the texts that tell counts have it.
+pub fn push_line(text: &mut Vec<u8>, name: &[u8], count: u64) -> Result<(), NoMemory>
     ensures { IfOk result (λ _. text.new.items ≡ text.old.items ++ count_line name.now count) }
 {
     let mut digits = itoa::Buffer::new();

@@ -14,6 +14,7 @@ mod texts;
 mod token_text;
 mod words;
 
+pub use check::push_line;
 pub use ending::{Keeping, RunEnd};
 pub use opening::open;
 pub use refusal::{FileRefusal, FilesFault};

@@ -12,9 +12,6 @@ use soc_raw::{Bytes, NoMemory, Texts};
 use soc_schema::{Caller, Field, FieldKind, granted};
 use std::alloc::Global;
 
-/// How many fields the table has.
-const FIELDS: u8 = 36;
-
 /// An object of the annotations' names and values.
 pub(crate) fn annotations_json(alloc: Global, annotations: &Texts) -> Result<Bytes, NoMemory>
     ensures { IfOk result (λ text. text ≡ annotations_json annotations.now) }
@@ -61,7 +58,7 @@ fn put_fields(out: &mut Vec<u8>, caller: &Caller) -> Result<(), NoMemory>
         ++ joined field_json (filter (λ field. holds caller.now.permissions field.permission) field_table)) }
 {
     let mut count = 0;
-    for place in 0..FIELDS {
+    for place in 0..Field::COUNT {
         let field = Field::at(place);
         if granted(caller, field) {
             put_comma(out, count)?;

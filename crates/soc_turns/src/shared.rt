@@ -1,11 +1,12 @@
 //! A book as the state of a hall.
-ghost use Rattle.std.specs.Prelude.{◌≡◌, IfOk, IfSome, slice_get};
+ghost use Rattle.std.specs.Prelude.{◌≡◌, ◌≢◌, ℕ, [], IfOk, IfSome, IsErrOf, slice_get};
 ghost use Rattle.soc_edge.specs.Disk.{GoesOn, LeavesOnly};
+ghost use Rattle.soc_journal.specs.Text.{HasHeader};
 ghost use Rattle.soc_vault.specs.Openings.{OpeningLeaves};
 ghost use Rattle.soc_ledger.specs.Due.{due_ids};
 ghost use Rattle.soc_desk.specs.Basis.{Basis};
 ghost use Rattle.soc_desk.specs.State.{State};
-ghost use Rattle.soc_book.specs.Openings.{IsBasisOf, OpensBook};
+ghost use Rattle.soc_book.specs.Openings.{IsBasisOf, OpensBook, StopsAtEntry};
 ghost use Rattle.soc_book.specs.inner.Stands.{Stands};
 ghost use Rattle.soc_turns.specs.Grounds.{desk_basis};
 
@@ -49,6 +50,8 @@ impl<'a, D: Telling, R: Reporter> SharedBook<'a, D, R> {
         ensures any_moment { IfOk result (λ shared. IfSome (D.state disk.old).content (λ bytes.
             LeavesOnly (D.state disk.old) (D.state shared.book.vault.disk.now) (OpeningLeaves (D.state disk.old).images bytes))) }
         ensures goes_on { IfOk result (λ shared. GoesOn (D.state disk.old) (D.state shared.book.vault.disk.now)) }
+        ensures not_ours { IsErrOf result OpenError.NotOurs → IfSome (D.state disk.old).content (λ bytes. (bytes ≢ []) × ¬ (HasHeader bytes)) }
+        ensures bad_entry { (place : ℕ) → IsErrOf result (OpenError.BadEntry place) → IfSome (D.state disk.old).content (λ bytes. StopsAtEntry bytes place) }
     {
         let opened = Snapshot::of(&*disk);
         let book = Book::open(alloc, disk, reporter, limits)?;

@@ -3,13 +3,8 @@ ghost use Rattle.std.specs.Prelude.{◌≡◌, max, min};
 ghost use Rattle.soc_raw.specs.Day.{IsMoment};
 
 use soc_edge::Clock;
+use soc_raw::{FIRST_MOMENT, LAST_MOMENT};
 use std::time::{self, SystemTime};
-
-/// The first moment, 2000-01-01 00:00:00 UTC, in seconds since 1970.
-const FIRST: u64 = 946_684_800;
-
-/// The last moment, 2099-12-31 23:59:59 UTC, in seconds since 1970.
-const LAST: u64 = 4_102_444_799;
 
 /// The system's clock, held between the years 2000 and 2099. Where it can't be read, it shows the first moment.
 #[derive(Drop)]
@@ -18,6 +13,7 @@ pub struct SystemClock<'a, R> {
 }
 
 impl<'a, R: time::Clock> SystemClock<'a, R> {
+    /// The clock of a runtime.
     pub fn new(rt: &'a R) -> Self {
         SystemClock { rt }
     }
@@ -54,5 +50,5 @@ fn held(seconds: u64) -> u64
     ensures range { IsMoment result }
     ensures nearest { result ≡ max 946_684_800 (min seconds 4_102_444_799) }
 {
-    seconds.clamp(FIRST, LAST)
+    seconds.clamp(FIRST_MOMENT, LAST_MOMENT)
 }

@@ -13,6 +13,7 @@ pub struct SystemDraws {
 }
 
 impl SystemDraws {
+    /// A generator that the operating system seeds. An error where it gives no random bytes.
     pub fn new<S: RandomSource>(rt: &S) -> io::Result<SystemDraws> {
         Ok(SystemDraws {
             generator: Some(make_rng(rt)?),

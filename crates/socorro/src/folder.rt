@@ -15,6 +15,7 @@ pub struct Folder<'a, R> {
 }
 
 impl<'a, R> Folder<'a, R> {
+    /// The folder of a path, which is looked at when a file is asked for.
     pub fn new(rt: &'a R, path: &'a str) -> Self {
         Folder {
             rt,

@@ -21,6 +21,7 @@ pub struct JournalFile<'a, R> {
 }
 
 impl<'a, R: Files<File = File>> JournalFile<'a, R> {
+    /// The file of a path, which isn't opened yet.
     pub fn new(rt: &'a R, path: &'a str) -> Self {
         JournalFile {
             rt,

@@ -10,6 +10,7 @@ pub struct InputStream<R> {
 }
 
 impl<R> InputStream<R> {
+    /// A source of what the reader gives.
     pub fn new(reader: R) -> Self {
         InputStream { reader, faults: 0 }
     }
@@ -41,6 +42,7 @@ pub struct OutputStream<W> {
 }
 
 impl<W> OutputStream<W> {
+    /// A sink that hands bytes to the writer.
     pub fn new(writer: W) -> Self {
         OutputStream { writer, faults: 0 }
     }

@@ -32,6 +32,7 @@ struct Bound {
 }
 
 impl<'a, R: Net<Listener = TcpListener, Stream = TcpStream> + Clock + Sync> SocketListener<'a, R> {
+    /// A listener at an address, such as `127.0.0.1:8000`, which isn't bound yet.
     pub fn new(rt: &'a R, address: &'a str, limits: SocketLimits) -> Self {
         SocketListener {
             rt,
