@@ -82,7 +82,8 @@ impl Restored {
 }
 
 impl<'a, D: Disk, R: Reporter> Book<'a, D, R> {
-    /// The book whose log the disk's journal keeps, as `Restored::read` reads it. The disk is lent to the book then.
+    /// The book whose log the disk's journal keeps, as `Restored::read` reads it. The disk is lent to the book then, so
+    /// that `StoreFault` comes only where the disk failed is said by `Restored::read` alone.
     pub fn open(
         alloc: Global,
         disk: &'a mut D,

@@ -144,15 +144,19 @@ pub fn joined(
         for item in array_of(case, key)? {
             match item.as_str() {
                 Some(name) => append(alloc, &mut bytes, document, name)?,
-                None => {
-                    for _ in 0..number_in(item, key)? {
-                        bytes.push(0)?;
-                    }
-                }
+                None => append_zeros(&mut bytes, number_in(item, key)?)?,
             }
         }
     }
     Ok(bytes)
+}
+
+/// Appends so many zero bytes.
+fn append_zeros(bytes: &mut Vec<u8>, count: u64) -> Result<(), Fault> {
+    for _ in 0..count {
+        bytes.push(0)?;
+    }
+    Ok(())
 }
 
 /// Appends the text of a name, or the bytes of one in hexadecimal.

@@ -33,7 +33,7 @@ pub struct SharedBook<'a, D: Telling, R: Reporter> {
 }
 
 impl<'a, D: Telling, R: Reporter> SharedBook<'a, D, R> {
-    /// The book that a disk's journal keeps, as `Book::open` opens it.
+    /// The book that a disk's journal keeps, as `Book::open` opens it. It is refused for the same reasons.
     pub fn open(
         alloc: Global,
         disk: &'a mut D,
