@@ -217,6 +217,7 @@ module _ {K : Type 0} (asks : K → Command → Receipt → K → Type 0) (disk_
       opened = (disk_of first).faults;
       served = (disk_of second).faults;
       no_fewer = to_opened.faults_never_fall;
+      at_most = keep_on.faults_never_fall;
       blames = reached.faults;
       keeps = keeps_by basis reached.last (disk_of second) after.disk (keep_reply keeping) kept.0 kept.1;
       goes_on = GoesOn-append before.disk (disk_of first) after.disk to_opened from_opened;

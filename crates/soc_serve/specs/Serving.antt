@@ -97,6 +97,7 @@ pub record ServesJournal (row_of : Crash → List Cell) (digest : Option (List �
   pub opened : ℕ
   pub served : ℕ
   pub no_fewer : before.disk.faults ≤ opened
+  pub at_most : served ≤ after.disk.faults
   pub blames : RoseBy (store_faults serves.responses) opened served
   pub keeps : KeepsBy basis last served after.disk.faults (keep_reply keeping) kept
   pub goes_on : GoesOn before.disk after.disk
