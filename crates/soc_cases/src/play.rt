@@ -64,11 +64,16 @@ pub fn play(
     run(alloc, &words, case, input, disk)
 }
 
-/// Plays a case over an empty disk whose call with this number fails.
-pub fn play_over(alloc: Global, document: &Table, case: &Table, call: u64) -> Result<Left, Fault> {
+/// Plays a case over an empty disk whose calls with these numbers fail.
+pub fn play_over(
+    alloc: Global,
+    document: &Table,
+    case: &Table,
+    fails: Numbers,
+) -> Result<Left, Fault> {
     let words = words_of(alloc, case)?;
     let input = Bytes::from(joined(alloc, document, case, "input")?);
-    let disk = MemDisk::new(alloc, ROOM, WRITES, numbers(alloc, call)?)?;
+    let disk = MemDisk::new(alloc, ROOM, WRITES, fails)?;
     run(alloc, &words, case, input, disk)
 }
 
