@@ -1,8 +1,8 @@
 #!/usr/bin/env bash
 # Times a desk over a disk in memory: submissions of crashes of 1 KB, 100 KB and 1 MB, their processing and searches, and the
-# desk's opening, beside decoding and digesting the same records alone, and digesting alone. All figures are processor time;
-# it wants a quiet machine. bench/replay.sh times submissions over a real file, beside a C program of two writes and two
-# syncs an entry.
+# desk's opening; for comparison, decoding and digesting the same records alone, and digesting alone. All figures are
+# processor time; it needs a quiet machine. bench/replay.sh times submissions over a real file, beside a C program that makes
+# two writes and two syncs an entry.
 # usage: bench/desk.sh [CRASHES]     (crates/soc_bench must be built: `cd crates/soc_bench && rt run`)
 set -eu
 cd "$(dirname "$0")/.."

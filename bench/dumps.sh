@@ -1,8 +1,8 @@
 #!/usr/bin/env bash
 # Times dumps that a stranger could send, each of 16 MiB (a million regions, modules that share a name of 8 MiB, modules
 # that share a code view record of 8 MiB without a NUL, one module whose name fills the file): how each is read, how its
-# stack of 1,024 frames is walked, and how its report is made, with the peak of the memory. Or it times the walk and the
-# report of a dump that is given, with the symbol files behind it. All figures are processor time; it wants a quiet machine.
+# stack of 1,024 frames is walked, and how its report is made, with the peak of the memory. If a DUMP is given, it times the
+# walk and the report of that dump instead, with the SYMBOLS files. All figures are processor time; it needs a quiet machine.
 # usage: bench/dumps.sh [DUMP SYMBOLS..]     (crates/soc_bench must be built: `cd crates/soc_bench && rt run`)
 # Symbol files are copied into a folder that mktemp makes, and emptied there at the end.
 set -eu

@@ -1,5 +1,6 @@
 #!/usr/bin/env bash
-# Times turns in a hall that do nothing, beside a pthread mutex, for one thread and for several, and puts and takes of the ring of jobs.
+# Times turns in a hall that do nothing, beside a pthread mutex, for one thread and for several, and puts and takes of the
+# ring of jobs.
 # usage: bench/hall.sh [TURNS]     (TURNS in all; crates/soc_bench must be built: `cd crates/soc_bench && rt run`)
 set -eu
 cd "$(dirname "$0")/.."

@@ -1,7 +1,7 @@
 #!/usr/bin/env bash
 # Times the reading of a body with one large dump: by the reader whose parts own their contents, fed in pieces of 32 KiB and
 # fed the whole body at once, and by the one whose parts point into the body. Beside them a C program that finds the same
-# delimiters by memmem, and copies what stands between them or not. bench/peak.py tells the memory that a body takes.
+# delimiters by memmem, and copies what is between them or not. bench/peak.py measures the memory that a body takes.
 # usage: bench/multipart.sh [MEGABYTES]     (crates/soc_bench must be built: `cd crates/soc_bench && rt run`)
 set -eu
 cd "$(dirname "$0")/.."

@@ -2,7 +2,7 @@
 # Times `socorro replay` over a journal on a real file: submissions with a dump of 1 KB, 100 KB and 1 MB, each acknowledged
 # once it is on the disk, beside a C program that makes two writes and two syncs an entry of that size (two_syncs.c); and
 # small requests of which nothing is kept, since a rule rejects them.
-# Each line is the fastest of some runs: seconds that passed, requests a second, and the share of the C program's rate. The
+# Each line is the fastest of several runs: elapsed seconds, requests a second, and the share of the C program's rate. The
 # machine and its disk should be quiet. Deleted files slow a disk down, so the files in FOLDER are emptied and stay.
 # usage: bench/replay.sh [FOLDER [RUNS]]     (socorro must be built: `cd crates/socorro && rt run`)
 set -eu

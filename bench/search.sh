@@ -1,7 +1,7 @@
 #!/usr/bin/env bash
-# Times puts and searches over made rows of 36 fields, beside SQLite and, where a server can be started, PostgreSQL, over
-# the same rows with an index on each field that is searched. The program's figures are processor time, the others' time
-# that passed. It wants a quiet machine.
+# Times puts and searches over made rows of 36 fields, beside SQLite and, if a server can be started, PostgreSQL, over the
+# same rows with an index on each field that is searched. The program's figures are processor time, the others' elapsed
+# time. It needs a quiet machine.
 # usage: bench/search.sh [ROWS]     (crates/soc_bench must be built: `cd crates/soc_bench && rt run`)
 set -eu
 cd "$(dirname "$0")/.."

@@ -1,13 +1,13 @@
 #!/usr/bin/env bash
 # Measures `socorro serve` over the loopback: crashes that are kept without being processed, and crashes that are processed
-# beside; requests that a rule rejects and malformed ones; reads of reports beside submissions; and the memory over many
-# submissions. Beside them, on the same processors in the same run: what the disk allows of two writes and two syncs an entry
-# (two_syncs.c), an Antenna-like collector (antenna.py), and nginx, which only reads bodies. The loader is load.c.
+# in the meantime; requests that a rule rejects and malformed ones; reads of reports during submissions; and the memory over
+# many submissions. For comparison, on the same processors in the same run: what the disk allows of two writes and two syncs
+# an entry (two_syncs.c), a collector like Antenna (antenna.py), and nginx, which only reads bodies. The loader is load.c.
 # A line has the rate a second, the p50 and the p99 in milliseconds; a share is a rate divided by the one beside it.
 # The machine and its disk should be quiet. Deleted files slow a disk down, so the files in FOLDER are emptied and stay.
 # usage: bench/serve.sh [FOLDER [PERCENT [PART..]]]     (PERCENT of all counts, 100; socorro must be built: `cd crates/socorro && rt run`)
-# PART is kept, antenna, dropped, reads or memory; all of them where none is named.
-# PROCESSORS names the processors of all that is measured, as `taskset -c` takes them; SOCORRO another program.
+# PART is kept, antenna, dropped, reads or memory; without any PART all of them run.
+# PROCESSORS names the processors for everything that is measured, as `taskset -c` takes them; SOCORRO another program.
 set -eu
 export LC_ALL=C
 cd "$(dirname "$0")/.."

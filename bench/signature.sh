@@ -1,6 +1,6 @@
 #!/usr/bin/env bash
 # Times signatures of a stack of 1,000 frames under 1,300 patterns, a quarter of them not literal, beside Python's `re`
-# with the patterns of each list joined into one. Both figures are processor time; it wants a quiet machine.
+# with the patterns of each list joined into one. Both figures are processor time; it needs a quiet machine.
 # usage: bench/signature.sh [SIGNATURES]     (crates/soc_bench must be built: `cd crates/soc_bench && rt run`)
 set -eu
 cd "$(dirname "$0")/.."

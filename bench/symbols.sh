@@ -1,7 +1,7 @@
 #!/usr/bin/env bash
 # Times the reading of a symbol text and a million look-ups, beside a Python reader with sorted lists over a text of the
-# same form, and beside grep, which only counts its functions. Where OLD, a soc_bench of an earlier commit, is given, both
-# run in turns, and the last line has the ratios of their fastest runs. It wants a quiet machine.
+# same form, and beside grep, which only counts its functions. If OLD, a soc_bench of an earlier commit, is given, both
+# run in turns, and the last line has the ratios of their fastest runs. It needs a quiet machine.
 # usage: bench/symbols.sh [MEGABYTES [OLD]]     (crates/soc_bench must be built: `cd crates/soc_bench && rt run`)
 set -eu
 cd "$(dirname "$0")/.."
