@@ -39,13 +39,13 @@ if [ "$#" -gt 0 ]; then
         paths+=("$path")
     done
     cd "$folder"
-    "$program" walk 1000 "$dump" "${paths[@]}"
-    with_peak "$program" report 1000 "$dump" "${paths[@]}"
+    "$program" walk "$dump" "${paths[@]}"
+    with_peak "$program" report "$dump" "${paths[@]}"
     exit
 fi
 for kind in regions names views name; do
     "$program" dump "$kind"
-    "$program" walk 1 "$kind"
-    with_peak "$program" report 1 "$kind"
+    "$program" walk "$kind"
+    with_peak "$program" report "$kind"
 done
-"$program" report 20000
+"$program" report

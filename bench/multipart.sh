@@ -14,10 +14,8 @@ folder=$(mktemp -d)
 trap 'rm -rf "$folder"' EXIT
 gcc -O2 -Wall -Wextra -o "$folder/memmem" bench/memmem.c
 
+"$program" bodies "$megabytes"
 for dump in plain near; do
-    "$program" multipart "$megabytes" "$dump"
-    "$program" feed "$megabytes" "$dump"
-    "$program" feed "$megabytes" "$dump" "$((megabytes * 1000000 + 1000))" 2>&1 | sed 's/^feed/feed whole/'
     "$folder/memmem" "$megabytes" "$dump"
     "$folder/memmem" "$megabytes" "$dump" copy
 done

@@ -21,7 +21,7 @@ RUNS = 31
 def text(field, number):
     mixed = (number * 0x9E3779B97F4A7C15 % 2**64) >> 20
     if field == "uuid":
-        return f"{number:08x}-0000-4000-8000-000000160918"
+        return f"{number * 2654435761 % 2**32:08x}-0000-4000-8000-000000160918"
     if field == "product":
         return PRODUCTS[mixed % 8]
     if field == "date":
@@ -46,7 +46,7 @@ SEARCHES = [
         "facet on signature, product=Firefox",
         "select signature, count(*) from reports where product = 'Firefox' group by 1 order by 2 desc, 1 limit 50",
     ),
-    ("uuid=", f"select {SHOWN} from reports where uuid = '00000007-0000-4000-8000-000000160918'"),
+    ("uuid=", f"select {SHOWN} from reports where uuid = '538453d7-0000-4000-8000-000000160918'"),
     (
         "product=!Firefox, newest 100",
         f"select {SHOWN} from reports where product <> 'Firefox' order by date desc, uuid limit 100",

@@ -13,8 +13,16 @@ def begun(number, kind):
     return f"ns{number * 40503 % 65536:04x}_{kind}"
 
 
+def pattern(number, kind):
+    if number % 8 == 0:
+        return begun(number, kind) + "(_[a-z]+)?::.*"
+    if number % 8 == 4:
+        return "(?:ns|mozilla)[a-z]?" + begun(number, kind)[2:] + "::"
+    return begun(number, kind) + "::"
+
+
 def patterns(kind, count):
-    return [begun(n, kind) + ("(_[a-z]+)?::.*" if n % 4 == 0 else "::") for n in range(count)]
+    return [pattern(n, kind) for n in range(count)]
 
 
 irrelevant = re.compile("|".join(patterns("irrelevant", IRRELEVANT)))

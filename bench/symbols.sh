@@ -20,8 +20,8 @@ if [ -n "$old" ]; then
         "$old" symbols "$megabytes" 2>&1 >/dev/null | sed 's/^/old /' >> "$times"
         "$program" symbols "$megabytes" 2>&1 >/dev/null | sed 's/^/new /' >> "$times"
     done
-    awk '$3 > read[$1] { read[$1] = $3 } $6 > found[$1] { found[$1] = $6 } END {
-        printf "symbols: %d and %d MB/s read, old and new; %d and %d look-ups/s\n", read["old"], read["new"], found["old"], found["new"]
+    awk '/symbols read/ && $6 > read[$1] { read[$1] = $6 } /look-ups/ && $5 > found[$1] { found[$1] = $5 } END {
+        printf "symbols: %d and %d bytes/s read, old and new; %d and %d look-ups/s\n", read["old"], read["new"], found["old"], found["new"]
         printf "symbols: read %.2f times as fast, looked up %.2f times\n", read["new"] / read["old"], found["new"] / found["old"]
     }' "$times" >&2
 fi

@@ -1,64 +1,112 @@
-//! Multipart bodies with one dump.
-ghost use Rattle.std.specs.Prelude.{◌≡◌, ◌*◌, ◌<◌, ◌≤◌, IfOk, length, vec_len};
-ghost use Rattle.soc_bench.specs.Bodies.{HoldsDump};
+//! Multipart bodies with one dump: cut into parts that point into them, and fed to a reader whose parts own their contents.
+ghost use Rattle.std.specs.Prelude.{IfOk};
+ghost use Rattle.soc_multipart.specs.OwnedViews.{owned_texts};
+ghost use Rattle.soc_multipart.specs.Parts.{Cut};
 
+use crate::fault::Fault;
+use crate::harness::{Work, time};
+use crate::numbers::number_up_to;
+use soc_multipart::{OwnedParts, PartsError, Reader, read_whole};
 use std::alloc::{AllocError, Global};
-use std::fmt;
+use std::time::CpuClock;
 
 /// The boundary of each body, of the form that `curl` gives it.
-pub const BOUNDARY: &[u8] = b"------------------------d74496d66958873e";
+const BOUNDARY: &[u8] = b"------------------------d74496d66958873e";
 
-/// What stands before the dump.
+/// What precedes the dump.
 const FRONT: &[u8] =
     b"--------------------------d74496d66958873e\r\nContent-Disposition: form-data; name=\"upload_file_minidump\"; filename=\"a.dmp\"\r\nContent-Type: application/octet-stream\r\n\r\n";
 
-/// What stands behind the dump.
+/// What follows the dump.
 const BACK: &[u8] = b"\r\n--------------------------d74496d66958873e--\r\n";
 
-/// A line that begins as a delimiter does and is none. A million bytes are a whole number of such lines, of 50 bytes
-/// each.
+/// A line that begins as a delimiter does and is none, of 50 bytes.
 const NEAR_LINE: &[u8] = b"\r\n--------------------------d74496d66958873ealmost";
 
-/// The bytes of a megabyte.
 const MEGABYTE: usize = 1_000_000;
 
-/// What a dump is made of.
-#[derive(Clone, Copy, Debug, PartialEq, Eq)]
-pub enum Dump {
-    /// Bytes of every value, in no order.
-    Plain,
-    /// Lines that begin as a delimiter does and are none.
-    Near,
-}
+/// The most megabytes of a dump.
+const MOST_MEGABYTES: u64 = 4096;
 
-impl fmt::Display for Dump {
-    fn fmt<W: fmt::Write>(&self, f: &mut fmt::Formatter<W>) -> fmt::Result {
-        f.write_str(match self {
-            Dump::Plain => "plain",
-            Dump::Near => "near",
-        })
+/// The bytes of a piece that the service reads.
+const PIECE: usize = 32_768;
+
+/// A body that is cut.
+#[derive(Drop)]
+struct Cuts<'a>(&'a [u8]);
+
+impl Work for Cuts<'_> {
+    fn once(&mut self, alloc: Global) -> Result<u64, Fault> {
+        Ok(read_whole(alloc, BOUNDARY, self.0)?.as_slice().len() as u64)
     }
 }
 
-/// A body with one dump of so many megabytes, at most 4,096.
-pub fn body_with(alloc: Global, dump: Dump, megabytes: usize) -> Result<Vec<u8>, AllocError>
-    requires { megabytes ≤ 4096 }
-    ensures { IfOk result (λ body. HoldsDump body.items FRONT.now BACK.now (megabytes * 1000000)) }
+/// A body that is fed in pieces of so many bytes.
+#[derive(Drop)]
+struct Feeds<'a>(&'a [u8], usize);
+
+impl Work for Feeds<'_> {
+    fn once(&mut self, alloc: Global) -> Result<u64, Fault> {
+        Ok(fed(alloc, BOUNDARY, self.0, self.1)?.as_slice().len() as u64)
+    }
+}
+
+/// The parts of a body that comes in pieces of at most so many bytes.
+fn fed(alloc: Global, boundary: &[u8], body: &[u8], piece: usize) -> Result<OwnedParts, PartsError>
+    ensures { IfOk result (λ parts. Cut boundary.now body.now (owned_texts parts.items)) }
 {
-    let content = match dump {
-        Dump::Plain => plain(alloc, megabytes * MEGABYTE)?,
-        Dump::Near => near(alloc, megabytes * MEGABYTE)?,
+    let mut reader = Reader::new(alloc, boundary)?;
+    for piece in body.chunks(piece.max(1)) {
+        reader.feed(piece)?;
+    }
+    reader.finish()
+}
+
+/// Reads a body whose dump has so many megabytes of every byte in no order, and one whose dump has near delimiters.
+pub fn run<R: CpuClock + Print + Eprint + AllocGlobal>(
+    rt: &R,
+    words: &[String],
+) -> Result<(), Fault> {
+    let [size] = words else {
+        return Err(Fault::Words);
     };
-    let mut body = Vec::from_slice(alloc, FRONT)?;
-    body.extend_from_slice(content.as_slice())?;
+    let length = (number_up_to(size, MOST_MEGABYTES)? as usize).saturating_mul(MEGABYTE);
+    let dump = plain(rt.alloc(), length)?;
+    read_body(rt, "plain", dump.as_slice())?;
+    let dump = near(rt.alloc(), length)?;
+    read_body(rt, "near", dump.as_slice())
+}
+
+fn read_body<R: CpuClock + Print + Eprint + AllocGlobal>(
+    rt: &R,
+    kind: &str,
+    dump: &[u8],
+) -> Result<(), Fault> {
+    let mut body = Vec::from_slice(rt.alloc(), FRONT)?;
+    body.extend_from_slice(dump)?;
     body.extend_from_slice(BACK)?;
-    Ok(body)
+    time_body(rt, kind, body.as_slice())
+}
+
+fn time_body<R: CpuClock + Print + Eprint + AllocGlobal>(
+    rt: &R,
+    kind: &str,
+    body: &[u8],
+) -> Result<(), Fault> {
+    println!(rt; "{kind} body of {} bytes", body.len())?;
+    time(rt, "cut", "bytes", body.len(), &mut Cuts(body))?;
+    time(rt, "fed", "bytes", body.len(), &mut Feeds(body, PIECE))?;
+    time(
+        rt,
+        "fed whole",
+        "bytes",
+        body.len(),
+        &mut Feeds(body, body.len()),
+    )
 }
 
 /// Bytes of a linear congruential generator (Knuth's MMIX), the highest eight bits of each number.
-fn plain(alloc: Global, length: usize) -> Result<Vec<u8>, AllocError>
-    ensures { IfOk result (λ dump. vec_len dump ≡ length) }
-{
+fn plain(alloc: Global, length: usize) -> Result<Vec<u8>, AllocError> {
     let mut dump = Vec::with_capacity(alloc, length)?;
     let mut state: u64 = 1;
     for _ in 0..length {
@@ -70,10 +118,8 @@ fn plain(alloc: Global, length: usize) -> Result<Vec<u8>, AllocError>
     Ok(dump)
 }
 
-/// Near delimiters, one behind the other.
-fn near(alloc: Global, length: usize) -> Result<Vec<u8>, AllocError>
-    ensures { IfOk result (λ dump. vec_len dump ≡ length) }
-{
+/// Near delimiters, one after another.
+fn near(alloc: Global, length: usize) -> Result<Vec<u8>, AllocError> {
     let mut dump = Vec::with_capacity(alloc, length)?;
     for i in 0..length {
         dump.push(NEAR_LINE[i % NEAR_LINE.len()])?;

@@ -1,6 +1,5 @@
 //! Made crashes.
 use crate::fault::Fault;
-use crate::rows::made_id;
 use soc_raw::RawCrash;
 use std::alloc::{AllocError, Global};
 
@@ -31,10 +30,9 @@ const ANNOTATIONS: [(&str, &str); 17] = [
     ("ipc_channel_error", "ShutDownKill"),
 ];
 
-/// The crash of a number, with a dump where one is given. Its id is that of the row of the number.
-pub fn made_crash(alloc: Global, number: u64, dump: Option<&[u8]>) -> Result<RawCrash, Fault> {
-    let mut record = Vec::new(alloc);
-    record.extend_from_slice(made_id(alloc, number)?.as_bytes())?;
+/// A crash, with a dump where one is given.
+pub fn made_crash(alloc: Global, dump: Option<&[u8]>) -> Result<RawCrash, Fault> {
+    let mut record = Vec::from_slice(alloc, b"00000001-0000-4000-8000-000000160918")?;
     record.extend_from_slice(&MOMENT.to_le_bytes())?;
     record.extend_from_slice(&0u64.to_le_bytes())?;
     put(&mut record, b"accept_all")?;
@@ -51,10 +49,7 @@ pub fn made_crash(alloc: Global, number: u64, dump: Option<&[u8]>) -> Result<Raw
         }
         None => put_count(&mut record, 0)?,
     }
-    match RawCrash::decode(alloc, record.as_slice()) {
-        Ok(raw) => Ok(raw),
-        Err(error) => Err(Fault::NoCrash(error)),
-    }
+    Ok(RawCrash::decode(alloc, record.as_slice())?)
 }
 
 /// A text or a dump of a record.

@@ -1,13 +1,36 @@
-//! Made dumps of 16 MiB, read.
+//! Made dumps of 16 MiB: read, and made ready for walks.
 use crate::fault::Fault;
+use crate::harness::{Work, time};
 use crate::made_dump::{made_dump, made_named};
-use crate::timing::Stopwatch;
 use soc_dump::Dump;
+use std::alloc::Global;
 use std::time::CpuClock;
 
-/// Reads a dump of a kind, and makes ready what a walk looks up.
-pub fn run(
-    rt: &(impl CpuClock + Print + Eprint + AllocGlobal),
+/// A dump that is read. It counts the modules.
+#[derive(Drop)]
+struct Reads<'a>(&'a [u8]);
+
+impl Work for Reads<'_> {
+    fn once(&mut self, alloc: Global) -> Result<u64, Fault> {
+        Ok(Dump::read(alloc, self.0)?.modules().len() as u64)
+    }
+}
+
+/// A dump whose tables are made, in which walks look up modules and words.
+#[derive(Drop)]
+struct Tables<'a>(&'a Dump<'a>);
+
+impl Work for Tables<'_> {
+    fn once(&mut self, alloc: Global) -> Result<u64, Fault> {
+        let _modules = self.0.module_table(alloc)?;
+        let _words = self.0.words(alloc, 8)?;
+        Ok(self.0.modules().len() as u64)
+    }
+}
+
+/// Reads a made dump, and makes its tables.
+pub fn run<R: CpuClock + Print + Eprint + AllocGlobal>(
+    rt: &R,
     words: &[String],
 ) -> Result<(), Fault> {
     let [kind] = words else {
@@ -17,25 +40,11 @@ pub fn run(
         return Err(Fault::Words);
     };
     let file = made_dump(rt.alloc(), made)?;
-    read_file(rt, kind.as_str(), file.as_slice())
+    read_file(rt, file.as_slice())
 }
 
-fn read_file(
-    rt: &(impl CpuClock + Print + Eprint + AllocGlobal),
-    kind: &str,
-    file: &[u8],
-) -> Result<(), Fault> {
-    let stopwatch = Stopwatch::start(rt)?;
-    let dump = match Dump::read(rt.alloc(), file) {
-        Ok(dump) => dump,
-        Err(error) => return Err(Fault::NoDump(error)),
-    };
-    let read = stopwatch.elapsed(rt)?.as_micros();
-    let stopwatch = Stopwatch::start(rt)?;
-    let _modules = dump.module_table(rt.alloc())?;
-    let _words = dump.words(rt.alloc(), 8)?;
-    let made = stopwatch.elapsed(rt)?.as_micros();
-    println!(rt; "dump {kind}: {} modules", dump.modules().len())?;
-    eprintln!(rt; "dump {kind}: read in {read} us, its tables made in {made} us")?;
-    Ok(())
+fn read_file<R: CpuClock + Print + Eprint + AllocGlobal>(rt: &R, file: &[u8]) -> Result<(), Fault> {
+    time(rt, "dump read", "bytes", file.len(), &mut Reads(file))?;
+    let dump = Dump::read(rt.alloc(), file)?;
+    time(rt, "tables made", "bytes", file.len(), &mut Tables(&dump))
 }

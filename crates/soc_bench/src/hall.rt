@@ -4,9 +4,8 @@ ghost use Rattle.soc_hall.specs.Seats.{seats_in, IsSeatOf};
 
 use crate::fault::Fault;
 use crate::numbers::number_up_to;
-use crate::timing::a_second;
+use soc_base::NoMemory;
 use soc_hall::{Hall, Logged, Seat, Seats};
-use soc_raw::NoMemory;
 use std::alloc::Global;
 use std::rt::Clock;
 use std::sync::Wait;
@@ -71,7 +70,7 @@ pub fn run<R: Clock + Print + Eprint + AllocGlobal + Threads + Wait + Sync>(
     }
     let start = Instant::now(rt)?;
     let taken = turns_of(rt, rt.alloc(), threads as u32, turns)?;
-    let rate = a_second(taken, start.elapsed(rt)?);
+    let rate = u128::from(taken) * 1_000_000 / start.elapsed(rt)?.as_micros().max(1);
     println!(rt; "hall: {threads} threads, {taken} turns")?;
     eprintln!(rt; "hall: {rate} turns/s")?;
     Ok(())

@@ -1,8 +1,8 @@
 //! Lists and symbol files, as a service finds them in its folder.
 use crate::fault::Fault;
 use crate::lists::{irrelevant_list, prefix_list};
+use soc_base::{Blobs, Bytes, Text};
 use soc_edge::{MemTree, Numbers};
-use soc_raw::{Blobs, Bytes, Text};
 use soc_report::KitText;
 use std::alloc::Global;
 use std::fs;
@@ -11,11 +11,19 @@ use std::rt::Files;
 /// A prefix of the module names in made dumps, so that each of their frames goes into the signature.
 const MADE_NAMES: &str = "xxxx\n";
 
+/// A symbol file of the id that each code view record of made dumps has, under another name than theirs.
+const MADE_PATH: &str = "x.pdb/7878787878787878787878787878787878787878/x.sym";
+
+const MADE_SYMBOLS: &[u8] =
+    b"MODULE windows x86_64 7878787878787878787878787878787878787878 x.pdb\n";
+
 /// The texts of made lists, and of symbol files that are given by their paths in the folder `symbols`.
 pub fn kit_text<R: Files + AllocGlobal>(rt: &R, paths: &[String]) -> Result<KitText, Fault> {
     let alloc = rt.alloc();
     let mut files = Blobs::new(alloc);
-    let mut list = String::new(alloc);
+    let mut list = format!(in alloc; "{MADE_PATH}\n")?;
+    let place = format!(in alloc; "symbols/{MADE_PATH}")?;
+    files.set(Text::from(place), Bytes::of(alloc, MADE_SYMBOLS)?)?;
     for path in paths {
         list.push_str(path.as_str())?;
         list.push_str("\n")?;
@@ -27,10 +35,7 @@ pub fn kit_text<R: Files + AllocGlobal>(rt: &R, paths: &[String]) -> Result<KitT
     prefixes.push_str(MADE_NAMES)?;
     put_text(alloc, &mut files, "prefix.txt", prefixes)?;
     let mut tree = MemTree::new(files, Numbers::new(Vec::new(alloc)));
-    match KitText::read(alloc, &mut tree) {
-        Ok(texts) => Ok(texts),
-        Err(error) => Err(Fault::NoKit(error)),
-    }
+    Ok(KitText::read(alloc, &mut tree)?)
 }
 
 /// Puts a symbol file among the files.

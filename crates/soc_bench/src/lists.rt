@@ -29,7 +29,7 @@ fn word_of(number: u64) -> u64 {
     number.wrapping_mul(40_503) % 65_536
 }
 
-/// A list file. Each fourth pattern is not literal.
+/// A list file. Of eight patterns one is not literal after its front, and one has no literal front.
 fn patterns(alloc: Global, kind: &str, count: u64) -> Result<String, Fault> {
     let mut file = String::new(alloc);
     for number in 0..count {
@@ -41,9 +41,9 @@ fn patterns(alloc: Global, kind: &str, count: u64) -> Result<String, Fault> {
 /// A line of a list file.
 fn pattern(alloc: Global, kind: &str, number: u64) -> Result<String, AllocError> {
     let word = word_of(number);
-    if number % 4 == 0 {
-        format!(in alloc; "ns{word:04x}_{kind}(_[a-z]+)?::.*\n")
-    } else {
-        format!(in alloc; "ns{word:04x}_{kind}::\n")
+    match number % 8 {
+        0 => format!(in alloc; "ns{word:04x}_{kind}(_[a-z]+)?::.*\n"),
+        4 => format!(in alloc; "(?:ns|mozilla)[a-z]?{word:04x}_{kind}::\n"),
+        _ => format!(in alloc; "ns{word:04x}_{kind}::\n"),
     }
 }

@@ -1,23 +1,18 @@
-//! Workloads that a bench times, each by its name. The program makes the objects, does the work on them and prints
-//! what it counted; how fast it went stands on standard error.
+//! Workloads that a bench times, each by its name. The program makes the objects and does the work on them. It prints what
+//! the work counted, and to standard error how fast it went.
 #![tactic(auto)]
 
 mod bodies;
-mod counts;
 mod crashes;
-mod desk;
 mod dumps;
 mod fault;
-mod feed;
 mod files;
 mod hall;
-mod journal;
+mod harness;
 mod kits;
 mod lists;
 mod made_dump;
-mod multipart;
 mod numbers;
-mod offsets;
 mod reports;
 mod ring;
 mod rows;
@@ -25,7 +20,6 @@ mod search;
 mod signature;
 mod symbol_text;
 mod symbols;
-mod timing;
 mod walks;
 
 use fault::Fault;
@@ -40,14 +34,13 @@ fn main(rt: HostRuntime) -> ExitCode {
     match run(&rt) {
         Ok(()) => ExitCode::SUCCESS,
         Err(fault) => {
-            let status = fault.status();
-            let _ = rt.eprintln(fault);
-            ExitCode::from(status)
+            let _ = rt.eprintln(fault.as_str());
+            ExitCode::from(fault.status())
         }
     }
 }
 
-/// Does the workload that the first word names. The words behind it are the workload's own.
+/// Does the workload that the first word names. The words after it are the workload's own.
 fn run<R: Env + Files + Clock + CpuClock + Print + Eprint + AllocGlobal + Threads + Wait + Sync>(
     rt: &R,
 ) -> Result<(), Fault> {
@@ -55,33 +48,27 @@ fn run<R: Env + Files + Clock + CpuClock + Print + Eprint + AllocGlobal + Thread
     for word in env::args(rt)?.skip(1) {
         words.push(word)?;
     }
-    let Some((workload, words)) = words.as_slice().split_first() else {
-        return Err(Fault::Words);
-    };
-    match workload.as_str() {
-        "multipart" => multipart::run(rt, words),
-        "feed" => feed::run(rt, words),
-        "journal" => journal::run(rt, words),
-        "symbols" => symbols::run(rt, words),
-        "hall" => hall::run(rt, words),
-        "ring" => ring::run(rt, words),
-        _ => make_report(rt, workload.as_str(), words),
+    match words.as_slice().split_first() {
+        Some((workload, words)) => work(rt, workload.as_str(), words),
+        None => Err(Fault::Words),
     }
 }
 
-/// Does a workload on the way from a dump to a search.
-fn make_report<R: Files + CpuClock + Print + Eprint + AllocGlobal>(
+fn work<R: Files + Clock + CpuClock + Print + Eprint + AllocGlobal + Threads + Wait + Sync>(
     rt: &R,
     workload: &str,
     words: &[String],
 ) -> Result<(), Fault> {
     match workload {
+        "bodies" => bodies::run(rt, words),
+        "symbols" => symbols::run(rt, words),
         "dump" => dumps::run(rt, words),
         "walk" => walks::run(rt, words),
         "report" => reports::run(rt, words),
         "signature" => signature::run(rt, words),
         "search" => search::run(rt, words),
-        "desk" => desk::run(rt, words),
+        "hall" => hall::run(rt, words),
+        "ring" => ring::run(rt, words),
         _ => Err(Fault::Words),
     }
 }

@@ -4,7 +4,6 @@ ghost use Rattle.soc_pool.specs.Passes.{IsPassOf};
 
 use crate::fault::Fault;
 use crate::numbers::number_up_to;
-use crate::timing::a_second;
 use soc_pool::{Job, Jobs, Pass};
 use std::rt::Clock;
 use std::sync::Wait;
@@ -28,7 +27,7 @@ pub fn run<R: Clock + Print + Eprint + AllocGlobal + Wait>(
     };
     let start = Instant::now(rt)?;
     let taken = put_and_take(rt, &jobs, pass, count);
-    let rate = a_second(taken, start.elapsed(rt)?);
+    let rate = u128::from(taken) * 1_000_000 / start.elapsed(rt)?.as_micros().max(1);
     println!(rt; "ring: {taken} jobs")?;
     eprintln!(rt; "ring: {rate} jobs/s put and taken")?;
     Ok(())

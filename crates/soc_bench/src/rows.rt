@@ -1,6 +1,5 @@
 //! Made rows of 36 fields.
 use crate::fault::Fault;
-use soc_raw::Text;
 use soc_schema::{Field, FieldKind, Row, Value};
 use std::alloc::Global;
 
@@ -22,10 +21,10 @@ pub fn made_row(alloc: Global, number: u64) -> Result<Row, Fault> {
     for place in 0..Field::COUNT {
         let field = Field::at(place);
         match field.kind() {
-            FieldKind::Text => row.set(
-                field,
-                Value::Text(made_text(alloc, field.name(), number)?),
-            )?,
+            FieldKind::Text => {
+                let text = made_text(alloc, field.name(), number)?;
+                row.set(field, Value::text(alloc, text.as_str())?)?;
+            }
             FieldKind::Number => row.set(field, Value::Number(made_number(number)))?,
             FieldKind::Flag => row.set(field, Value::Flag(number % 3 == 0))?,
         }
@@ -39,21 +38,21 @@ fn made_number(number: u64) -> u64 {
 }
 
 /// The text of a field: one of 8 products, 20,000 signatures, a second of 28 days, or one of 300 texts.
-fn made_text(alloc: Global, field: &str, number: u64) -> Result<Text, Fault> {
+fn made_text(alloc: Global, field: &str, number: u64) -> Result<String, Fault> {
     let mixed = number.wrapping_mul(0x9E37_79B9_7F4A_7C15) >> 20;
-    let text = match field {
+    Ok(match field {
         "uuid" => made_id(alloc, number)?,
         "product" => String::from_str(alloc, PRODUCTS[(mixed % 8) as usize])?,
         "date" => made_date(alloc, mixed)?,
         "signature" => format!(in alloc; "mozilla::Thing{}::Run", mixed % 20_000)?,
         _ => format!(in alloc; "{field} {}", mixed % 300)?,
-    };
-    Ok(Text::from(text))
+    })
 }
 
-/// The id of a crash.
-pub fn made_id(alloc: Global, number: u64) -> Result<String, Fault> {
-    Ok(format!(in alloc; "{number:08x}-0000-4000-8000-000000160918")?)
+/// The id of a crash. Ids of numbers in order are in none.
+fn made_id(alloc: Global, number: u64) -> Result<String, Fault> {
+    let mixed = number.wrapping_mul(2_654_435_761) % 4_294_967_296;
+    Ok(format!(in alloc; "{mixed:08x}-0000-4000-8000-000000160918")?)
 }
 
 /// A second of November 2026.

@@ -1,15 +1,15 @@
 //! Made rows of 36 fields put into a store, and the queries of a search page answered over them.
-ghost use Rattle.std.specs.Prelude.{◌≡◌, ◌<◌, ◌≤◌, IfOk};
-ghost use Rattle.soc_query.specs.Answers.{answer_of};
+ghost use Rattle.std.specs.Prelude.{◌≡◌, ◌<◌, ◌≤◌};
 
 use crate::fault::Fault;
+use crate::harness::{Work, time};
 use crate::numbers::number_up_to;
 use crate::rows::made_row;
-use crate::timing::{Stopwatch, nanoseconds_each};
+use soc_base::{Pairs, Text};
 use soc_edge::Steps;
-use soc_query::{Query, answer_of};
-use soc_raw::{NoMemory, Pairs, Text};
+use soc_query::Query;
 use soc_schema::{Caller, Permissions, Products, Row};
+use soc_search::answer_of;
 use soc_store::Store;
 use std::alloc::Global;
 use std::marker::Brand;
@@ -21,9 +21,6 @@ const MOST_ROWS: u64 = 1_048_576;
 
 /// How many rows are made at once, and then put.
 const ROWS_AT_ONCE: u64 = 1024;
-
-/// How often each query is answered.
-const TIMES: u64 = 200;
 
 /// A query: what it is called, and its pairs.
 struct Asked {
@@ -47,7 +44,7 @@ const QUERIES: [Asked; 6] = [
     },
     Asked {
         name: "uuid=",
-        pairs: &[("uuid", "00000007-0000-4000-8000-000000160918")],
+        pairs: &[("uuid", "538453d7-0000-4000-8000-000000160918")],
     },
     Asked {
         name: "product=!Firefox, newest 100",
@@ -63,9 +60,22 @@ const QUERIES: [Asked; 6] = [
     },
 ];
 
+/// A query that is answered. It counts the rows that it asks for.
+#[derive(Drop)]
+struct Answers<'a> {
+    store: &'a Store,
+    query: &'a Query,
+}
+
+impl Work for Answers<'_> {
+    fn once(&mut self, alloc: Global) -> Result<u64, Fault> {
+        answered::<Brand>(alloc, self.store, self.query, Blank::new(1))
+    }
+}
+
 /// Puts so many made rows into a store, and answers each query.
-pub fn run(
-    rt: &(impl CpuClock + Print + Eprint + AllocGlobal),
+pub fn run<R: CpuClock + Print + Eprint + AllocGlobal>(
+    rt: &R,
     words: &[String],
 ) -> Result<(), Fault> {
     let [count] = words else {
@@ -73,17 +83,30 @@ pub fn run(
     };
     let count = number_up_to(count, MOST_ROWS)?;
     let mut store = Store::new(rt.alloc());
+    fill(rt, &mut store, count)?;
+    for asked in &QUERIES {
+        time_query(rt, &store, asked)?;
+    }
+    Ok(())
+}
+
+/// Puts rows, and says how long that took.
+fn fill<R: CpuClock + Print + Eprint + AllocGlobal>(
+    rt: &R,
+    store: &mut Store,
+    count: u64,
+) -> Result<(), Fault>
+    requires { count ≤ 1048576 }
+{
     let mut took = Duration::ZERO;
     for part in 0..count / ROWS_AT_ONCE + 1 {
         let first = part * ROWS_AT_ONCE;
         let end = count.min(first + ROWS_AT_ONCE);
-        took = took.saturating_add(put_rows(rt, &mut store, first, end)?);
+        took = took.saturating_add(put_rows(rt, store, first, end)?);
     }
+    let each = took.as_nanos() / u128::from(count.max(1));
     println!(rt; "search: {count} rows")?;
-    eprintln!(rt; "search: put {} ns", nanoseconds_each(count, took))?;
-    for asked in &QUERIES {
-        time_query(rt, &store, asked)?;
-    }
+    eprintln!(rt; "search: put {each} ns")?;
     Ok(())
 }
 
@@ -101,35 +124,28 @@ fn put_rows(
     for number in first..end {
         rows.push(made_row(alloc, number)?)?;
     }
-    let stopwatch = Stopwatch::start(rt)?;
+    let start = rt.process_cpu_time()?;
     let mut place = first as u32;
     for row in rows {
         if store.put(alloc, place, row).is_err() {
-            return Err(Fault::NoMemory);
+            return Err(Fault::from("out of memory"));
         }
         place = place.wrapping_add(1);
     }
-    Ok(stopwatch.elapsed(rt)?)
+    Ok(rt.process_cpu_time()?.saturating_sub(start))
 }
 
-/// Answers a query a number of times.
-fn time_query(
-    rt: &(impl CpuClock + Print + Eprint + AllocGlobal),
+fn time_query<R: CpuClock + Print + Eprint + AllocGlobal>(
+    rt: &R,
     store: &Store,
     asked: &Asked,
 ) -> Result<(), Fault> {
-    let name = asked.name;
-    let query = query_of(rt.alloc(), asked.pairs)?;
-    let stopwatch = Stopwatch::start(rt)?;
-    let total = answered::<Brand>(rt.alloc(), store, &query, Blank::new(1))?;
-    let each = nanoseconds_each(TIMES, stopwatch.elapsed(rt)?);
-    println!(rt; "search: {name}: {total} rows")?;
-    eprintln!(rt; "search: {name}: {each} ns")?;
-    Ok(())
+    let query = &query_of(rt.alloc(), asked.pairs)?;
+    time(rt, asked.name, "answers", 1, &mut Answers { store, query })
 }
 
 /// A query that asks for everything, with these pairs.
-pub fn query_of(alloc: Global, list: &[(&str, &str)]) -> Result<Query, Fault> {
+fn query_of(alloc: Global, list: &[(&str, &str)]) -> Result<Query, Fault> {
     let mut pairs = Pairs::new(alloc);
     for (name, value) in list {
         pairs.push(Text::of(alloc, name)?, Text::of(alloc, value)?)?;
@@ -138,27 +154,20 @@ pub fn query_of(alloc: Global, list: &[(&str, &str)]) -> Result<Query, Fault> {
         permissions: Permissions::public(),
         products: Products::All,
     };
-    match Query::read(alloc, &pairs, caller) {
-        Ok(query) => Ok(query),
-        Err(error) => Err(Fault::NoQuery(error)),
-    }
+    Ok(Query::read(alloc, &pairs, caller)?)
 }
 
-/// How many rows a query asks for, which is answered a number of times.
+/// How many rows a query asks for.
 fn answered<L: Ledger>(
     alloc: Global,
     store: &Store,
     query: &Query,
     blank: Blank,
-) -> Result<u64, NoMemory>
+) -> Result<u64, Fault>
     requires name { blank.name ≡ L.name }
     requires parts { blank.parts ≡ L.parts }
     requires some { 0 < blank.parts }
-    ensures { IfOk result (λ total. total ≡ (answer_of query.now store.now).total) }
 {
     let mut steps: Steps<L> = Steps::new(blank);
-    for _time in 1..TIMES {
-        let _answer = answer_of(alloc, store, query, &mut steps)?;
-    }
     Ok(answer_of(alloc, store, query, &mut steps)?.total)
 }

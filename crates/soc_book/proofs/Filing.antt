@@ -4,12 +4,13 @@ use Rattle.std.specs.Prelude.{bytes_eq, slice_get}
 use Rattle.std.specs.List.{AllByRecursion, find}
 use Rattle.std.specs.Option.{option_map_or, option_and_then}
 use Rattle.std.proofs.lemmas.Option.{IfSome_then}
+use Rattle.soc_base.proofs.Folk.{or_true, none_is_not_some}
 use Rattle.soc_raw.specs.Record.{Crash, IsCrash}
 use Rattle.soc_journal.specs.Entries.{Entry}
 use Rattle.soc_ledger.specs.declared.crash.Filed.{Filed}
 use Rattle.soc_ledger.specs.State.{LedgerState, id_of}
 use Rattle.soc_ledger.specs.Events.{is_among}
-use Rattle.soc_ledger.proofs.Lists.{AreDistinct, none_is_not_some, true_is_not_false, turned, itself}
+use Rattle.soc_ledger.proofs.Lists.{AreDistinct, true_is_not_false, turned, itself}
 use Rattle.soc_vault.specs.Vaults.{IsAt}
 use Rattle.soc_desk.specs.Log.{Change, Accepted, accepted_of, raw_of}
 use Rattle.soc_desk.proofs.Logs.{has_id, IsApart}
@@ -132,10 +133,6 @@ id_in-last (x ∷ xs) f = id_in-last xs f
 
 pub id_of-last : (filed : List Filed) (f : Filed) (ledger' : LedgerState) → ledger'.crashes ≡ filed ++ f ∷ [] → id_of ledger' (length filed) ≡ f.id
 id_of-last filed f ledger' new = ap (λ (fs : List Filed). option_map_or (λ (c : Filed). c.id) (slice_get fs (length filed)) []) new ∙ id_in-last filed f
-
-or_true : (b : Bool) → (b || true) ≡ true
-or_true true = refl
-or_true false = refl
 
 -- an id among those of crashes
 pub among_ids : (filed : List Filed) (number : ℕ) → number < length filed → is_among (map (λ (f : Filed). f.id) filed) (option_map_or (λ (c : Filed). c.id) (slice_get filed number) []) ≡ true

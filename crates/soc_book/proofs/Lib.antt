@@ -27,3 +27,4 @@ pub mod Submitting
 pub mod Tellings
 pub mod Turnings
 pub mod Views
+pub mod Crossing

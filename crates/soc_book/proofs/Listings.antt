@@ -10,7 +10,7 @@ use Rattle.std.specs.declared.cmp.Ordering.TheVariants.{Less, Equal, Greater}
 use Rattle.std.proofs.lemmas.Bool.{cases_lt, eq-eqb, ne_eqb, lt-ltb, le-ltb}
 use Rattle.std.proofs.lemmas.List.Elements.{filter_map-append}
 use Rattle.std.proofs.lemmas.Slice.Eq.{bytes_eq-Decides}
-use Rattle.soc_raw.specs.Names.{value_of, with_value}
+use Rattle.soc_base.specs.Names.{value_of, with_value}
 use Rattle.soc_raw.specs.Record.{Crash, IsCrash}
 use Rattle.soc_schema.specs.declared.caller.Caller.{Caller}
 use Rattle.soc_schema.specs.declared.value.Cell.{Cell}
@@ -19,13 +19,14 @@ use Rattle.soc_schema.specs.Fields.{field_entry, field_table, permission_of, uui
 use Rattle.soc_schema.specs.Permits.{Granted, granted_cells, shows}
 use Rattle.soc_schema.specs.Reports.{TellsCrash, product_of}
 use Rattle.soc_schema.specs.Rows.{value_of as cell_value}
-use Rattle.soc_store.specs.Stored.{PlacesRise, row_at, text_of, product_of as row_product}
+use Rattle.soc_schema.specs.Values.{text_of, product_of as row_product}
+use Rattle.soc_store.specs.Stored.{PlacesRise, row_at}
 use Rattle.soc_ledger.specs.declared.crash.Filed.{Filed}
 use Rattle.soc_ledger.specs.Events.{is_held}
-use Rattle.soc_query.specs.Seen.{seen_rows, HaveOwnIds, ListTheSame}
-use Rattle.soc_tops.specs.Seen.{HaveOwnIds as TopsHaveOwnIds}
-use Rattle.soc_tops.proofs.SeenLemmas.{In, in_at, at_in, all_in, all_from, Differs, Own, value_seen, public}
-use Rattle.soc_tops.proofs.OrderLemmas.{less_from}
+use Rattle.soc_search.specs.Seen.{seen_rows, HaveOwnIds, ListTheSame}
+use Rattle.soc_search.proofs.ListedLemmas.{In, in_at, at_in, all_in, all_from, Differs, Own}
+use Rattle.soc_search.proofs.OrderLemmas.{less_from}
+use Rattle.soc_search.proofs.SeenLemmas.{value_seen, public}
 use Rattle.soc_desk.specs.Basis.{Basis, RowsTell}
 use Rattle.soc_desk.specs.Log.{Change, Accepted, accept, ask, withdraw, report, keep, done, stop, accepted_in, accepted_of, events, raw_of, row_in, AreSoundBack, IsLegal}
 use Rattle.soc_desk.specs.View.{Seen, View, view_of, rows_in}
@@ -388,16 +389,10 @@ own_rows (s ∷ ss) own = (each ss own.0, own_rows ss own.1)
     each [] all = tt
     each (t ∷ ts) all = (all.0, each ts all.1)
 
-tops_own_rows : (rows : List (ℕ × List Cell)) → HaveOwnIds rows → TopsHaveOwnIds rows
-tops_own_rows [] own = tt
-tops_own_rows (s ∷ ss) own = (own.0, tops_own_rows ss own.1)
-
 -- the rows of a store that a caller may see and those of the caller's view are the same
 pub record AreSame (rows others : List (ℕ × List Cell)) : Type 0 where
   pub own : HaveOwnIds rows
   pub other_own : HaveOwnIds others
-  pub tops_own : TopsHaveOwnIds rows
-  pub other_tops_own : TopsHaveOwnIds others
   pub lists : ListTheSame rows others
 
 contained : (xs ys : List (List Cell)) → ((x : List Cell) → In x xs → In x ys) → (x : List Cell) → Contains xs x → Contains ys x
@@ -422,8 +417,6 @@ same_rows basis tells log caller rows legal is_told stored =
     record {
       own = own_seen;
       other_own = own_viewed;
-      tops_own = tops_own_rows (seen_rows caller rows) own_seen;
-      other_tops_own = tops_own_rows (rows_in (view_of basis log caller)) own_viewed;
       lists = λ x. (
         (λ c. subst (λ l. Contains l x) (sym viewed) (contained crashes V lists.back x (subst (λ l. Contains l x) seen c))),
         (λ c. subst (λ l. Contains l x) (sym seen) (contained V crashes lists.to x (subst (λ l. Contains l x) viewed c))),

@@ -3,7 +3,8 @@ use Rattle.std.proofs.Common.{◌≡◌, ℕ, zero, suc, ◌<◌, Bool, true, fa
 use Rattle.std.specs.Prelude.{is_some, slice_get, Ok, Err, if◌then◌else◌}
 use Rattle.std.specs.List.{AllByRecursion}
 use Rattle.std.specs.Option.{option_map, option_map_or, option_and_then}
-use Rattle.soc_raw.specs.Names.{value_of}
+use Rattle.soc_base.proofs.Folk.{some-injective}
+use Rattle.soc_base.specs.Names.{value_of}
 use Rattle.soc_raw.specs.Record.{Crash}
 use Rattle.soc_schema.specs.declared.caller.Caller.{Caller}
 use Rattle.soc_schema.specs.declared.value.Cell.{Cell}
@@ -60,14 +61,11 @@ filed_ids entries [] (f ∷ fs) are = absurd are
 filed_ids entries (crash ∷ crashes) [] are = absurd are
 filed_ids entries (crash ∷ crashes) (f ∷ fs) are = ap (λ id. id ∷ map (λ g. g.id) fs) are.0.id ∙ ap (λ ids. crash.id ∷ ids) (filed_ids entries crashes fs are.1)
 
-some_same : {A : Type 0} {x y : A} → Some x ≡ Some y → x ≡ y
-some_same e = cc
-
 pub all_at : {A : Type 0} (P : A → Type 0) (xs : List A) (i : ℕ) (x : A) → AllByRecursion P xs → slice_get xs i ≡ Some x → P x
 all_at P [] i x all is = absurd (none_some is) where
   none_some : None ≡ Some x → ⊥
   none_some e = cc
-all_at P (y ∷ ys) zero x all is = subst P (some_same is) all.0
+all_at P (y ∷ ys) zero x all is = subst P (some-injective is) all.0
 all_at P (y ∷ ys) (suc i) x all is = all_at P ys i x all.1 is
 
 -- ---- what is told of it

@@ -3,7 +3,7 @@ use Rattle.std.proofs.Common.{◌≡◌, ℕ, Bool, true, false, not, ◌&&◌, 
 use Rattle.std.specs.Prelude.{is_some, filter, Result, Ok, Err, if◌then◌else◌}
 use Rattle.std.specs.List.{AllByRecursion}
 use Rattle.std.specs.Option.{option_map, option_map_or, option_and_then}
-use Rattle.soc_raw.specs.Names.{value_of}
+use Rattle.soc_base.specs.Names.{value_of}
 use Rattle.soc_raw.specs.RawCrash.{crash_of}
 use Rattle.soc_raw.specs.Record.{Crash}
 use Rattle.soc_raw.specs.declared.raw_crash.RawCrash.{RawCrash}

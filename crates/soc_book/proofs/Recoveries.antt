@@ -3,7 +3,8 @@ use Rattle.std.proofs.Common.{◌≡◌, ℕ, zero, suc, ◌+◌, ◌<◌, ◌�
 use Rattle.std.specs.Prelude.{is_some, is_err, slice_get, if◌then◌else◌, Result, Ok, Err, OnOk}
 use Rattle.std.specs.Option.{option_and_then, option_map, option_map_or}
 use Rattle.std.proofs.lemmas.List.{append-nil, length-map, map-append}
-use Rattle.soc_raw.specs.declared.no_memory.NoMemory.{NoMemory}
+use Rattle.soc_base.proofs.Folk.{none_is_not_some, some-injective}
+use Rattle.soc_base.specs.declared.no_memory.NoMemory.{NoMemory}
 use Rattle.soc_raw.specs.CrashId.{IsId}
 use Rattle.soc_raw.specs.Record.{Crash, IsCrash, record_of}
 use Rattle.soc_raw.proofs.Records.{same_crash}
@@ -19,7 +20,7 @@ use Rattle.soc_ledger.specs.Due.{is_due}
 use Rattle.soc_ledger.specs.Events.{is_held, was_accepted}
 use Rattle.soc_ledger.specs.Legal.{IsLegalNext}
 use Rattle.soc_ledger.specs.State.{LedgerState, id_of, with_event}
-use Rattle.soc_ledger.proofs.Lists.{none_is_not_some, some-injective, true_is_not_false}
+use Rattle.soc_ledger.proofs.Lists.{true_is_not_false}
 use Rattle.soc_ledger.proofs.Logs.{not_true}
 use Rattle.soc_store.specs.Stored.{with_row}
 use Rattle.soc_vault.specs.Openings.{place_from}

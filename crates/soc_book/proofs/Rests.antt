@@ -4,11 +4,12 @@ use Rattle.std.specs.Prelude.{bytes_eq, slice_get, filter}
 use Rattle.std.specs.List.{AllByRecursion}
 use Rattle.std.proofs.lemmas.List.{append-nil, drop_all}
 use Rattle.std.proofs.lemmas.List.Elements.{filter_map-append}
+use Rattle.soc_base.proofs.Folk.{or_true, none_is_not_some, some-injective}
 use Rattle.soc_ledger.specs.declared.crash.Standing.{Standing}
 use Rattle.soc_ledger.specs.declared.event.Event.{Event}
 use Rattle.soc_ledger.specs.declared.event.Event.TheVariants as E
 use Rattle.soc_ledger.specs.Events.{accepted_in, accepted_ids, held_ids, is_among, is_held, was_withdrawn}
-use Rattle.soc_ledger.proofs.Lists.{AreDistinct, filter-filter, filter-on, itself, none_is_not_some, some-injective}
+use Rattle.soc_ledger.proofs.Lists.{AreDistinct, filter-filter, filter-on, itself}
 use Rattle.soc_ledger.proofs.Whole.{standing_others}
 use Rattle.soc_desk.specs.Keeps.{is_to_keep}
 use Rattle.soc_desk.proofs.Logs.{held_plain, none_passes}
@@ -72,10 +73,6 @@ module _ (log : List Event) (number : ℕ) (id : List ℕ) (at : slice_get (acce
       (all_same (λ x. bytes_eq x id ≡ false) (λ x. is_wanted later x ≡ is_wanted log x) wanted_same (drop (number + 1) (accepted_ids log)) (behind_differ (accepted_ids log) number id distinct at))
 
 -- ---- all of them
-
-or_true : (b : Bool) → (b || true) ≡ true
-or_true true = refl
-or_true false = refl
 
 all_among : (ids xs : List (List ℕ)) → ((x : List ℕ) → is_among xs x ≡ true → is_among ids x ≡ true) → AllByRecursion (λ x. is_among ids x ≡ true) xs
 all_among ids [] among = tt

@@ -13,10 +13,9 @@ use Rattle.soc_store.specs.Stored.{row_at}
 use Rattle.soc_query.specs.declared.answer.Answer.{Answer}
 use Rattle.soc_query.specs.Answers.{answer_of, columns_of, facet_of, matching_rows}
 use Rattle.soc_query.specs.Queries.{AreGranted, Asked}
-use Rattle.soc_query.specs.Seen.{HaveOwnIds, ListTheSame, seen_rows}
+use Rattle.soc_search.specs.Seen.{HaveOwnIds, ListTheSame, seen_rows}
 use Rattle.soc_tops.specs.declared.query.TopsQuery.{TopsQuery}
 use Rattle.soc_tops.specs.declared.tops.Tops.{Tops}
-use Rattle.soc_tops.specs.Seen.{HaveOwnIds as TopsHaveOwnIds, ListTheSame as TopsListTheSame, seen_rows as tops_seen_rows}
 use Rattle.soc_tops.specs.Tops.{tops_of}
 use Rattle.soc_edge.specs.Disk.{DiskTold, Looks}
 use Rattle.soc_journal.specs.States.{JournalState}
@@ -119,13 +118,13 @@ module _ (basis : Basis) (limits : Limits) (ledger : LedgerState) (rows : List (
       stays basis limits ledger rows pending journal disk state stands disk' looks (C.Tops q) (R.Refused F.NoMemory) (refl, tt) (refl, refl) (λ never. absurd never) (λ never. absurd never) (λ is_told. inr (refl, refl))
 
   pub tops_found : (q : TopsQuery) (tops : Tops) → RowsTell basis
-      → ((some : List (ℕ × List Cell)) → tops_of q (tops_seen_rows q.caller some) ≡ tops_of q some)
-      → ((some others : List (ℕ × List Cell)) → TopsHaveOwnIds some → TopsHaveOwnIds others → TopsListTheSame some others → tops_of q some ≡ tops_of q others)
+      → ((some : List (ℕ × List Cell)) → tops_of q (seen_rows q.caller some) ≡ tops_of q some)
+      → ((some others : List (ℕ × List Cell)) → HaveOwnIds some → HaveOwnIds others → ListTheSame some others → tops_of q some ≡ tops_of q others)
       → tops ≡ tops_of q rows → Does basis state disk (C.Tops q) (R.Tops tops) state disk'
   tops_found q tops tells by_seen in_any_order is =
       stays basis limits ledger rows pending journal disk state stands disk' looks (C.Tops q) (R.Tops tops) (refl, tt) (refl, refl) (λ never. absurd never) (λ never. absurd never)
       (λ is_told.
       let same : AreSame (seen_rows q.caller rows) (rows_in (view_of basis state.log q.caller)) = rows_same tells q.caller is_told in
       let viewed : tops_of q (rows_in (view_of basis state.log q.caller)) ≡ tops =
-      sym (in_any_order (seen_rows q.caller rows) (rows_in (view_of basis state.log q.caller)) same.tops_own same.other_tops_own same.lists) ∙ (by_seen rows ∙ sym is) in
+      sym (in_any_order (seen_rows q.caller rows) (rows_in (view_of basis state.log q.caller)) same.own same.other_own same.lists) ∙ (by_seen rows ∙ sym is) in
       inl (ap (λ t. Some (R.Tops t)) viewed, refl))

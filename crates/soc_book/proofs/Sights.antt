@@ -3,7 +3,7 @@ use Rattle.std.proofs.Common.{◌≡◌, ◌⊎◌, inl, inr, ℕ, ◌<◌, Bool
 use Rattle.std.specs.Prelude.{bytes_eq, is_some, slice_get, if◌then◌else◌}
 use Rattle.std.specs.List.{AllByRecursion, find}
 use Rattle.std.specs.Option.{option_map, option_and_then}
-use Rattle.soc_raw.specs.Names.{value_of}
+use Rattle.soc_base.specs.Names.{value_of}
 use Rattle.soc_raw.specs.Record.{Crash}
 use Rattle.soc_schema.specs.declared.caller.Caller.{Caller}
 use Rattle.soc_schema.specs.declared.value.Cell.{Cell}

@@ -240,10 +240,6 @@ due_by ledger id number filed standing due known at is test =
     let own : id ≡ filed.id = sym known.id_is ∙ ap (λ o. option_map_or (λ f. f.id) o []) at in
     ap (λ x. is_some (due_since ledger.log x)) own ∙ (ap (λ s. is_some s.due_since) (sym is) ∙ test)
 
-pub none_listed : {A : Type 0} (xs : List A) → length xs ≡ 0 → xs ≡ []
-none_listed [] none = refl
-none_listed (x ∷ xs) none = absurd (omega (arith, none))
-
 pub listed_some : {A : Type 0} (xs : List A) (x : A) → slice_get xs 0 ≡ Some x → 0 < length xs
 listed_some xs x is = within_get 0 xs x is
 

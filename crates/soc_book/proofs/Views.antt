@@ -4,7 +4,7 @@ use Rattle.std.specs.Prelude.{bytes_eq, filter_map}
 use Rattle.std.specs.List.{AllByRecursion, cons_option, find}
 use Rattle.std.specs.Option.{option_map, option_and_then}
 use Rattle.std.proofs.lemmas.Slice.Eq.{bytes_eq-Decides}
-use Rattle.soc_raw.specs.Names.{value_of}
+use Rattle.soc_base.specs.Names.{value_of}
 use Rattle.soc_raw.specs.Record.{Crash}
 use Rattle.soc_schema.specs.declared.caller.Caller.{Caller}
 use Rattle.soc_schema.specs.declared.value.Cell.{Cell}

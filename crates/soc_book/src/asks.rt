@@ -14,10 +14,11 @@ ghost use Rattle.soc_book.specs.inner.Stands.{Stands};
 
 use crate::book::{Book, Change, check};
 use crate::prepared::{ask_text, withdrawal_text};
+use soc_base::NoMemory;
 use soc_desk::{Command, Refusal, Reply};
 use soc_edge::Disk;
 use soc_journal::EntryText;
-use soc_raw::{CrashId, NoMemory};
+use soc_raw::CrashId;
 use soc_schema::{Caller, Permission, Reporter};
 
 impl<'a, D: Disk, R: Reporter> Book<'a, D, R> {

@@ -393,7 +393,7 @@ fn push(ledger: &mut Ledger, store: &mut Store, change: Change, place: u64)
     ensures { Pushes ledger.old store.old change place ledger.new store.new }
 {
     match change {
-        Change::Accept(new) => ledger.accept(new.filed(place)),
+        Change::Accept(new) => ledger.accept(new.filed(place, store)),
         Change::Ask(number) => ledger.ask(number),
         Change::Withdraw(number) => {
             let _ = store.take(number);

@@ -15,11 +15,11 @@ ghost use Rattle.soc_book.specs.inner.Stands.{FitsHeld, IsPending, Stands};
 
 use crate::book::{Book, Change, make_room};
 use crate::report::{HEAD, report_text, tells};
+use soc_base::NoMemory;
 use soc_desk::{Refusal, Reply};
 use soc_edge::{Disk, Steps};
 use soc_journal::{EntryText, MAX_BODY};
 use soc_ledger::Filed;
-use soc_raw::NoMemory;
 use soc_schema::Reporter;
 use soc_store::Store;
 use std::alloc::Global;

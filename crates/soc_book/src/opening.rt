@@ -21,13 +21,14 @@ ghost use Rattle.soc_book.specs.inner.Recoveries.{IsRowOf, NoCrashOf, NoHeldOf, 
 ghost use Rattle.soc_book.specs.inner.Stands.{Stands};
 
 use crate::book::Book;
-use crate::report::{Report, tells};
+use crate::report::{Report, tells, with_product};
 use crate::submission::NewCrash;
+use soc_base::NoMemory;
 use soc_desk::Limits;
 use soc_edge::Disk;
 use soc_journal::{ACCEPT, ASK, Journal, OpenError, REPORT, WITHDRAW};
 use soc_ledger::Ledger;
-use soc_raw::{CrashId, NoMemory, RawCrash, RecordError};
+use soc_raw::{CrashId, RawCrash, RecordError};
 use soc_schema::{Reporter, Row};
 use soc_store::Store;
 use soc_vault::{Found, Recover, Vault};
@@ -223,7 +224,7 @@ impl Recovery {
             return Err(RecordError::BadRecord);
         }
         let new = NewCrash::of(alloc, &raw, body)?;
-        self.ledger.accept(new.filed(place));
+        self.ledger.accept(new.filed(place, &self.store));
         Ok(())
     }
 
@@ -264,7 +265,8 @@ impl Recovery {
         }
         let own = is_own(&self.own, report.digest);
         let counts = own && self.is_due(number);
-        put_row(&mut self.store, alloc, number, report.row, counts)?;
+        let row = with_product(report.row, &self.ledger.crash(number).filed.product);
+        put_row(&mut self.store, alloc, number, row, counts)?;
         self.ledger.report(number, own);
         Ok(())
     }

@@ -4,9 +4,10 @@ ghost use Rattle.soc_desk.specs.Log.{ask as ask_change, withdraw as withdraw_cha
 ghost use Rattle.soc_desk.specs.State.{entry_of};
 
 use crate::submission::Submission;
+use soc_base::NoMemory;
 use soc_desk::Command;
 use soc_journal::{ASK, EntryText, WITHDRAW};
-use soc_raw::{CrashId, NoMemory, RawCrash};
+use soc_raw::{CrashId, RawCrash};
 use soc_schema::Caller;
 use std::alloc::Global;
 use std::marker::Model;

@@ -14,13 +14,18 @@ ghost use Rattle.soc_book.specs.inner.Does.{Does};
 ghost use Rattle.soc_book.specs.inner.Stands.{Stands};
 
 use crate::book::{Book, check, reply_of};
+use soc_base::{Bytes, NoMemory, Text, Texts};
 use soc_desk::{Command, Refusal, Reply};
 use soc_edge::{Disk, Steps};
-use soc_query::{Answer, Query, answer_of, answers_by_what_is_seen, answers_in_any_order};
-use soc_raw::{Bytes, CrashId, NoMemory, Text, Texts};
+use soc_query::{Answer, Query};
+use soc_raw::CrashId;
 use soc_schema::{Caller, Field, Permission, Reporter, Row};
+use soc_search::{
+    answer_of, answers_by_what_is_seen, answers_in_any_order, tops_by_what_is_seen,
+    tops_in_any_order, tops_of,
+};
 use soc_store::Store;
-use soc_tops::{Tops, TopsQuery, tops_by_what_is_seen, tops_in_any_order, tops_of};
+use soc_tops::{Tops, TopsQuery};
 use std::alloc::Global;
 use std::marker::Brand;
 use std::sync::ledger::{Blank, Ledger};

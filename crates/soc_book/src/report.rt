@@ -11,8 +11,9 @@ ghost use Rattle.soc_desk.specs.State.{body_of, entry_of};
 ghost use Rattle.soc_schema.specs.Fields.{product_field};
 ghost use Rattle.soc_book.specs.inner.Books.{IsReport, IsRowFor, made_of};
 
+use soc_base::{Bytes, NoMemory, SharedText};
 use soc_journal::{EntryText, REPORT};
-use soc_raw::{Bytes, CrashId, NoMemory, RecordError, Text};
+use soc_raw::{CrashId, RecordError};
 use soc_schema::{Field, Row, Value};
 use std::alloc::Global;
 
@@ -84,14 +85,24 @@ fn report_body(alloc: Global, id: CrashId, digest: &[u8; 32], row: &Row) -> Resu
 }
 
 /// Whether a row has an id as `uuid`, and a product as `product` or none where there is none.
-pub(crate) fn tells(row: &Row, id: CrashId, product: &Option<Text>) -> bool
+pub(crate) fn tells(row: &Row, id: CrashId, product: &Option<SharedText>) -> bool
     ensures { IsTrue result ↔ IsRowFor id product.now row.now }
 {
     has_text(row, Field::UUID, Some(id.as_str())) && has_product(row, product)
 }
 
+/// The row, whose product shares the memory of this one where it is the same.
+pub(crate) fn with_product(mut row: Row, product: &Option<SharedText>) -> Row
+    ensures { result ≡ row }
+{
+    if let Some(product) = product {
+        row.unite(Field::PRODUCT, product);
+    }
+    row
+}
+
 /// Whether a row has this product, or none where there is none.
-fn has_product(row: &Row, product: &Option<Text>) -> bool
+fn has_product(row: &Row, product: &Option<SharedText>) -> bool
     ensures { IsTrue result ↔ (value_of row.now product_field ≡ option_map TextValue product.now) }
 {
     match product {

@@ -8,10 +8,12 @@ ghost use Rattle.soc_schema.specs.Reports.{product_of};
 ghost use Rattle.soc_book.specs.inner.Books.{Tells, IsSubmissionOf};
 
 use sha2::{Digest, Sha256};
+use soc_base::{NoMemory, SharedText};
 use soc_journal::{ENTRY_HEAD, EntryText};
 use soc_ledger::Filed;
-use soc_raw::{CrashId, NoMemory, RawCrash, Text};
-use soc_schema::product_of;
+use soc_raw::{CrashId, RawCrash};
+use soc_schema::{Field, product_of};
+use soc_store::Store;
 use std::alloc::Global;
 
 /// What a book keeps in memory of a crash that has no place yet.
@@ -20,7 +22,7 @@ pub(crate) struct NewCrash {
     pub(crate) id: CrashId,
     /// Where the content begins in the record.
     pub(crate) content: u64,
-    pub(crate) product: Option<Text>,
+    pub(crate) product: Option<SharedText>,
     /// The SHA-256 of the content.
     pub(crate) digest: [u8; 32],
 }
@@ -42,8 +44,8 @@ impl NewCrash {
         })
     }
 
-    /// The same once its entry stands at a place of the journal.
-    pub(crate) fn filed(self, place: u64) -> Filed
+    /// The same once its entry stands at a place of the journal. Its product is shared with the rows that have it.
+    pub(crate) fn filed(self, place: u64, store: &Store) -> Filed
         ensures id { result.id ≡ self.id }
         ensures place { result.place ≡ place }
         ensures content { place + head_size + self.content < 2 ^ 64 → result.content ≡ place + (head_size + self.content) }
@@ -62,18 +64,27 @@ impl NewCrash {
             content: place
                 .saturating_add(ENTRY_HEAD as u64)
                 .saturating_add(content),
-            product,
+            product: in_rows(product, store),
             digest,
         }
     }
 }
 
+/// The same product, in the memory of the rows that have it.
+fn in_rows(product: Option<SharedText>, store: &Store) -> Option<SharedText>
+    ensures { result ≡ product }
+{
+    let mut product = product?;
+    store.unite(Field::PRODUCT, &mut product);
+    Some(product)
+}
+
 /// A raw crash's product, in memory of its own.
-fn product_copy(alloc: Global, raw: &RawCrash) -> Result<Option<Text>, NoMemory>
+fn product_copy(alloc: Global, raw: &RawCrash) -> Result<Option<SharedText>, NoMemory>
     ensures { IfOk result (λ product. product ≡ product_of (crash_of raw.now)) }
 {
     match product_of(raw) {
-        Some(product) => Ok(Some(Text::of(alloc, product)?)),
+        Some(product) => Ok(Some(SharedText::of(alloc, product)?)),
         None => Ok(None),
     }
 }

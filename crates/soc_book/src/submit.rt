@@ -14,9 +14,10 @@ ghost use Rattle.soc_book.specs.inner.Stands.{Stands};
 
 use crate::book::{Book, Change, reply_of};
 use crate::submission::Submission;
+use soc_base::NoMemory;
 use soc_desk::{Command, Refusal, Reply};
 use soc_edge::Disk;
-use soc_raw::{CrashId, Digit, NoMemory, RawCrash};
+use soc_raw::{CrashId, Digit, RawCrash};
 use soc_schema::Reporter;
 
 impl<'a, D: Disk, R: Reporter> Book<'a, D, R> {

@@ -18,6 +18,7 @@ ghost use Rattle.soc_book.specs.inner.Stands.{Stands};
 ghost use Rattle.soc_book.specs.inner.Turns.{TurnsTo};
 
 use crate::book::{Book, check, make_room, reply_of};
+use crate::report::with_product;
 use soc_desk::{Command, Refusal, Reply};
 use soc_edge::Disk;
 use soc_raw::CrashId;
@@ -213,6 +214,7 @@ impl<'a, D: Disk, R: Reporter> Book<'a, D, R> {
             (λ refusal. (refusal ≡ Refusal.NoMemory) × Stands basis self.new.limits self.new.ledger self.new.store self.new.doubt self.new.vault.journal (D.state self.new.vault.disk.now) state) }
     {
         make_room(&mut self.ledger)?;
+        let row = with_product(row, &self.ledger.crash(number).filed.product);
         let Ok(()) = self.store.put(self.alloc, number, row) else {
             return Err(Refusal::NoMemory);
         };

@@ -6,8 +6,8 @@ ghost use Rattle.soc_cases.specs.Keys as spec;
 
 use crate::fault::Fault;
 use hex::{FromHex, FromHexError};
+use soc_base::{Blobs, Bytes, Text};
 use soc_edge::Numbers;
-use soc_raw::{Blobs, Bytes, Text};
 use soc_toml::{number_or, text_at, value_at};
 use std::alloc::Global;
 use toml::value::Array;

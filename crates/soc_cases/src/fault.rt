@@ -1,5 +1,5 @@
 //! Why the cases weren't played.
-use soc_raw::NoMemory;
+use soc_base::NoMemory;
 use std::alloc::{AllocError, AllocFailed};
 use std::io;
 use thiserror::Error;

@@ -4,6 +4,7 @@
 
 mod case;
 mod fault;
+mod memory;
 mod play;
 mod sweep;
 mod tell;

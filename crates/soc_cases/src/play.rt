@@ -8,12 +8,13 @@ ghost use Rattle.soc_cases.specs.Runs.{IsStopped};
 
 use crate::case::{calls_of, files_of, flag_of, ids_of, joined, number_of, words_of};
 use crate::fault::Fault;
+use crate::memory::{MemWorld, run_in_memory};
+use soc_base::Bytes;
 use soc_edge::{
-    Both, Disk, Ids16, MemClock, MemDisk, MemDraws, MemSink, MemSource, MemTree, Numbers,
+    Both, Disk, Ids16, MemClock, MemDisk, MemDraws, MemSink, MemSource, MemTree, Numbers, World,
 };
-use soc_raw::{Bytes, FIRST_MOMENT, LAST_MOMENT};
+use soc_raw::{FIRST_MOMENT, LAST_MOMENT};
 use soc_siglists::FailingMaker;
-use soc_tests::run_in_memory;
 use soc_toml::{text_at, value_at};
 use std::alloc::{AllocError, Global};
 use toml::Table;
@@ -35,20 +36,6 @@ pub struct Left {
     pub status: u8,
     pub output: MemSink,
     pub disk: MemDisk,
-}
-
-/// The files of a run, and what makes the patterns in them.
-#[derive(Drop)]
-struct Documents {
-    tree: MemTree,
-    maker: FailingMaker,
-}
-
-/// What a run is told of the time, and its draws.
-#[derive(Drop)]
-struct Chance {
-    clock: MemClock,
-    draws: MemDraws,
 }
 
 /// Plays a case behind the one before.
@@ -85,47 +72,25 @@ pub fn run(
     input: Bytes,
     disk: MemDisk,
 ) -> Result<Left, Fault> {
-    let mut disk = disk;
-    let mut streams = streams_of(alloc, case, input)?;
-    let status = run_over(alloc, words, case, &mut streams, &mut disk)?;
+    let mut world = world_of(alloc, case, input, disk)?;
+    let status = run_in_memory(alloc, words, &mut world);
     Ok(Left {
         status,
-        output: streams.sink,
-        disk,
+        output: world.streams.sink,
+        disk: world.disk,
     })
 }
 
-fn run_over(
-    alloc: Global,
-    words: &[String],
-    case: &Table,
-    streams: &mut Both<MemSource, MemSink>,
-    disk: &mut MemDisk,
-) -> Result<u8, Fault> {
-    let mut documents = documents_of(alloc, case)?;
-    let mut chance = chance_of(alloc, case)?;
-    Ok(run_in_memory(
-        alloc,
-        words,
-        &mut documents.tree,
-        streams,
+/// The world of a case.
+fn world_of(alloc: Global, case: &Table, input: Bytes, disk: MemDisk) -> Result<MemWorld, Fault> {
+    Ok(World {
+        tree: tree_of(alloc, case)?,
+        streams: streams_of(alloc, case, input)?,
         disk,
-        &mut chance.clock,
-        &mut chance.draws,
-        &mut documents.maker,
-    ))
-}
-
-fn documents_of(alloc: Global, case: &Table) -> Result<Documents, Fault> {
-    let maker = maker_of(alloc, case)?;
-    let tree = tree_of(alloc, case)?;
-    Ok(Documents { tree, maker })
-}
-
-fn chance_of(alloc: Global, case: &Table) -> Result<Chance, Fault> {
-    let clock = clock_of(alloc, case)?;
-    let draws = draws_of(alloc, case)?;
-    Ok(Chance { clock, draws })
+        clock: clock_of(alloc, case)?,
+        draws: draws_of(alloc, case)?,
+        maker: maker_of(alloc, case)?,
+    })
 }
 
 fn streams_of(alloc: Global, case: &Table, input: Bytes) -> Result<Both<MemSource, MemSink>, Fault>

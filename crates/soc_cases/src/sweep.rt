@@ -2,8 +2,8 @@
 use crate::case::{number_of, text_of};
 use crate::fault::Fault;
 use crate::play::{play_over, run};
+use soc_base::Bytes;
 use soc_edge::{MemDisk, MemSink, Numbers};
-use soc_raw::Bytes;
 use std::alloc::Global;
 use toml::Table;
 

@@ -5,7 +5,7 @@ ghost use Rattle.soc_symfile.specs.Views.{span_of};
 ghost use Rattle.soc_cfi.specs.Rules.{delta_rule, rule_of, rules_at};
 
 use crate::texts::{find_rule, with_rules};
-use soc_raw::NoMemory;
+use soc_base::NoMemory;
 use soc_symfile::CfiSpan;
 use std::alloc::Global;
 

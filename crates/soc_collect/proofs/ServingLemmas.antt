@@ -1,6 +1,7 @@
 -- A run of a desk that is watched is a run of the desk, and tells whether a receipt said stopped.
 use Rattle.std.proofs.Common.{◌≡◌, ℕ, ◌≤◌, ◌<◌, List, [], ◌∷◌, Bool, true, false, refl, sym, ap, ◌∙◌, arith, Option, Some, None}
 use Rattle.std.specs.Prelude.{◌||◌}
+use Rattle.soc_base.proofs.Folk.{or_false, or_assoc}
 use Rattle.soc_raw.specs.CrashId.{is_id}
 use Rattle.soc_desk.specs.declared.desk.Command.{Command}
 use Rattle.soc_desk.specs.declared.desk.Receipt.{Receipt}
@@ -13,14 +14,6 @@ use Rattle.soc_collect.specs.Serving.{any_stopped, no_crash}
 pub no_crash-is_id : is_id no_crash ≡ true
 unfolding is_id
 no_crash-is_id = refl
-
-or_false : (a : Bool) → (a || false) ≡ a
-or_false true = refl
-or_false false = refl
-
-or_assoc : (a b c : Bool) → ((a || b) || c) ≡ (a || (b || c))
-or_assoc true b c = refl
-or_assoc false b c = refl
 
 pub both_false : (a b s : Bool) → s ≡ (a || b) → a ≡ false → b ≡ false → s ≡ false
 both_false a b s is no_a no_b = is ∙ (ap (λ x. x || b) no_a ∙ no_b)

@@ -1,4 +1,5 @@
 pub mod Asked
+pub mod Doors
 pub mod Serving
 pub mod Tallies
 pub mod inner

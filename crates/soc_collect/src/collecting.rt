@@ -3,14 +3,16 @@ ghost use Rattle.std.specs.Prelude.{◌≡◌, ◌<◌, ◌^◌, ◌⊎◌, List
 ghost use Rattle.soc_collect.specs.Asked.{AsksAll, Step};
 ghost use Rattle.soc_collect.specs.Tallies.{nothing_served};
 
-use crate::desk::KeepingDesk;
+use crate::door::{Door, Naming};
 use crate::serving::serve_one;
+use crate::shared::{SharedClock, SharedDraws};
 use crate::tally::Tally;
+use crate::ticket::Ticket;
+use soc_desk::KeepingDesk;
 use soc_edge::{Clock, Draws};
 use soc_http::{Buffer, Routes};
 use soc_listen::Listener;
 use soc_session::Rules;
-use soc_shared::{Door, Naming, SharedClock, SharedDraws, Ticket};
 use std::alloc::Global;
 use std::sync::ledger::Ledger;
 use std::sync::{Mutex, Wait};

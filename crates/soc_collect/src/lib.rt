@@ -1,17 +1,21 @@
 //! Connections served at a desk that may stop, one or those that a shared listener hands out, and the count of what was
-//! served. The desk is any that counts what it keeps; a desk in a hall does.
+//! served; and what such threads share: a door, tickets, a clock and draws that they take turns at. The desk is any that
+//! counts what it keeps.
 #![tactic(auto)]
 
 mod collecting;
-mod desk;
-mod hall;
+mod door;
 mod serving;
+mod shared;
 mod shut;
 mod tally;
+mod ticket;
 mod watch;
 
 pub use collecting::collect;
-pub use desk::KeepingDesk;
+pub use door::{Door, Naming};
 pub use serving::serve_one;
+pub use shared::{SharedClock, SharedDraws};
 pub use shut::Shut;
 pub use tally::Tally;
+pub use ticket::Ticket;

@@ -7,11 +7,10 @@ ghost use Rattle.soc_desk.specs.declared.desk.Receipt.{Receipt};
 ghost use Rattle.soc_session.specs.Session.{around};
 ghost use Rattle.soc_collect.specs.Serving.{ServesOne, Tallied, WasPokedWhere, no_crash};
 
-use crate::desk::KeepingDesk;
 use crate::shut::Shut;
 use crate::tally::Tally;
 use crate::watch::Watched;
-use soc_desk::{Command, Desk};
+use soc_desk::{Command, Desk, KeepingDesk};
 use soc_edge::{Clock, Draws, Sink, Source};
 use soc_http::{Buffer, Routes};
 use soc_listen::Conn;

@@ -1,4 +1,4 @@
-pub mod Crossings
 pub mod Desks
 pub mod Lists
+pub mod Replaced
 pub mod Seats

@@ -40,7 +40,3 @@ module _ {X : Type 0} (xs ys : List X) (x : X) where
   -- a list to which one was added
   pub push_all : xs ≡ ys ++ x ∷ [] → (P : X → Type 0) → All P ys → P x → All P xs
   push_all is P all here = All-same P xs (ys ++ x ∷ []) is (All-push P ys x all here)
-
-pub none_long : {X : Type 0} (xs : List X) → length xs ≡ 0 → xs ≡ []
-none_long [] is = refl
-none_long (x ∷ xs) is = absurd (let never : ⊥ = omega (arith, is) in never)

@@ -5,34 +5,31 @@ use mathlib.Core.List.{append-nil}
 use Rattle.std.proofs.Math.Logic.{∥∥₁_map₂}
 use Rattle.std.proofs.lemmas.List.Elements.{All-head, All-push, All-same}
 use Rattle.std.proofs.lemmas.List.Sums.{sum_by-append, sum_by-cons}
-use Rattle.soc_hall.specs.declared.seats.HallSeat.{HallSeat}
-use Rattle.soc_hall.specs.declared.view.Known.{Known}
+use Rattle.soc_base.proofs.Folk.{some-injective}
 use Rattle.soc_hall.specs.Asked.{Closes, HasPart}
 use Rattle.soc_hall.specs.Log.{changes, pieces}
 use Rattle.soc_hall.specs.Seats.{IsNew, known_of}
 use Rattle.soc_hall.proofs.Totals.{closed_total, first_opening}
-use Rattle.soc_desk.specs.declared.desk.Command.{Command}
-use Rattle.soc_desk.specs.declared.desk.Receipt.{Receipt}
-use Rattle.soc_turns.specs.declared.change.Change.{Change}
-use Rattle.soc_turns.specs.Changes.{counts, events_in, kept_in}
+use Rattle.soc_service.specs.declared.change.Change.{Change}
+use Rattle.soc_service.specs.Changes.{counts, events_in, kept_in}
 use Rattle.soc_service.specs.Desks.{HasTurned}
-use Rattle.soc_service.specs.Turns.{Knows as Knowledge}
+use Rattle.soc_service.specs.Turns.{Knows as Knowledge, SeatOf}
 use Rattle.soc_crew.specs.Gains.{Ends, Gains}
 use Rattle.soc_crew.specs.inner.Seated.{AreSeated, Knows, kept_of}
 
-module _ {S B : Type 0} where
-  pub none_seated : (basis : B) (opening : List Change) (seats : List (HallSeat S B Change Command Receipt)) → seats ≡ [] → AreSeated basis opening 0 seats
+module _ {S A B : Type 0} where
+  pub none_seated : (basis : B) (opening : List Change) (seats : List (SeatOf S A B)) → seats ≡ [] → AreSeated basis opening 0 seats
   none_seated basis opening seats is = subst (λ l. AreSeated basis opening 0 l) (sym is) (record { each = λ k d less. absurd (let never : ⊥ = omega (arith, less) in never); kept_are = refl })
 
   -- what a seat that was new at first has kept
-  kept_since : (basis : B) (opening : List Change) (first : Knowledge B) (seat : HallSeat S B Change Command Receipt) (kept : ℕ) → IsNew basis opening first → HasTurned first (known_of seat) kept → Knows basis opening seat × (kept_of seat ≡ kept)
+  kept_since : (basis : B) (opening : List Change) (first : Knowledge A B) (seat : SeatOf S A B) (kept : ℕ) → IsNew basis opening first → HasTurned first (known_of seat) kept → Knows basis opening seat × (kept_of seat ≡ kept)
   kept_since basis opening first seat kept new turned = (
     record { basis_is = turned.basis ∙ new.0; opening_is = turned.opening ∙ new.1 },
     ap (λ ts. kept_in (events_in (pieces ts))) (turned.turns ∙ ap (λ ts. ts ++ turned.more) new.3) ∙ turned.kept_are,
   )
 
   -- one seat more
-  pub more_seated : (basis : B) (opening : List Change) (kept more : ℕ) (seats seats' : List (HallSeat S B Change Command Receipt)) (seat : HallSeat S B Change Command Receipt) (first : Knowledge B) → seats' ≡ seats ++ seat ∷ [] → IsNew basis opening first
+  pub more_seated : (basis : B) (opening : List Change) (kept more : ℕ) (seats seats' : List (SeatOf S A B)) (seat : SeatOf S A B) (first : Knowledge A B) → seats' ≡ seats ++ seat ∷ [] → IsNew basis opening first
       → AreSeated basis opening kept seats → HasTurned first (known_of seat) more → AreSeated basis opening (kept + more) seats'
   more_seated basis opening kept more seats seats' seat first is new seated turned =
       let since = kept_since basis opening first seat more new turned in
@@ -49,9 +46,6 @@ module _ {S B : Type 0} where
 
 -- ---- the closed log
 
-some-injective : {A : Type 0} {x y : A} → Some x ≡ Some y → x ≡ y
-some-injective is = cc
-
 abbrev weight : Change → ℕ
 weight change = if counts change.event then 1 else 0
 
@@ -67,21 +61,21 @@ weighs (change ∷ log) =
     let c = weighs log in
     b ∙ (ap (λ n. weight change + n) c ∙ sym a)
 
-module _ {S B : Type 0} where
-  abbrev All-known : List (HallSeat S B Change Command Receipt) → List (Knowledge B)
+module _ {S A B : Type 0} where
+  abbrev All-known : List (SeatOf S A B) → List (Knowledge A B)
   All-known seats = map (λ seat. known_of seat) seats
 
-  known_total : (seats : List (HallSeat S B Change Command Receipt)) → sum_by (λ v. sum_by weight (pieces v.turns)) (All-known seats) ≡ sum_by kept_of seats
+  known_total : (seats : List (SeatOf S A B)) → sum_by (λ v. sum_by weight (pieces v.turns)) (All-known seats) ≡ sum_by kept_of seats
   known_total [] = refl
   known_total (seat ∷ seats) =
-      let a = sum_by-cons (λ (v : Knowledge B). sum_by weight (pieces v.turns)) (known_of seat) (All-known seats) in
-      let b = sum_by-cons (λ (s : HallSeat S B Change Command Receipt). kept_of s) seat seats in
+      let a = sum_by-cons (λ (v : Knowledge A B). sum_by weight (pieces v.turns)) (known_of seat) (All-known seats) in
+      let b = sum_by-cons (λ (s : SeatOf S A B). kept_of s) seat seats in
       let c = weighs (pieces (known_of seat).turns) in
       let d = known_total seats in
       omega arith
 
   -- what the seats' turns kept together stands behind the opening
-  pub closed : (basis basis' : B) (opening log : List Change) (kept : ℕ) (seats : List (HallSeat S B Change Command Receipt)) → 0 < length seats
+  pub closed : (basis basis' : B) (opening log : List Change) (kept : ℕ) (seats : List (SeatOf S A B)) → 0 < length seats
       → AreSeated basis opening kept seats → Closes log basis' (All-known seats) → Ends opening log basis basis' kept
   closed basis basis' opening log kept [] some seated closes = absurd (let never : ⊥ = omega (arith, some) in never)
   closed basis basis' opening log kept (seat ∷ seats) some seated closes =
@@ -103,7 +97,7 @@ module _ {S B : Type 0} where
         same_basis = some-injective (sym part.basis_is ∙ own.basis_is);
       }
 
--- a book that nobody was served at
+-- a desk that nobody was served at
 pub stays_as : {A B : Type 0} {x y : A} → y ≡ x → (log : A → List Change) (basis : A → B) (kept : ℕ) → kept ≡ 0 → Ends (log x) (log y) (basis x) (basis y) kept
 stays_as is log basis kept none = record {
   gains = record { piece = []; behind = ap log is ∙ sym (append-nil _); kept_are = sym none };

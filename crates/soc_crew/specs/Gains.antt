@@ -1,7 +1,7 @@
--- What all turns of a crew together have added to the log of a shared book.
+-- What all turns of a crew together have added to the log of a shared desk.
 use Rattle.std.specs.Prelude.{◌≡◌, ℕ, List, ◌++◌}
-use Rattle.soc_turns.specs.declared.change.Change.{Change}
-use Rattle.soc_turns.specs.Changes.{events_in, kept_in}
+use Rattle.soc_service.specs.declared.change.Change.{Change}
+use Rattle.soc_service.specs.Changes.{events_in, kept_in}
 
 -- the log begins with what it was, and of what stands behind that so many changes and stops count as kept
 pub record Gains (before after : List Change) (kept : ℕ) : Type 0 where
@@ -9,7 +9,7 @@ pub record Gains (before after : List Change) (kept : ℕ) : Type 0 where
   pub behind : after ≡ before ++ piece
   pub kept_are : kept_in (events_in piece) ≡ kept
 
--- the same of a whole book, whose basis stays
+-- the same of a whole desk, whose basis stays
 pub record Ends {B : Type 0} (before after : List Change) (basis basis' : B) (kept : ℕ) : Type 0 where
   pub gains : Gains before after kept
   pub same_basis : basis' ≡ basis

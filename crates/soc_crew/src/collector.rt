@@ -3,12 +3,12 @@ ghost use Rattle.std.specs.Prelude.{◌≡◌, ◌⊎◌, ◌<◌, ◌^◌, List
 ghost use Rattle.soc_collect.specs.Asked.{AsksAll, Step};
 ghost use Rattle.soc_collect.specs.Tallies.{nothing_served};
 
-use soc_collect::{KeepingDesk, Tally, collect};
+use soc_collect::{Door, Naming, Tally, Ticket, collect};
+use soc_desk::KeepingDesk;
 use soc_edge::{Clock, Draws};
 use soc_http::{Buffer, Routes};
 use soc_listen::{Conn, Listener};
 use soc_session::Rules;
-use soc_shared::{Door, Naming, Ticket};
 use std::alloc::Global;
 use std::sync::ledger::Ledger;
 use std::sync::{Mutex, Wait};

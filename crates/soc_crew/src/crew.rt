@@ -1,4 +1,4 @@
-//! The whole crew at work, from its hall to the book that the hall leaves.
+//! The whole crew at work, from its hall to the desk that the hall leaves.
 ghost use Rattle.std.specs.Prelude.{◌≡◌, ◌⊎◌, ◌+◌, ◌≤◌, ◌<◌, ◌||◌, true, IfOk, IsErr, OnErr};
 ghost use Rattle.soc_edge.specs.Faults.{Rose};
 ghost use Rattle.soc_collect.specs.Tallies.{nothing_served};
@@ -8,17 +8,15 @@ use crate::jobs::put_due;
 use crate::leaving::{leave_collectors, leave_processors};
 use crate::stations::{Stock, collectors, processors};
 use crate::work::work;
-use soc_collect::Tally;
+use soc_base::NoMemory;
+use soc_collect::{Door, Naming, Tally, Ticket};
 use soc_edge::{Clock, Draws};
-use soc_hall::{Hall, Logged};
+use soc_hall::Hall;
 use soc_http::Routes;
 use soc_listen::Listener;
-use soc_raw::NoMemory;
 use soc_schema::Reporter;
-use soc_service::Gate;
+use soc_service::{Gate, SharedDesk};
 use soc_session::Rules;
-use soc_shared::{Door, Naming, Ticket};
-use soc_turns::{SharedBook, Telling};
 use std::alloc::Global;
 use std::marker::Brand;
 use std::snapshot::Snapshot;
@@ -35,20 +33,19 @@ pub struct Crew {
 
 /// What a crew leaves.
 #[derive(Drop)]
-pub struct CrewEnd<B, L> {
-    pub book: B,
+pub struct CrewEnd<T, L> {
+    pub desk: T,
     pub listener: L,
     /// Whether the listener has failed; `NoMemory` where memory was wanting before the first thread started.
     pub failed: Result<bool, NoMemory>,
 }
 
-/// Serves the connections of a listener at one book, by collectors and processors beside each other, until a receipt says
+/// Serves the connections of a listener at one desk, by collectors and processors beside each other, until a receipt says
 /// stopped, no further connection comes, or the listener fails. Where memory is wanting before the first thread starts, nothing
 /// is served.
 pub fn serve_together<
-    'a,
     R: Threads + Wait + Sync,
-    D: Telling + Send,
+    T: SharedDesk + Send,
     P: Reporter + Sync,
     L: Listener,
     C: Clock + Send,
@@ -58,7 +55,7 @@ pub fn serve_together<
     rt: &R,
     alloc: Global,
     crew: Crew,
-    book: SharedBook<'a, D, P>,
+    desk: T,
     reporter: &P,
     rules: &Rules,
     routes: &Routes,
@@ -67,13 +64,13 @@ pub fn serve_together<
     draws: &mut W,
     gate: &G,
     served: &mut Tally<L::Conn>,
-) -> CrewEnd<SharedBook<'a, D, P>, L>
+) -> CrewEnd<T, L>
     requires collectors { (0 < crew.collectors) × (crew.collectors ≤ 8) }
     requires processors { (0 < crew.processors) × (crew.processors ≤ 8) }
-    requires reporter { book.book.reporter.now ≡ reporter.now }
+    requires reporter { (T.desk_of (T.basis_of desk)).row_of ≡ P.row_of reporter.now }
     requires served { served.old ≡ nothing_served }
-    ensures ends { ∥ Ends (⟦<SharedBook<'a, D, P> as Logged>⟧.log_of book.entry) (⟦<SharedBook<'a, D, P> as Logged>⟧.log_of result.book)
-        (⟦<SharedBook<'a, D, P> as Logged>⟧.basis_of book.entry) (⟦<SharedBook<'a, D, P> as Logged>⟧.basis_of result.book) served.new.kept ∥₁ }
+    ensures ends { ∥ Ends (T.log_of desk) (T.log_of result.desk)
+        (T.basis_of desk) (T.basis_of result.desk) served.new.kept ∥₁ }
     ensures handed { (L.told result.listener).handed ≡ (L.told listener).handed + served.new.connections }
     ensures no_fewer { (L.told listener).faults ≤ (L.told result.listener).faults }
     ensures failed { IfOk result.failed (λ failed. failed ≡ true → Rose (L.told listener).faults (L.told result.listener).faults) }
@@ -81,11 +78,11 @@ pub fn serve_together<
     ensures unserved { OnErr result.failed (served.new ≡ nothing_served) }
 {
     let parts = crew.collectors as u64 + 1;
-    serve_with::<Brand, Brand, Brand, R, D, P, L, C, W, G>(
+    serve_with::<Brand, Brand, Brand, R, T, P, L, C, W, G>(
         rt,
         alloc,
         crew,
-        book,
+        desk,
         reporter,
         rules,
         routes,
@@ -101,12 +98,11 @@ pub fn serve_together<
 
 /// The same, with the ledgers by which the listener's counts are known, and with what it told.
 fn serve_with<
-    'a,
     N: Ledger + Send + Sync,
     M: Ledger + Send + Sync,
     J: Naming + Send + Sync,
     R: Threads + Wait + Sync,
-    D: Telling + Send,
+    T: SharedDesk + Send,
     P: Reporter + Sync,
     L: Listener,
     C: Clock + Send,
@@ -116,7 +112,7 @@ fn serve_with<
     rt: &R,
     alloc: Global,
     crew: Crew,
-    book: SharedBook<'a, D, P>,
+    desk: T,
     reporter: &P,
     rules: &Rules,
     routes: &Routes,
@@ -127,16 +123,16 @@ fn serve_with<
     served: &mut Tally<L::Conn>,
     handed: Blank,
     refused: Blank,
-) -> CrewEnd<SharedBook<'a, D, P>, L>
+) -> CrewEnd<T, L>
     requires collectors { (0 < crew.collectors) × (crew.collectors ≤ 8) }
     requires processors { (0 < crew.processors) × (crew.processors ≤ 8) }
-    requires reporter { book.book.reporter.now ≡ reporter.now }
+    requires reporter { (T.desk_of (T.basis_of desk)).row_of ≡ P.row_of reporter.now }
     requires served { served.old ≡ nothing_served }
     requires listener { L.told listener ≡ J.opened }
     requires handed { (handed.name ≡ N.name) × (handed.parts ≡ N.parts) × (handed.parts ≡ crew.collectors + 1) }
     requires refused { (refused.name ≡ M.name) × (refused.parts ≡ M.parts) × (refused.parts ≡ crew.collectors + 1) }
-    ensures ends { ∥ Ends (⟦<SharedBook<'a, D, P> as Logged>⟧.log_of book.entry) (⟦<SharedBook<'a, D, P> as Logged>⟧.log_of result.book)
-        (⟦<SharedBook<'a, D, P> as Logged>⟧.basis_of book.entry) (⟦<SharedBook<'a, D, P> as Logged>⟧.basis_of result.book) served.new.kept ∥₁ }
+    ensures ends { ∥ Ends (T.log_of desk) (T.log_of result.desk)
+        (T.basis_of desk) (T.basis_of result.desk) served.new.kept ∥₁ }
     ensures handed { (L.told result.listener).handed ≡ (L.told listener).handed + served.new.connections }
     ensures no_fewer { (L.told listener).faults ≤ (L.told result.listener).faults }
     ensures failed { IfOk result.failed (λ failed. failed ≡ true → Rose (L.told listener).faults (L.told result.listener).faults) }
@@ -144,13 +140,13 @@ fn serve_with<
     ensures unserved { OnErr result.failed (served.new ≡ nothing_served) }
 {
     let Ok(stock) = Stock::new(alloc, crew) else {
-        return unserved(book, listener);
+        return unserved(desk, listener);
     };
     let Ok(collecting) = Vec::with_capacity(alloc, crew.collectors as usize) else {
-        return unserved(book, listener);
+        return unserved(desk, listener);
     };
     let Ok(processing) = Vec::with_capacity(alloc, crew.processors as usize) else {
-        return unserved(book, listener);
+        return unserved(desk, listener);
     };
     let Stock {
         jobs,
@@ -158,11 +154,11 @@ fn serve_with<
         own,
         buffers,
     } = stock;
-    let own = put_due(rt, &jobs, own, &book);
-    let opened = Snapshot::of(&book);
-    let (hall, mut seats) = match Hall::over(alloc, book, crew.collectors + crew.processors) {
+    let own = put_due(rt, &jobs, own, &desk);
+    let opened = Snapshot::of(&desk);
+    let (hall, mut seats) = match Hall::over(alloc, desk, crew.collectors + crew.processors) {
         Ok(made) => made,
-        Err(book) => return unserved(book, listener),
+        Err(desk) => return unserved(desk, listener),
     };
     let (door, mut ticket): (Door<L, N, M, J>, Ticket<N, M>) = Door::open(
         listener, handed, refused,
@@ -219,21 +215,21 @@ fn serve_with<
         served,
     );
     leave_processors(&hall, &opened, processing, &mut seats);
-    let book = hall.close(seats);
+    let desk = hall.close(seats);
     let (listener, failed) = door.close(&mut ticket);
     CrewEnd {
-        book,
+        desk,
         listener,
         failed: Ok(failed),
     }
 }
 
 /// Nothing was served, for want of memory.
-fn unserved<B, L>(book: B, listener: L) -> CrewEnd<B, L>
-    ensures { (result.book ≡ book) × (result.listener ≡ listener) × IsErr result.failed }
+fn unserved<T, L>(desk: T, listener: L) -> CrewEnd<T, L>
+    ensures { (result.desk ≡ desk) × (result.listener ≡ listener) × IsErr result.failed }
 {
     CrewEnd {
-        book,
+        desk,
         listener,
         failed: Err(NoMemory),
     }

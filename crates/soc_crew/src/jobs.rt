@@ -2,22 +2,16 @@
 ghost use Rattle.soc_pool.specs.Passes.{IsPassOf};
 
 use soc_pool::{Job, Jobs, Pass};
-use soc_schema::Reporter;
-use soc_turns::{SharedBook, Telling};
+use soc_service::SharedDesk;
 use std::sync::Wait;
 
 /// Puts a job for each crash that is due, until the ring is full. What doesn't fit is left to the last sweep.
-pub(crate) fn put_due<D: Telling, P: Reporter, R: Wait>(
-    rt: &R,
-    jobs: &Jobs,
-    mut pass: Pass,
-    book: &SharedBook<'_, D, P>,
-) -> Pass
+pub(crate) fn put_due<T: SharedDesk, R: Wait>(rt: &R, jobs: &Jobs, mut pass: Pass, desk: &T) -> Pass
     requires { IsPassOf jobs.now pass }
     ensures { IsPassOf jobs.now result }
 {
     for place in 0..u32::MAX {
-        let Some(id) = book.due_at(place) else {
+        let Some(id) = desk.due_at(place) else {
             break;
         };
         match jobs.put(rt, pass, Job::Crash(id)) {

@@ -7,13 +7,11 @@ ghost use Rattle.soc_crew.specs.inner.Seated.{AreSeated};
 
 use crate::collector::Collector;
 use crate::processor::Processor;
-use soc_collect::Tally;
-use soc_hall::{Hall, Logged, Seats};
+use soc_collect::{Door, Naming, Tally, Ticket};
+use soc_hall::{Hall, Seats};
 use soc_listen::{Conn, Listener};
 use soc_schema::Reporter;
-use soc_service::{Gate, HallDesk};
-use soc_shared::{Door, Naming, Ticket};
-use soc_turns::{SharedBook, Telling};
+use soc_service::{Gate, HallDesk, SharedDesk};
 use std::snapshot::Snapshot;
 use std::sync::Wait;
 use std::sync::ledger::Ledger;
@@ -21,9 +19,7 @@ use std::sync::ledger::Ledger;
 /// Takes the seats of collectors back, and adds up what they have served.
 pub(crate) fn leave_collectors<
     'h,
-    'a,
-    D: Telling,
-    P: Reporter,
+    T: SharedDesk,
     G: Gate,
     R: Wait,
     L: Listener,
@@ -31,16 +27,16 @@ pub(crate) fn leave_collectors<
     M: Ledger,
     J: Naming,
 >(
-    hall: &Hall<SharedBook<'a, D, P>>,
-    opened: &Snapshot<SharedBook<'a, D, P>>,
-    mut collectors: Vec<Collector<HallDesk<'h, 'a, D, P, G, R>, L::Conn, N, M>>,
-    seats: &mut Seats<SharedBook<'a, D, P>>,
+    hall: &Hall<T>,
+    opened: &Snapshot<T>,
+    mut collectors: Vec<Collector<HallDesk<'h, T, G, R>, L::Conn, N, M>>,
+    seats: &mut Seats<T>,
     door: &mut Door<L, N, M, J>,
     ticket: &mut Ticket<N, M>,
     served: &mut Tally<L::Conn>,
 )
     requires each { All (λ c. (c.desk.hall.now ≡ hall.now)
-        × IsNew (⟦<SharedBook<'a, D, P> as Logged>⟧.basis_of opened.now.value) (⟦<SharedBook<'a, D, P> as Logged>⟧.log_of opened.now.value) (known_of c.desk.began.value)
+        × IsNew (T.basis_of opened.now.value) (T.log_of opened.now.value) (known_of c.desk.began.value)
         × (c.served.connections ≡ c.ticket.handed.amount) × (c.served.kept ≡ c.desk.kept) × (c.served.kept < 2 ^ 60)
         × (c.ticket.handed.parts ≡ 1) × (c.ticket.refused.parts ≡ 1)
         × ((c.served.stopped ≡ true) ⊎ (0 < c.ticket.refused.amount))) collectors.items }
@@ -48,7 +44,7 @@ pub(crate) fn leave_collectors<
     requires none { (seats_in seats.old ≡ []) × (served.old ≡ nothing_served) × (ticket.old.handed.amount ≡ 0) × (ticket.old.refused.amount ≡ 0) × (0 < ticket.old.handed.parts) }
     ensures count { (length (seats_in seats.new) ≡ vec_len collectors.entry) × (room_of seats.new ≡ room_of seats.old) }
     ensures seats { All (λ seat. IsSeatOf hall.now seat) (seats_in seats.new) }
-    ensures seated { ∥ AreSeated (⟦<SharedBook<'a, D, P> as Logged>⟧.basis_of opened.now.value) (⟦<SharedBook<'a, D, P> as Logged>⟧.log_of opened.now.value) served.new.kept (seats_in seats.new) ∥₁ }
+    ensures seated { ∥ AreSeated (T.basis_of opened.now.value) (T.log_of opened.now.value) served.new.kept (seats_in seats.new) ∥₁ }
     ensures connections { served.new.connections ≡ ticket.new.handed.amount }
     ensures parts { (ticket.new.handed.parts ≡ ticket.old.handed.parts + vec_len collectors.entry) × (ticket.new.refused.parts ≡ ticket.old.refused.parts + vec_len collectors.entry) }
     ensures over { (served.new.stopped ≡ true) ⊎ (0 < ticket.new.refused.amount) }
@@ -69,20 +65,20 @@ pub(crate) fn leave_collectors<
 }
 
 /// Takes the seats of processors back.
-pub(crate) fn leave_processors<'h, 'a, D: Telling, P: Reporter, G: Gate, R: Wait>(
-    hall: &Hall<SharedBook<'a, D, P>>,
-    opened: &Snapshot<SharedBook<'a, D, P>>,
-    mut processors: Vec<Processor<'h, 'a, D, P, G, R>>,
-    seats: &mut Seats<SharedBook<'a, D, P>>,
+pub(crate) fn leave_processors<'h, T: SharedDesk, P: Reporter, G: Gate, R: Wait>(
+    hall: &Hall<T>,
+    opened: &Snapshot<T>,
+    mut processors: Vec<Processor<'h, T, P, G, R>>,
+    seats: &mut Seats<T>,
 )
     requires each { All (λ p. IsSomeAnd p.seat (λ s. IsSeatOf hall.now s × HasTurned (known_of p.began.value) (known_of s) 0)
-        × IsNew (⟦<SharedBook<'a, D, P> as Logged>⟧.basis_of opened.now.value) (⟦<SharedBook<'a, D, P> as Logged>⟧.log_of opened.now.value) (known_of p.began.value)) processors.items }
+        × IsNew (T.basis_of opened.now.value) (T.log_of opened.now.value) (known_of p.began.value)) processors.items }
     requires room { length (seats_in seats.old) + vec_len processors ≤ room_of seats.old }
     requires seats { All (λ seat. IsSeatOf hall.now seat) (seats_in seats.old) }
     ensures count { length (seats_in seats.new) ≡ length (seats_in seats.old) + vec_len processors.entry }
     ensures seats { All (λ seat. IsSeatOf hall.now seat) (seats_in seats.new) }
-    ensures seated { (kept : ℕ) → ∥ AreSeated (⟦<SharedBook<'a, D, P> as Logged>⟧.basis_of opened.now.value) (⟦<SharedBook<'a, D, P> as Logged>⟧.log_of opened.now.value) kept (seats_in seats.old) ∥₁
-        → ∥ AreSeated (⟦<SharedBook<'a, D, P> as Logged>⟧.basis_of opened.now.value) (⟦<SharedBook<'a, D, P> as Logged>⟧.log_of opened.now.value) kept (seats_in seats.new) ∥₁ }
+    ensures seated { (kept : ℕ) → ∥ AreSeated (T.basis_of opened.now.value) (T.log_of opened.now.value) kept (seats_in seats.old) ∥₁
+        → ∥ AreSeated (T.basis_of opened.now.value) (T.log_of opened.now.value) kept (seats_in seats.new) ∥₁ }
 {
     while let Some(processor) = processors.pop() {
         let Processor { seat, .. } = processor;

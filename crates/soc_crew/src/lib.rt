@@ -1,6 +1,7 @@
-//! The crew of the service: collectors and processors, each in a thread of its own, over one book.
+//! The crew of the service: collectors and processors, each in a thread of its own, over one shared desk.
 #![tactic(auto)]
 
+mod beside;
 mod collector;
 mod crew;
 mod jobs;
@@ -9,4 +10,5 @@ mod processor;
 mod stations;
 mod work;
 
+pub use beside::side_by_side;
 pub use crew::{Crew, CrewEnd, serve_together};

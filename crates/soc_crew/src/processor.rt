@@ -7,10 +7,8 @@ ghost use Rattle.soc_service.specs.Desks.{HasTurned};
 use soc_hall::{Hall, Seat};
 use soc_pool::{Jobs, Pass};
 use soc_schema::Reporter;
-use soc_service::{Gate, worker};
-use soc_turns::{SharedBook, Telling};
+use soc_service::{Gate, SharedDesk, worker};
 use std::alloc::Global;
-use std::marker::PhantomData;
 use std::snapshot::Snapshot;
 use std::sync::Wait;
 
@@ -29,23 +27,21 @@ pub(crate) trait Task {
 
 /// A processor: where it takes jobs, and its seat and pass.
 #[derive(Drop)]
-pub(crate) struct Processor<'h, 'a, D: Telling, P: Reporter, G: Gate, R: Wait> {
+pub(crate) struct Processor<'h, T: SharedDesk, P: Reporter, G: Gate, R: Wait> {
     pub(crate) rt: &'h R,
     pub(crate) alloc: Global,
-    pub(crate) hall: &'h Hall<SharedBook<'a, D, P>>,
+    pub(crate) hall: &'h Hall<T>,
     pub(crate) jobs: &'h Jobs,
     pub(crate) reporter: &'h P,
     pub(crate) gate: &'h G,
     // There, but while it works.
-    pub(crate) seat: Option<Seat<SharedBook<'a, D, P>>>,
+    pub(crate) seat: Option<Seat<T>>,
     pub(crate) pass: Option<Pass>,
     // The seat as it was at first.
-    pub(crate) began: Snapshot<Seat<SharedBook<'a, D, P>>>,
-    // The book in the hall has them lent, which its type in the hall doesn't tell of this one.
-    pub(crate) lent: PhantomData<(&'a mut D, &'a P)>,
+    pub(crate) began: Snapshot<Seat<T>>,
 }
 
-impl<'h, 'a, D: Telling, P: Reporter, G: Gate, R: Wait> Task for Processor<'h, 'a, D, P, G, R> {
+impl<'h, T: SharedDesk, P: Reporter, G: Gate, R: Wait> Task for Processor<'h, T, P, G, R> {
     ghost use Rattle.std.specs.Prelude.{◌≡◌, IfSome, IsSomeAnd, Some};
     ghost use Rattle.soc_hall.specs.Seats.{IsSeatOf, known_of};
     ghost use Rattle.soc_pool.specs.Passes.{IsPassOf};
@@ -53,7 +49,7 @@ impl<'h, 'a, D: Telling, P: Reporter, G: Gate, R: Wait> Task for Processor<'h, '
 
     ghost Ready = { λ p. (p.seat ≡ Some p.began.value) × IsSeatOf p.hall.now p.began.value
         × IsSomeAnd p.pass (λ q. IsPassOf p.jobs.now q)
-        × IfSome (known_of p.began.value).basis (λ basis. basis.reporter ≡ p.reporter.now) };
+        × IfSome (known_of p.began.value).basis (λ basis. (T.desk_of basis).row_of ≡ P.row_of p.reporter.now) };
 
     ghost Did = { λ before after. (after.began ≡ before.began) × (after.hall ≡ before.hall)
         × IsSomeAnd after.seat (λ s. IsSeatOf before.hall.now s × HasTurned (known_of before.began.value) (known_of s) 0) };

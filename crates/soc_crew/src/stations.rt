@@ -7,18 +7,15 @@ ghost use Rattle.soc_pool.specs.Passes.{IsPassOf, passes_in};
 use crate::collector::Collector;
 use crate::crew::Crew;
 use crate::processor::Processor;
-use soc_collect::Tally;
-use soc_hall::{Hall, Logged, Seat, Seats};
+use soc_base::NoMemory;
+use soc_collect::{Tally, Ticket};
+use soc_hall::{Hall, Seat, Seats};
 use soc_http::Buffer;
 use soc_listen::Conn;
 use soc_pool::{Jobs, Pass, Passes};
-use soc_raw::NoMemory;
 use soc_schema::Reporter;
-use soc_service::{Gate, HallDesk};
-use soc_shared::Ticket;
-use soc_turns::{SharedBook, Telling};
+use soc_service::{Gate, HallDesk, SharedDesk};
 use std::alloc::Global;
-use std::marker::PhantomData;
 use std::snapshot::Snapshot;
 use std::sync::Wait;
 use std::sync::ledger::Ledger;
@@ -66,10 +63,7 @@ fn buffers(alloc: Global, count: u32) -> Result<Vec<Buffer>, NoMemory>
 }
 
 /// A seat and a pass.
-fn station<'a, D: Telling, P: Reporter>(
-    seats: &mut Seats<SharedBook<'a, D, P>>,
-    passes: &mut Passes,
-) -> (Seat<SharedBook<'a, D, P>>, Pass)
+fn station<T: SharedDesk>(seats: &mut Seats<T>, passes: &mut Passes) -> (Seat<T>, Pass)
     requires seats { 0 < length (seats_in seats.old) }
     requires passes { 0 < length (passes_in passes.old) }
     ensures seat { (seats_in seats.old ≡ seats_in seats.new ++ result.0 ∷ []) × (room_of seats.new ≡ room_of seats.old) }
@@ -82,40 +76,30 @@ fn station<'a, D: Telling, P: Reporter>(
 }
 
 /// A collector for each buffer.
-pub(crate) fn collectors<
-    'h,
-    'a,
-    D: Telling,
-    P: Reporter,
-    G: Gate,
-    R: Wait,
-    X: Conn,
-    N: Ledger,
-    M: Ledger,
->(
+pub(crate) fn collectors<'h, T: SharedDesk, G: Gate, R: Wait, X: Conn, N: Ledger, M: Ledger>(
     rt: &'h R,
     alloc: Global,
-    hall: &'h Hall<SharedBook<'a, D, P>>,
-    opened: &Snapshot<SharedBook<'a, D, P>>,
+    hall: &'h Hall<T>,
+    opened: &Snapshot<T>,
     jobs: &'h Jobs,
     gate: &'h G,
-    mut list: Vec<Collector<HallDesk<'h, 'a, D, P, G, R>, X, N, M>>,
+    mut list: Vec<Collector<HallDesk<'h, T, G, R>, X, N, M>>,
     mut buffers: Vec<Buffer>,
-    seats: &mut Seats<SharedBook<'a, D, P>>,
+    seats: &mut Seats<T>,
     passes: &mut Passes,
     ticket: &mut Ticket<N, M>,
-) -> Vec<Collector<HallDesk<'h, 'a, D, P, G, R>, X, N, M>>
+) -> Vec<Collector<HallDesk<'h, T, G, R>, X, N, M>>
     requires list { (list.items ≡ []) × (vec_len buffers ≤ vec_capacity list) }
-    requires seats { All (λ seat. IsSeatOf hall.now seat × IsNew (⟦<SharedBook<'a, D, P> as Logged>⟧.basis_of opened.now.value) (⟦<SharedBook<'a, D, P> as Logged>⟧.log_of opened.now.value) (known_of seat)) (seats_in seats.old) }
+    requires seats { All (λ seat. IsSeatOf hall.now seat × IsNew (T.basis_of opened.now.value) (T.log_of opened.now.value) (known_of seat)) (seats_in seats.old) }
     requires passes { All (λ pass. IsPassOf jobs.now pass) (passes_in passes.old) }
     requires enough { (vec_len buffers ≤ length (seats_in seats.old)) × (vec_len buffers ≤ length (passes_in passes.old)) × (vec_len buffers < ticket.old.handed.parts) × (vec_len buffers < ticket.old.refused.parts) }
     requires unused { (ticket.old.handed.amount ≡ 0) × (ticket.old.refused.amount ≡ 0) }
     ensures count { vec_len result ≡ vec_len buffers }
     ensures each { All (λ c. (c.desk.hall.now ≡ hall.now)
-        × IsNew (⟦<SharedBook<'a, D, P> as Logged>⟧.basis_of opened.now.value) (⟦<SharedBook<'a, D, P> as Logged>⟧.log_of opened.now.value) (known_of c.desk.began.value)
+        × IsNew (T.basis_of opened.now.value) (T.log_of opened.now.value) (known_of c.desk.began.value)
         × (c.served ≡ nothing_served) × (c.desk.kept ≡ 0)
         × (c.ticket.handed.parts ≡ 1) × (c.ticket.refused.parts ≡ 1) × (c.ticket.handed.amount ≡ 0) × (c.ticket.refused.amount ≡ 0)) result.items }
-    ensures seats { All (λ seat. IsSeatOf hall.now seat × IsNew (⟦<SharedBook<'a, D, P> as Logged>⟧.basis_of opened.now.value) (⟦<SharedBook<'a, D, P> as Logged>⟧.log_of opened.now.value) (known_of seat)) (seats_in seats.new) }
+    ensures seats { All (λ seat. IsSeatOf hall.now seat × IsNew (T.basis_of opened.now.value) (T.log_of opened.now.value) (known_of seat)) (seats_in seats.new) }
     ensures passes { All (λ pass. IsPassOf jobs.now pass) (passes_in passes.new) }
     ensures left { (length (seats_in seats.new) + vec_len buffers ≡ length (seats_in seats.old)) × (room_of seats.new ≡ room_of seats.old) × (length (passes_in passes.new) + vec_len buffers ≡ length (passes_in passes.old)) }
     ensures parts { (ticket.new.handed.parts + vec_len buffers ≡ ticket.old.handed.parts) × (ticket.new.refused.parts + vec_len buffers ≡ ticket.old.refused.parts) }
@@ -134,29 +118,29 @@ pub(crate) fn collectors<
 }
 
 /// So many processors.
-pub(crate) fn processors<'h, 'a, D: Telling, P: Reporter, G: Gate, R: Wait>(
+pub(crate) fn processors<'h, T: SharedDesk, P: Reporter, G: Gate, R: Wait>(
     rt: &'h R,
     alloc: Global,
-    hall: &'h Hall<SharedBook<'a, D, P>>,
-    opened: &Snapshot<SharedBook<'a, D, P>>,
+    hall: &'h Hall<T>,
+    opened: &Snapshot<T>,
     jobs: &'h Jobs,
     reporter: &'h P,
     gate: &'h G,
-    mut list: Vec<Processor<'h, 'a, D, P, G, R>>,
+    mut list: Vec<Processor<'h, T, P, G, R>>,
     count: u32,
-    seats: &mut Seats<SharedBook<'a, D, P>>,
+    seats: &mut Seats<T>,
     passes: &mut Passes,
-) -> Vec<Processor<'h, 'a, D, P, G, R>>
+) -> Vec<Processor<'h, T, P, G, R>>
     requires list { (list.items ≡ []) × (count ≤ vec_capacity list) }
-    requires seats { All (λ seat. IsSeatOf hall.now seat × IsNew (⟦<SharedBook<'a, D, P> as Logged>⟧.basis_of opened.now.value) (⟦<SharedBook<'a, D, P> as Logged>⟧.log_of opened.now.value) (known_of seat)) (seats_in seats.old) }
+    requires seats { All (λ seat. IsSeatOf hall.now seat × IsNew (T.basis_of opened.now.value) (T.log_of opened.now.value) (known_of seat)) (seats_in seats.old) }
     requires passes { All (λ pass. IsPassOf jobs.now pass) (passes_in passes.old) }
     requires enough { (count ≤ length (seats_in seats.old)) × (count ≤ length (passes_in passes.old)) }
-    requires reporter { (⟦<SharedBook<'a, D, P> as Logged>⟧.basis_of opened.now.value).reporter ≡ reporter.now }
+    requires reporter { (T.desk_of (T.basis_of opened.now.value)).row_of ≡ P.row_of reporter.now }
     ensures count { vec_len result ≡ count }
     ensures each { All (λ p. ((p.seat ≡ Some p.began.value) × IsSeatOf p.hall.now p.began.value × IsSomeAnd p.pass (λ q. IsPassOf p.jobs.now q)
-        × IfSome (known_of p.began.value).basis (λ basis. basis.reporter ≡ p.reporter.now))
+        × IfSome (known_of p.began.value).basis (λ basis. (T.desk_of basis).row_of ≡ P.row_of p.reporter.now))
         × (p.hall.now ≡ hall.now)
-        × IsNew (⟦<SharedBook<'a, D, P> as Logged>⟧.basis_of opened.now.value) (⟦<SharedBook<'a, D, P> as Logged>⟧.log_of opened.now.value) (known_of p.began.value)) result.items }
+        × IsNew (T.basis_of opened.now.value) (T.log_of opened.now.value) (known_of p.began.value)) result.items }
     ensures left { (length (seats_in seats.new) + count ≡ length (seats_in seats.old)) × (room_of seats.new ≡ room_of seats.old) }
 {
     for made in 0..count {
@@ -172,7 +156,6 @@ pub(crate) fn processors<'h, 'a, D: Telling, P: Reporter, G: Gate, R: Wait>(
             seat: Some(seat),
             pass: Some(pass),
             began,
-            lent: PhantomData,
         });
     }
     list

@@ -5,13 +5,14 @@ use Rattle.std.specs.List.{cons_option, list_any}
 use Rattle.std.proofs.lemmas.List.Elements.{filter_map-append}
 use Rattle.std.proofs.lemmas.List.Folds.{list_any-append}
 use Rattle.std.proofs.lemmas.Slice.Eq.{bytes_eq-Decides}
+use Rattle.soc_base.proofs.Folk.{or_false}
 use Rattle.soc_ledger.specs.declared.event.Event.{Event}
 use Rattle.soc_ledger.specs.declared.event.Event.TheVariants as E
 use Rattle.soc_ledger.specs.Due.{due_since_back, is_due, is_due_at_once}
 use Rattle.soc_ledger.specs.Events.{accepted_in as accepts, withdrawn_in as withdraws, is_held, was_accepted, was_withdrawn}
 use Rattle.soc_ledger.specs.Legal.{IsLegalBack}
 use Rattle.soc_desk.specs.Laws.{DueByHistory, is_ask_of, was_asked, processed_since}
-use Rattle.soc_desk.proofs.Logs.{reverse-cons, reverse-twice, or_false, not_true}
+use Rattle.soc_desk.proofs.Logs.{reverse-cons, reverse-twice, not_true}
 use Rattle.soc_desk.proofs.Views.{true_is_not_false}
 
 -- a crash was due at once, accepted, withdrawn, asked for and processed since, and is due: how these stand to each other
@@ -47,10 +48,6 @@ module _ (id : List ℕ) (older : List Event) (event : Event) where
 and_false : (b : Bool) → (b && false) ≡ false
 and_false true = refl
 and_false false = refl
-
-or_true : (b : Bool) → (b || true) ≡ true
-or_true true = refl
-or_true false = refl
 
 held_accepted : (a w : Bool) → (a && not w) ≡ true → (a ≡ true) × (w ≡ false)
 held_accepted true true held = absurd (true_is_not_false (sym held))

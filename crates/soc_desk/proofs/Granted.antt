@@ -8,7 +8,7 @@ use Rattle.std.specs.Cmp.Lexicographic.{slice_cmp, nat_list_cmp_total}
 use Rattle.std.specs.Map.{keys_of}
 use Rattle.std.specs.BTreeMap.{insert_entry}
 use Rattle.std.specs.declared.cmp.Ordering.TheVariants.{Less, Greater}
-use Rattle.soc_raw.specs.Names.{IsRising, with_value}
+use Rattle.soc_base.specs.Names.{IsRising, with_value}
 
 abbrev pub Pairs : Type 0
 Pairs = List (List ℕ × List ℕ)

@@ -5,6 +5,7 @@ use Rattle.std.specs.List.{AllByRecursion, cons_option, list_any}
 use Rattle.std.proofs.lemmas.List.{map-append, reverse-append, append-nil}
 use Rattle.std.proofs.lemmas.List.Elements.{filter_map-append}
 use Rattle.std.proofs.lemmas.List.Folds.{list_any-append}
+use Rattle.soc_base.proofs.Folk.{or_false, or_no_left, or_no_right, all_push}
 use Rattle.soc_ledger.specs.declared.event.Event.{Event}
 use Rattle.soc_ledger.specs.declared.event.Event.TheVariants as E
 use Rattle.soc_ledger.specs.Events.{accepted_in as accepts, withdrawn_in as withdraws, accepted_ids, withdrawn_ids, is_among, is_held, was_accepted, was_withdrawn}
@@ -32,21 +33,9 @@ reverse-map f (x ∷ xs) =
     ∙ (ap (λ t. t ++ f x ∷ []) (reverse-map f xs)
     ∙ (sym (map-append f (reverse xs) (x ∷ [])) ∙ ap (map f) (sym (reverse-cons x xs))))
 
-pub or_false : (b : Bool) → (b || false) ≡ b
-or_false true = refl
-or_false false = refl
-
-pub or-false_left : (a b : Bool) → (a || b) ≡ false → a ≡ false
-or-false_left true b is = is
-or-false_left false b is = refl
-
-pub or-false_right : (a b : Bool) → (a || b) ≡ false → b ≡ false
-or-false_right true b is = absurd (true_is_not_false is)
-or-false_right false b is = is
-
 pub none_passes : {X : Type 0} (p : X → Bool) (xs : List X) → list_any p xs ≡ false → AllByRecursion (λ x. p x ≡ false) xs
 none_passes p [] is = tt
-none_passes p (x ∷ xs) is = (or-false_left (p x) (list_any p xs) is, none_passes p xs (or-false_right (p x) (list_any p xs) is))
+none_passes p (x ∷ xs) is = (or_no_left (p x) (list_any p xs) is, none_passes p xs (or_no_right (p x) (list_any p xs) is))
 
 held_parts : (a w b : Bool) → (a && not (w || b)) ≡ ((a && not w) && not b)
 held_parts false w b = refl
@@ -67,14 +56,10 @@ abbrev pub IsApart : List Accepted → Type 0
 IsApart [] = Unit {0}
 IsApart (crash ∷ crashes) = AllByRecursion (λ other. bytes_eq other.id crash.id ≡ false) crashes × IsApart crashes
 
-all-push : {X : Type 0} (P : X → Type 0) (xs : List X) (x : X) → AllByRecursion P xs → P x → AllByRecursion P (xs ++ x ∷ [])
-all-push P [] x all here = (here, tt)
-all-push P (y ∷ xs) x all here = (all.0, all-push P xs x all.1 here)
-
 apart-push : (crashes : List Accepted) (crash : Accepted) → IsApart crashes → AllByRecursion (λ other. has_id crash.id other ≡ false) crashes → IsApart (crashes ++ crash ∷ [])
 apart-push [] crash apart none = (tt, tt)
 apart-push (first ∷ crashes) crash apart none =
-    (all-push _ crashes crash apart.0 (turned_eq first.id crash.id false none.0), apart-push crashes crash apart.1 none.1)
+    (all_push _ crashes crash apart.0 (turned_eq first.id crash.id false none.0), apart-push crashes crash apart.1 none.1)
 
 module _ (basis : Basis) where
   pub events-more : (log : List Change) (change : Change) → events basis (log ++ change ∷ []) ≡ events basis log ++ event_of basis change ∷ []

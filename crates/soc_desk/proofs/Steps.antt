@@ -3,7 +3,7 @@ use Rattle.std.proofs.Common.{◌≡◌, ◌⊎◌, inl, inr, ℕ, ◌<◌, Bool
 use Rattle.std.specs.Prelude.{bytes_eq, is_some, slice_get, if◌then◌else◌, ⊤}
 use Rattle.std.specs.Option.{option_map, option_map_or, option_and_then}
 use Rattle.std.proofs.lemmas.List.{append-nil, map-append, append_assoc}
-use Rattle.soc_raw.specs.Names.{value_of}
+use Rattle.soc_base.specs.Names.{value_of}
 use Rattle.soc_raw.specs.RawCrash.{crash_of}
 use Rattle.soc_raw.specs.Record.{Crash, content_text}
 use Rattle.soc_raw.specs.declared.raw_crash.RawCrash.{RawCrash}

@@ -6,7 +6,8 @@ use Rattle.std.specs.Option.{option_map, option_and_then}
 use Rattle.std.proofs.lemmas.List.{append-nil}
 use Rattle.std.proofs.lemmas.List.Elements.{filter_map-append}
 use Rattle.std.proofs.lemmas.Slice.Eq.{bytes_eq-Decides}
-use Rattle.soc_raw.specs.Names.{value_of}
+use Rattle.soc_base.proofs.Folk.{or_true}
+use Rattle.soc_base.specs.Names.{value_of}
 use Rattle.soc_raw.specs.Record.{Crash}
 use Rattle.soc_schema.specs.declared.caller.Caller.{Caller}
 use Rattle.soc_schema.specs.Permits.{shows}
@@ -142,10 +143,6 @@ module _ (basis : Basis) (log : List Change) (caller : Caller) (change : Change)
       ∙ (ap (λ t. t ++ filter_map f (filter_map accepted_in (change ∷ []))) (filter_map-same f (item_of basis log caller) (accepted_of log) same)
       ∙ (ap (λ t. items_of basis log caller ++ t) new ∙ append-nil (items_of basis log caller)))) in
       view_items basis (log ++ change ∷ []) caller ∙ (ap view_of_items items ∙ sym (view_items basis log caller))
-
-or_true : (b : Bool) → (b || true) ≡ true
-or_true true = refl
-or_true false = refl
 
 and_true : (b : Bool) → (b && true) ≡ b
 and_true true = refl

@@ -1,7 +1,7 @@
 -- What a view answers. This project's profile.
 use Rattle.std.specs.Prelude.{ℕ, List, Option, None, Some}
 use Rattle.std.specs.Option.{option_map_or, option_and_then}
-use Rattle.soc_raw.specs.Names.{value_of}
+use Rattle.soc_base.specs.Names.{value_of}
 use Rattle.soc_query.specs.Answers.{answer_of}
 use Rattle.soc_tops.specs.Tops.{tops_of}
 use Rattle.soc_desk.specs.declared.desk.Command.{Command}

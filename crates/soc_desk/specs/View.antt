@@ -3,7 +3,7 @@
 use Rattle.std.specs.Prelude.{ℕ, Bool, List, [], ◌∷◌, Option, None, Some, filter_map, is_some, if◌then◌else◌}
 use Rattle.std.specs.Option.{option_map}
 use Rattle.std.specs.List.{enumerate_from}
-use Rattle.soc_raw.specs.Names.{value_of, with_value}
+use Rattle.soc_base.specs.Names.{value_of, with_value}
 use Rattle.soc_raw.specs.Record.{Crash}
 use Rattle.soc_schema.specs.declared.caller.Caller.{Caller}
 use Rattle.soc_schema.specs.declared.value.Cell.{Cell}

@@ -1,6 +1,7 @@
 //! What a desk is asked, and what it answers.
+use soc_base::{Bytes, NoMemory, Text, Texts};
 use soc_query::{Answer, Query};
-use soc_raw::{Bytes, CrashId, NoMemory, RawCrash, Text, Texts};
+use soc_raw::{CrashId, RawCrash};
 use soc_schema::{Caller, Permission, Processed, Row};
 use soc_tops::{Tops, TopsQuery};
 

@@ -4,8 +4,9 @@ ghost use Rattle.soc_ledger.specs.Events.{is_held};
 ghost use Rattle.soc_ledger.specs.State.{id_of};
 
 use crate::expect::{holds, same, same_at};
+use soc_base::SharedText;
 use soc_ledger::{Filed, Ledger};
-use soc_raw::{CrashId, Digit, Text};
+use soc_raw::{CrashId, Digit};
 use std::alloc::Global;
 use std::process::Abort;
 use std::test::Fail;
@@ -41,7 +42,7 @@ fn filed(alloc: Global, id: CrashId) -> Result<Filed, Fail>
         id,
         place: 8,
         content: 60,
-        product: Some(Text::of(alloc, "Firefox")?),
+        product: Some(SharedText::of(alloc, "Firefox")?),
         digest: [7; 32],
     })
 }

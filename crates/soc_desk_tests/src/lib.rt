@@ -14,6 +14,8 @@ mod query;
 #[cfg(test)]
 mod schema;
 #[cfg(test)]
+mod spoilt;
+#[cfg(test)]
 mod store;
 #[cfg(test)]
 mod tops;

@@ -2,10 +2,11 @@
 ghost use Rattle.std.specs.Prelude.{◌≡◌, ◌<◌};
 
 use crate::expect::same;
+use soc_base::{Pairs, Text};
 use soc_edge::Steps;
 use soc_query::*;
-use soc_raw::{Pairs, Text};
 use soc_schema::{Caller, Field, FieldKind, Permissions, Products, Row, Value};
+use soc_search::answer_of;
 use soc_store::Store;
 use std::alloc::Global;
 use std::marker::Brand;
@@ -70,7 +71,7 @@ fn row(alloc: Global, text: &str) -> Result<Row, Fail> {
         let (name, value) = pair.split_once('=').unwrap_or((pair, ""));
         let field = Field::named(name).ok_or("field")?;
         let value = match field.kind() {
-            FieldKind::Text => Value::Text(Text::of(alloc, value)?),
+            FieldKind::Text => Value::text(alloc, value)?,
             FieldKind::Number => Value::Number(soc_text::number(value.as_bytes(), 18).ok_or(
                 "number",
             )?),
@@ -234,11 +235,7 @@ fn many_rows(alloc: Global) -> Result<Store, Fail> {
     for i in 0u32..2001 {
         let id = format!(in alloc; "{i:04}")?;
         let mut row = Row::new(alloc);
-        set(
-            &mut row,
-            Field::UUID,
-            Value::Text(Text::of(alloc, id.as_str())?),
-        )?;
+        set(&mut row, Field::UUID, Value::text(alloc, id.as_str())?)?;
         if i % 10 != 9 {
             set(&mut row, Field::UPTIME, Value::Number(u64::from(i % 10)))?;
         }
@@ -431,11 +428,7 @@ fn rows_of_products(alloc: Global) -> Result<Store, Fail> {
         let number = if i < 20 { i } else { (i - 20) / 2 };
         let name = format!(in alloc; "{}", number + 10)?;
         let mut row = Row::new(alloc);
-        set(
-            &mut row,
-            Field::PRODUCT,
-            Value::Text(Text::of(alloc, name.as_str())?),
-        )?;
+        set(&mut row, Field::PRODUCT, Value::text(alloc, name.as_str())?)?;
         set(&mut row, Field::UPTIME, Value::Number(u64::from(number)))?;
         match store.put(alloc, i, row) {
             Ok(()) => {}
@@ -481,20 +474,17 @@ fn product_name(number: u64) -> &'static str {
     }
 }
 
-fn id_of(alloc: Global, place: u32) -> Result<Text, Fail> {
-    Ok(Text::from(format!(in alloc; "{place:04}")?))
+fn id_of(alloc: Global, place: u32) -> Result<String, Fail> {
+    Ok(format!(in alloc; "{place:04}")?)
 }
 
 fn row_of(alloc: Global, plain: Plain) -> Result<Row, Fail> {
     let mut row = Row::new(alloc);
-    set(
-        &mut row,
-        Field::UUID,
-        Value::Text(id_of(alloc, plain.place)?),
-    )?;
+    let id = id_of(alloc, plain.place)?;
+    set(&mut row, Field::UUID, Value::text(alloc, id.as_str())?)?;
     set(&mut row, Field::UPTIME, Value::Number(plain.uptime))?;
-    let product = Text::of(alloc, product_name(plain.product))?;
-    set(&mut row, Field::PRODUCT, Value::Text(product))?;
+    let product = Value::text(alloc, product_name(plain.product))?;
+    set(&mut row, Field::PRODUCT, product)?;
     Ok(row)
 }
 

@@ -1,7 +1,8 @@
 //! The table against the format, token files with their indices, and rows written and read.
 
 use crate::expect::{holds, same};
-use soc_raw::{NoMemory, RawCrash, RecordError, Text, TextList};
+use soc_base::{NoMemory, TextList};
+use soc_raw::{RawCrash, RecordError};
 use soc_schema::FieldKind::{Flag, Number, Text as Words};
 use soc_schema::Permission::{ProtectedData, Public};
 use soc_schema::*;
@@ -255,7 +256,7 @@ fn sample(alloc: Global) -> Result<Row, NoMemory> {
     let mut row = Row::new(alloc);
     row.set(Field::UPTIME, Value::Number(258))?;
     row.set(Field::SUCCESS, Value::Flag(false))?;
-    row.set(Field::PRODUCT, Value::Text(Text::of(alloc, "F")?))?;
+    row.set(Field::PRODUCT, Value::text(alloc, "F")?)?;
     row.set(Field::SUCCESS, Value::Flag(true))?;
     Ok(row)
 }

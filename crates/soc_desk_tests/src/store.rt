@@ -1,6 +1,5 @@
 //! Rows with their counts before and after they are replaced or taken, and a random store against a plain list.
 use crate::expect::{holds, same};
-use soc_raw::Text;
 use soc_schema::{Field, Row, Value};
 use soc_store::{ProductCount, Store};
 use std::alloc::Global;
@@ -12,11 +11,11 @@ const PRODUCTS: [Option<&str>; 4] = [None, Some("Fenix"), Some("Firefox"), Some(
 const VERSIONS: [&str; 3] = ["1", "10", "2"];
 
 fn text(alloc: Global, text: &str) -> Result<Value, Fail> {
-    Ok(Value::Text(Text::of(alloc, text)?))
+    Ok(Value::text(alloc, text)?)
 }
 
 fn set_text(alloc: Global, row: &mut Row, field: Field, text: &str) -> Result<(), Fail> {
-    let value = Value::Text(Text::of(alloc, text)?);
+    let value = Value::text(alloc, text)?;
     if value.kind() != field.kind() {
         return Err(Fail::from("not a text's field"));
     }

@@ -2,9 +2,10 @@
 ghost use Rattle.std.specs.Prelude.{◌≡◌, ◌<◌};
 
 use crate::expect::{holds, same};
+use soc_base::{Pairs, Text, TextList};
 use soc_edge::Steps;
-use soc_raw::{Pairs, Text, TextList};
 use soc_schema::{Caller, Field, Permissions, ProductNames, Products, Row, Value};
+use soc_search::tops_of;
 use soc_store::Store;
 use soc_tops::*;
 use std::alloc::Global;
@@ -35,7 +36,7 @@ const DAYS: &str =
     "product=Firefox&version=1&from=2016-09-18&to=2016-09-18&old_from=2016-09-17&old_to=2016-09-17";
 
 fn set_text(alloc: Global, row: &mut Row, field: Field, text: &str) -> Result<(), Fail> {
-    let value = Value::Text(Text::of(alloc, text)?);
+    let value = Value::text(alloc, text)?;
     if value.kind() != field.kind() {
         return Err(Fail::from("not a text's field"));
     }

@@ -4,6 +4,7 @@ use Rattle.std.specs.List.{before_first, position_or_len}
 use Rattle.std.proofs.lemmas.List.{take_all}
 use Rattle.std.proofs.lemmas.List.Sums.{position_or_len_is}
 use Rattle.memchr.specs.Find.{Passes, Nowhere, NoneBefore, is_byte}
+use Rattle.soc_base.proofs.Folk.{not_true}
 use Rattle.soc_dump.specs.Entries.{ModuleEntry}
 use Rattle.soc_dump.specs.Identity.{is_pdb, is_build_id, pdb_id_of, build_id_of, pdb_path_of, debug_id_of, debug_file_of}
 use Rattle.soc_text.specs.Paths.{base_name_of}
@@ -34,10 +35,6 @@ module _ (loaded : ModuleEntry) where
   unfolding debug_file_of
   debug_file_of-other pdb build = rw (pdb, build) refl
 
-not_passing : (b : Bool) → ¬ (b ≡ true) → b ≡ false
-not_passing true h = absurd (h refl)
-not_passing false h = refl
-
 -- what stands before a NUL that was found, and all where none was
 module _ (bytes : List ℕ) where
   pub before_nul-some : (end : ℕ) → NoneBefore (Passes (is_byte 0) bytes) 0 (length bytes) end × Passes (is_byte 0) bytes end
@@ -45,11 +42,11 @@ module _ (bytes : List ℕ) where
   before_nul-some end found =
       let inside : end < length bytes = found.0.high in
       let place : position_or_len (λ byte. byte == 0) bytes ≡ end =
-      position_or_len_is (λ byte. byte == 0) bytes end 0 (omega arith) (λ k below. not_passing _ (found.0.before k (omega arith) below)) (λ _. found.1) in
+      position_or_len_is (λ byte. byte == 0) bytes end 0 (omega arith) (λ k below. not_true _ (found.0.before k (omega arith) below)) (λ _. found.1) in
       ap (λ n. take n bytes) (sym place)
 
   pub before_nul-none : Nowhere (Passes (is_byte 0) bytes) 0 (length bytes) → bytes ≡ before_first (λ byte. byte == 0) bytes
   before_nul-none none =
       let place : position_or_len (λ byte. byte == 0) bytes ≡ length bytes =
-      position_or_len_is (λ byte. byte == 0) bytes (length bytes) 0 (omega arith) (λ k below. not_passing _ (none k (omega arith) below)) (λ within. absurd (omega arith)) in
+      position_or_len_is (λ byte. byte == 0) bytes (length bytes) 0 (omega arith) (λ k below. not_true _ (none k (omega arith) below)) (λ within. absurd (omega arith)) in
       sym (ap (λ n. take n bytes) place ∙ take_all (length bytes) bytes (omega arith))

@@ -3,7 +3,7 @@ ghost use Rattle.std.specs.Prelude.{◌≡◌, ℕ, ◌<◌, ◌+◌, ◌^◌, �
 ghost use Rattle.soc_dump.specs.Covering.{covers, first_covering, interval_from, owner_from};
 
 use crate::pieces::{Piece, owner_at, pieces_of};
-use soc_raw::NoMemory;
+use soc_base::NoMemory;
 use std::alloc::Global;
 use std::marker::Model;
 

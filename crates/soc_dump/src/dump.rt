@@ -18,7 +18,7 @@ use crate::system::System;
 use crate::thread::Thread;
 use crate::word::find_word;
 use crate::words::Words;
-use soc_raw::NoMemory;
+use soc_base::NoMemory;
 use std::alloc::Global;
 use std::marker::Model;
 

@@ -1,5 +1,5 @@
 //! Why a dump is refused.
-use soc_raw::NoMemory;
+use soc_base::NoMemory;
 use std::alloc::{AllocError, AllocFailed};
 use thiserror::Error;
 

@@ -8,7 +8,7 @@ use crate::field::narrow;
 use crate::layout::*;
 use crate::modules::Module;
 use memchr::memchr;
-use soc_raw::{NoMemory, Text};
+use soc_base::{NoMemory, Text};
 use soc_text::base_name;
 use std::alloc::Global;
 

@@ -16,7 +16,7 @@ use crate::layout::*;
 use crate::list::read_list;
 use crate::module_name::ModuleName;
 use crate::part::part_of;
-use soc_raw::NoMemory;
+use soc_base::NoMemory;
 use std::alloc::Global;
 
 /// A program file or a library that the process had loaded.

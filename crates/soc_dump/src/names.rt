@@ -4,7 +4,7 @@ ghost use Rattle.soc_dump.specs.Names.{architecture_name_of, platform_name_of, w
 ghost use Rattle.soc_dump.specs.Views.{exception_entry};
 
 use crate::exception::Exception;
-use soc_raw::{NoMemory, Text};
+use soc_base::{NoMemory, Text};
 use std::alloc::Global;
 
 const WINDOWS: u32 = 2;

@@ -6,7 +6,7 @@ ghost use Rattle.soc_dump.specs.Covering.{covers, owner_from};
 ghost use Rattle.soc_dump.specs.inner.Pieces.{IsRising, IsOverlay, LeadsTo, layers_left, leads, piece_list};
 
 use crate::covering::Interval;
-use soc_raw::NoMemory;
+use soc_base::NoMemory;
 use std::alloc::Global;
 
 /// Which interval is the first that covers, for the numbers from one on up to the next piece's.

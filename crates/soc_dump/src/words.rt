@@ -7,7 +7,7 @@ use crate::covering::{FirstCovering, Interval};
 use crate::memory::Region;
 use crate::thread::Thread;
 use crate::word::{stack_region, word_of_region};
-use soc_raw::NoMemory;
+use soc_base::NoMemory;
 use std::alloc::Global;
 use std::marker::Model;
 

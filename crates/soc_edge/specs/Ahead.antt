@@ -39,7 +39,8 @@ pub record HandsId (before after : DrawsTold) (id : List ℕ) : Type 0 where
 -- these were handed out in this order, and nothing else
 abbrev pub HandsAll : {A : Type 0} → (ℕ → Option A) → (ℕ → Option A) → List A → Type 0
 HandsAll before after [] = SameAhead before after
-HandsAll before after (given ∷ more) = IfSome (before 0) (λ told. given ≡ told) × HandsAll (λ k. before (k + 1)) after more
+HandsAll before after (given ∷ more) =
+    IfSome (before 0) (λ told. given ≡ told) × HandsAll (λ k. before (k + 1)) after more
 
 -- what a clock and draws hand out from here on, as one
 pub record Outlook : Type 0 where

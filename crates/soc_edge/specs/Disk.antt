@@ -31,7 +31,8 @@ WhereTold R (Some before) (Some after) = R before after
 
 -- each image of the later set comes from one of the earlier set by such a step
 abbrev pub Follows : (List ℕ → List ℕ → Type 0) → (List ℕ → Type 0) → (List ℕ → Type 0) → Type 0
-Follows step before after = (image : List ℕ) → after image → (earlier : List ℕ) × before earlier × step earlier image
+Follows step before after =
+    (image : List ℕ) → after image → (earlier : List ℕ) × before earlier × step earlier image
 
 -- no image that wasn't possible before
 abbrev pub NoMore : (List ℕ → Type 0) → (List ℕ → Type 0) → Type 0
@@ -65,7 +66,8 @@ pub record IsDisk (disk : DiskTold) : Type 0 where
 pub record GoesOn (before after : DiskTold) : Type 0 where
   pub later : before.moment ≤ after.moment
   pub keeps : (t : ℕ) (image : List ℕ) → t ≤ before.moment → before.since t image → after.since t image
-  pub nothing_else : (t : ℕ) (image : List ℕ) → t ≤ before.moment → after.since t image → before.since t image ⊎ after.since before.moment image
+  pub nothing_else : (t : ℕ) (image : List ℕ) → t ≤ before.moment → after.since t image
+      → before.since t image ⊎ after.since before.moment image
   pub wider : (s t : ℕ) (image : List ℕ) → s ≤ t → after.since t image → after.since s image
   pub faults_never_fall : before.faults ≤ after.faults
 

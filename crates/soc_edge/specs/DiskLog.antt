@@ -17,13 +17,15 @@ reads_as first (Synced ∷ log) = reads_as first log
 -- a stop may leave this image: what the last sync left, and then each later write, whole, torn or lost
 abbrev pub IsImage : List ℕ → List Made → List ℕ → Type 0
 IsImage first [] image = image ≡ first
-IsImage first (Wrote place bytes ∷ log) image = (earlier : List ℕ) × IsImage first log earlier × Tears place (length bytes) earlier image
+IsImage first (Wrote place bytes ∷ log) image =
+    (earlier : List ℕ) × IsImage first log earlier × Tears place (length bytes) earlier image
 IsImage first (Synced ∷ log) image = image ≡ reads_as first log
 
 -- A stop at a moment since t might have left this image. The moment is how many writes and syncs were made.
 abbrev pub WasImageSince : List ℕ → List Made → ℕ → List ℕ → Type 0
 WasImageSince first [] t image = (t ≤ 0) × (image ≡ first)
-WasImageSince first (made ∷ log) t image = ((t ≤ length (made ∷ log)) × IsImage first (made ∷ log) image) ⊎ WasImageSince first log t image
+WasImageSince first (made ∷ log) t image =
+    ((t ≤ length (made ∷ log)) × IsImage first (made ∷ log) image) ⊎ WasImageSince first log t image
 
 -- how many bytes were written in all
 abbrev pub bytes_written : List Made → ℕ

@@ -8,4 +8,5 @@ pub mod Told
 pub mod Tree
 pub mod Untold
 pub mod Windows
+pub mod World
 pub mod inner

@@ -1,6 +1,6 @@
 -- What the stand-ins in memory are, as contracts see them.
 use Rattle.std.specs.Prelude.{ℕ, ◌-◌, min, Option, Some, List, length, slice_get}
-use Rattle.soc_raw.specs.Names.{value_of}
+use Rattle.soc_base.specs.Names.{value_of}
 use Rattle.soc_edge.specs.Ahead.{ClockTold, DrawsTold}
 use Rattle.soc_edge.specs.Calls.{Calls}
 use Rattle.soc_edge.specs.Told.{Told, untold}

@@ -16,7 +16,8 @@ pub trait Disk {
 
     /// How many bytes the disk has.
     fn len(&mut self) -> Result<u64, Failed>
-        ensures count { IfOk result (λ n. IfSome (state self.old).content (λ bytes. n ≡ length bytes)) }
+        ensures count { IfOk result (λ n. IfSome (state self.old).content
+            (λ bytes. n ≡ length bytes)) }
         ensures looks { Looks (state self.old) (state self.new) }
         ensures counted { (state self.new).calls ≡ one_more (state self.old).calls }
         ensures cause { OnErr result (DiskFailed (state self.old) (state self.new)) };
@@ -25,22 +26,26 @@ pub trait Disk {
     /// only at the end of the disk. What stands behind them in `into` may change too.
     fn read_at(&mut self, place: u64, into: &mut [u8]) -> Result<usize, Failed>
         ensures count { IfOk result (λ n. n ≤ length into.new) }
-        ensures bytes { IfOk result (λ n. IfSome (state self.old).content (λ bytes. ReadsAt bytes place n into.new)) }
+        ensures bytes { IfOk result (λ n. IfSome (state self.old).content
+            (λ bytes. ReadsAt bytes place n into.new)) }
         ensures looks { Looks (state self.old) (state self.new) }
         ensures counted { (state self.new).calls ≡ one_more (state self.old).calls }
         ensures cause { OnErr result (DiskFailed (state self.old) (state self.new)) };
 
     /// Writes over what is there, and past the end. After `Failed` the range may read as any bytes.
     fn write_at(&mut self, place: u64, bytes: &[u8]) -> Result<(), Failed>
-        ensures written { OnOk result ((state self.new).content ≡ option_map (λ old. written old place bytes.now) (state self.old).content) }
-        ensures torn { OnErr result (WhereTold (Tears place (length bytes.now)) (state self.old).content (state self.new).content) }
+        ensures written { OnOk result ((state self.new).content ≡ option_map
+            (λ old. written old place bytes.now) (state self.old).content) }
+        ensures torn { OnErr result (WhereTold (Tears place (length bytes.now))
+            (state self.old).content (state self.new).content) }
         ensures tears { MayTear place (length bytes.now) (state self.old) (state self.new) }
         ensures counted { (state self.new).calls ≡ one_more (state self.old).calls }
         ensures cause { OnErr result (DiskFailed (state self.old) (state self.new)) };
 
     /// Makes what was written safe from a stop. After `Failed` nothing is settled.
     fn sync(&mut self) -> Result<(), Failed>
-        ensures durable { OnOk result (IfSome (state self.old).content (λ bytes. Only bytes (state self.new).images)) }
+        ensures durable { OnOk result (IfSome (state self.old).content
+            (λ bytes. Only bytes (state self.new).images)) }
         ensures looks { Looks (state self.old) (state self.new) }
         ensures counted { (state self.new).calls ≡ one_more (state self.old).calls }
         ensures cause { OnErr result (DiskFailed (state self.old) (state self.new)) };

@@ -8,28 +8,36 @@
 
 mod both;
 mod clock;
+mod counted;
 mod disk;
 mod failed;
+mod faults;
 mod memory;
 mod read_ahead;
 mod sink;
 mod source;
 mod steps;
+mod telling;
 mod tells;
 mod tree;
 mod whole;
+mod world;
 
 pub use both::Both;
 pub use clock::{Clock, Draws};
+pub use counted::{Counted, Device};
 pub use disk::Disk;
 pub use failed::Failed;
+pub use faults::{CountsFaults, FaultCount};
 pub use memory::{
-    BytesList, Ids16, MemClock, MemDisk, MemDraws, MemSink, MemSource, MemTree, Numbers,
+    BytesList, CallCount, Ids16, MemClock, MemDisk, MemDraws, MemSink, MemSource, MemTree, Numbers,
 };
 pub use read_ahead::ReadAhead;
 pub use sink::Sink;
 pub use source::Source;
 pub use steps::Steps;
+pub use telling::Telling;
 pub use tells::Tells;
 pub use tree::{Tree, TreeError};
 pub use whole::write_all;
+pub use world::{TellsAll, World};

@@ -10,6 +10,7 @@ mod source;
 mod stop;
 mod tree;
 
+pub use calls::CallCount;
 pub use clock::MemClock;
 pub use disk::MemDisk;
 pub use draws::MemDraws;

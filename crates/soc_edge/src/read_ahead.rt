@@ -6,7 +6,7 @@ ghost use Rattle.soc_edge.specs.Disk.{written, Tears, ReadsAt, WhereTold, Only, 
 ghost use Rattle.soc_edge.specs.Windows.{window_size, ahead_told, Covers, IsFilled, IsWindow, IsDisk-ahead};
 
 use crate::{Disk, Failed};
-use soc_raw::NoMemory;
+use soc_base::NoMemory;
 use std::alloc::Global;
 use std::marker::Model;
 
@@ -40,9 +40,15 @@ impl<D: Disk> Model for ReadAhead<D> {
 
     ghost coded = { ahead_code D.code };
 
-    ghost view = { λ a. record { disk = a.disk; from = a.window.from; held = a.window.held; calls = a.calls } };
+    ghost view = { λ a. record {
+      disk = a.disk;
+      from = a.window.from;
+      held = a.window.held;
+      calls = a.calls;
+    } };
 
-    ghost invariant = { λ a. IsWindow (D.state a.disk).content a.window.from a.window.held a.window.bytes.items };
+    ghost invariant = { λ a.
+        IsWindow (D.state a.disk).content a.window.from a.window.held a.window.bytes.items };
 }
 
 impl<D: Disk> ReadAhead<D> {
@@ -50,7 +56,8 @@ impl<D: Disk> ReadAhead<D> {
     pub fn new(alloc: Global, disk: D) -> Result<ReadAhead<D>, NoMemory>
     where
         D: Drop,
-        ensures { IfOk result (λ ahead. ahead ≡ record { disk = disk; from = 0; held = 0; calls = 0 }) }
+        ensures { IfOk result (λ ahead. ahead
+            ≡ record { disk = disk; from = 0; held = 0; calls = 0 }) }
     {
         let window = Window::new(alloc)?;
         Ok(ReadAhead {
@@ -83,13 +90,16 @@ impl<D: Disk> Disk for ReadAhead<D> {
     /// fills it anew.
     fn read_at(&mut self, place: u64, into: &mut [u8]) -> Result<usize, Failed>
         ensures count { IfOk result (λ n. n ≤ length into.new) }
-        ensures bytes { IfOk result (λ n. IfSome (D.state self.old.disk).content (λ bytes. ReadsAt bytes place n into.new)) }
-        ensures looks { Looks (ahead_told (D.state self.old.disk) self.old.calls) (ahead_told (D.state self.new.disk) self.new.calls) }
+        ensures bytes { IfOk result (λ n. IfSome (D.state self.old.disk).content
+            (λ bytes. ReadsAt bytes place n into.new)) }
+        ensures looks { Looks (ahead_told (D.state self.old.disk) self.old.calls)
+            (ahead_told (D.state self.new.disk) self.new.calls) }
         ensures counted { self.new.calls ≡ one_more self.old.calls }
         ensures cause { OnErr result (DiskFailed (D.state self.old.disk) (D.state self.new.disk)) }
         ensures covered { Covers self.old.from self.old.held place (length into.old)
             → IsOk result × (self.new ≡ record self.old { calls = one_more self.old.calls }) }
-        ensures filled { OnOk result (length into.old ≤ window_size → ¬ (Covers self.old.from self.old.held place (length into.old))
+        ensures filled { OnOk result (length into.old ≤ window_size
+            → ¬ (Covers self.old.from self.old.held place (length into.old))
             → IsFilled (D.state self.old.disk).content place self.new.from self.new.held) }
         ensures one_call { (D.state self.new.disk).calls ≤ (D.state self.old.disk).calls + 1 }
     {
@@ -118,7 +128,8 @@ impl<D: Disk> Disk for ReadAhead<D> {
 impl Window {
     // A window that holds nothing.
     fn new(alloc: Global) -> Result<Window, NoMemory>
-        ensures { IfOk result (λ window. (vec_len window.bytes ≡ window_size) × (window.from ≡ 0) × (window.held ≡ 0)) }
+        ensures { IfOk result (λ window. (vec_len window.bytes ≡ window_size) × (window.from ≡ 0)
+            × (window.held ≡ 0)) }
     {
         Ok(Window {
             bytes: vec![in alloc; 0; WINDOW]?,
@@ -137,8 +148,10 @@ impl Window {
     // Holds what the disk has from a place on.
     fn fill<D: Disk>(&mut self, disk: &mut D, place: u64) -> Result<(), Failed>
         requires { vec_len self.old.bytes ≡ window_size }
-        ensures sound { IsWindow (D.state disk.new).content self.new.from self.new.held self.new.bytes.items }
-        ensures filled { OnOk result (IsFilled (D.state disk.old).content place self.new.from self.new.held) }
+        ensures sound { IsWindow (D.state disk.new).content self.new.from self.new.held
+            self.new.bytes.items }
+        ensures filled { OnOk result (IsFilled
+            (D.state disk.old).content place self.new.from self.new.held) }
         ensures looks { Looks (D.state disk.old) (D.state disk.new) }
         ensures calls { (D.state disk.new).calls ≡ one_more (D.state disk.old).calls }
         ensures cause { OnErr result (DiskFailed (D.state disk.old) (D.state disk.new)) }
@@ -153,10 +166,13 @@ impl Window {
     fn read<D: Disk>(&mut self, disk: &mut D, place: u64, into: &mut [u8]) -> Result<usize, Failed>
         requires size { vec_len self.old.bytes ≡ window_size }
         requires short { length into.old ≤ window_size }
-        ensures sound { IsWindow (D.state disk.new).content self.new.from self.new.held self.new.bytes.items }
+        ensures sound { IsWindow (D.state disk.new).content self.new.from self.new.held
+            self.new.bytes.items }
         ensures count { IfOk result (λ n. n ≤ length into.new) }
-        ensures bytes { IfOk result (λ n. IfSome (D.state disk.old).content (λ bytes. ReadsAt bytes place n into.new)) }
-        ensures filled { OnOk result (IsFilled (D.state disk.old).content place self.new.from self.new.held) }
+        ensures bytes { IfOk result (λ n. IfSome (D.state disk.old).content
+            (λ bytes. ReadsAt bytes place n into.new)) }
+        ensures filled { OnOk result (IsFilled
+            (D.state disk.old).content place self.new.from self.new.held) }
         ensures looks { Looks (D.state disk.old) (D.state disk.new) }
         ensures calls { (D.state disk.new).calls ≡ one_more (D.state disk.old).calls }
         ensures cause { OnErr result (DiskFailed (D.state disk.old) (D.state disk.new)) }
@@ -171,7 +187,8 @@ impl Window {
         requires within { place ≤ self.now.from + self.now.held }
         requires held { self.now.held ≤ vec_len self.now.bytes }
         ensures count { result ≤ length into.new }
-        ensures reads { ReadsAt (take self.now.held self.now.bytes.items) (place - self.now.from) result into.new }
+        ensures reads { ReadsAt (take self.now.held self.now.bytes.items)
+            (place - self.now.from) result into.new }
     {
         let start = (place - self.from) as usize;
         let count = into.len().min(self.held - start);

@@ -11,7 +11,8 @@ pub trait Sink: Tells {
     fn write(&mut self, bytes: &[u8]) -> Result<usize, Failed>
         ensures count { IfOk result (λ n. n ≤ length bytes.now) }
         ensures some { IfOk result (λ n. 0 < length bytes.now → 0 < n) }
-        ensures writes { IfOk result (λ n. Writes (Self.told self.old) (Self.told self.new) (take n bytes.now)) }
+        ensures writes { IfOk result (λ n. Writes (Self.told self.old) (Self.told self.new)
+            (take n bytes.now)) }
         ensures untouched { OnErr result (Writes (Self.told self.old) (Self.told self.new) []) }
         ensures cause { OnErr result (WriteFailed (Self.told self.old) (Self.told self.new)) };
 }

@@ -12,8 +12,10 @@ pub trait Source: Tells {
     /// After `Failed` nothing was moved. What was written stays, where the source is a sink too.
     fn read(&mut self, into: &mut [u8]) -> Result<usize, Failed>
         ensures count { IfOk result (λ n. n ≤ length into.new) }
-        ensures reads { IfOk result (λ n. Reads (Self.told self.old) (Self.told self.new) (take n into.new)) }
-        ensures end { IfOk result (λ n. n ≡ 0 → 0 < length into.new → IsAtEnd (Self.told self.new).left) }
+        ensures reads { IfOk result (λ n. Reads (Self.told self.old) (Self.told self.new)
+            (take n into.new)) }
+        ensures end { IfOk result (λ n. n ≡ 0 → 0 < length into.new
+            → IsAtEnd (Self.told self.new).left) }
         ensures unmoved { OnErr result (Reads (Self.told self.old) (Self.told self.new) []) }
         ensures cause { OnErr result (ReadFailed (Self.told self.old) (Self.told self.new)) };
 }

@@ -3,7 +3,7 @@ ghost use Rattle.std.specs.Prelude.{◌≡◌, IfSome, IfOk, IsErrOf};
 ghost use Rattle.soc_edge.specs.Tree.{TreeTold, OnlyLooks, TreeFailed};
 ghost use Rattle.soc_edge.specs.declared.tree.TreeError.TheVariants.{NoMemory};
 
-use soc_raw::Bytes;
+use soc_base::Bytes;
 use std::alloc::Global;
 use thiserror::Error;
 
@@ -18,10 +18,10 @@ pub enum TreeError {
     NoMemory,
 }
 
-impl From<soc_raw::NoMemory> for TreeError {
+impl From<soc_base::NoMemory> for TreeError {
     ghost from_gives = { λ _ e. e ≡ NoMemory };
 
-    fn from(_error: soc_raw::NoMemory) -> TreeError {
+    fn from(_error: soc_base::NoMemory) -> TreeError {
         TreeError::NoMemory
     }
 }
@@ -33,9 +33,11 @@ pub trait Tree {
 
     /// The bytes of the file of that name, `None` exactly where there is none. The files stay as they are.
     fn file(&mut self, alloc: Global, name: &str) -> Result<Option<Bytes>, TreeError>
-        ensures gives { IfOk result (λ file. IfSome (told self.old).files (λ files. file ≡ files name.now)) }
+        ensures gives { IfOk result (λ file. IfSome (told self.old).files
+            (λ files. file ≡ files name.now)) }
         ensures looks { OnlyLooks (told self.old) (told self.new) }
-        ensures cause { IsErrOf result TreeError.Failed → TreeFailed (told self.old) (told self.new) };
+        ensures cause { IsErrOf result TreeError.Failed
+            → TreeFailed (told self.old) (told self.new) };
 }
 
 /// A tree that is lent has the same files.

@@ -4,8 +4,8 @@ ghost use Rattle.std.specs.Prelude.{◌≡◌, ◌+◌, ◌<◌, IfOk};
 mod read_ahead;
 
 use crate::expect::{holds, same};
+use soc_base::{Blobs, Bytes, Text};
 use soc_edge::*;
-use soc_raw::{Blobs, Bytes, Text};
 use std::alloc::{AllocError, Global};
 use std::marker::Brand;
 use std::sync::ledger::{Blank, Ledger};

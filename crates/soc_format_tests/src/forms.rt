@@ -1,7 +1,7 @@
 //! Submissions as crash reporters send them, and messages that are none.
 use crate::expect::{holds, same};
+use soc_base::{NoMemory, Pairs, Text};
 use soc_forms::{Form, FormError, Reason, Submission, read_submission};
-use soc_raw::{NoMemory, Pairs, Text};
 use std::alloc::Global;
 use std::process::Abort;
 use std::test::Fail;

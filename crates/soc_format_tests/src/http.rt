@@ -1,11 +1,11 @@
 //! Worked rows, each fed in one piece and one byte at a time.
 use crate::expect::{holds, same};
+use soc_base::{Bytes, Pairs};
 use soc_edge::{Failed, MemSink, MemSource, Numbers, Source, Tells};
 use soc_http::{
     Answered, BodyError, Buffer, Head, HeadError, Kind, Route, RouteError, Routes, Verb,
     body_piece, pairs_of, read_body, read_head, write_reply,
 };
-use soc_raw::{Bytes, Pairs};
 use soc_text::before;
 use std::alloc::Global;
 use std::process::Abort;

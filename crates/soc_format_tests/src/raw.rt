@@ -1,6 +1,7 @@
 //! Crash ids, records and what reads them, in worked examples.
 use crate::expect::{holds, same};
-use soc_raw::{CrashId, Cursor, Date, Digit, RawCrash, RecordError, Text, TextList, day_of};
+use soc_base::{Cursor, Text, TextList};
+use soc_raw::{CrashId, Date, Digit, RawCrash, RecordError, day_of};
 use std::test::Fail;
 
 const DRAW: [u8; 16] = [

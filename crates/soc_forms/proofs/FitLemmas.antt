@@ -1,5 +1,6 @@
 -- What a submission says keeps within the limits of a raw crash where its body keeps within 16 MiB.
-use Rattle.std.proofs.Common.{◌≡◌, ℕ, ◌+◌, ◌*◌, ◌≤◌, Bool, true, false, not, ◌&&◌, cond, List, [], ◌∷◌, length, filter, fold, codes, Option, Some, None, is_some, is_none, Ordering, Less, Equal, Greater, inl, inr, ap, subst, arith}
+use Rattle.std.proofs.Common.{◌≡◌, ℕ, ◌+◌, ◌*◌, ◌≤◌, Bool, true, false, not, ◌&&◌, cond, List, [], ◌∷◌, length, filter, fold, codes, Option, Some, None, is_some, is_none, Ordering, Less, Equal, Greater, inl, inr, ap, subst, arith, refl, nat_lt, ◌==◌, if◌then◌else◌}
+use Rattle.std.proofs.lemmas.Bool.Decides.{nat_tests}
 use Rattle.std.specs.Prelude.{sum_by}
 use Rattle.std.specs.Cmp.Lexicographic.{slice_cmp}
 use Rattle.std.specs.Ordering.{nat_cmp, match_ordering}
@@ -7,16 +8,17 @@ use Rattle.std.specs.Str.{bytes_eq}
 use Rattle.std.specs.Str.Lossy.{utf8_lossy}
 use Rattle.std.proofs.lemmas.List.Sums.{sum_by-cons}
 use Rattle.serde_json.specs.Data.{Members, no_members, member}
-use Rattle.soc_raw.specs.Names.{with_value}
+use Rattle.soc_base.specs.Names.{with_value}
 use Rattle.soc_raw.specs.inner.Sizes.{pair_len}
 use Rattle.soc_raw.proofs.Lengths.{length_by_parts}
+use Rattle.soc_forms.specs.declared.reasons.Reason.TheVariants.{TooManyAnnotations, NoAnnotations, LongProduct}
 use Rattle.soc_forms.specs.Extras.{text_of, with_members}
 use Rattle.soc_forms.specs.Fields.{FieldTexts, no_fields, is_extra, is_dump, is_plain, put, plain_step, dump_step, dumps_of}
 use Rattle.soc_forms.specs.Fits.{FitsCrash}
 use Rattle.soc_forms.specs.FormLines.{AreFormLines}
 use Rattle.soc_multipart.specs.Parts.{PartText, Cut}
 use Rattle.soc_multipart.specs.OwnedViews.{owned_texts}
-use Rattle.soc_forms.specs.Submissions.{SubmissionText, SaysFields, SaysSubmission, SubmissionOf}
+use Rattle.soc_forms.specs.Submissions.{SubmissionText, SaysFields, SaysSubmission, SubmissionOf, count_of, fields_fault, has_short_product}
 use Rattle.soc_multipart.specs.declared.owned_parts.OwnedPart.{OwnedPart}
 use Rattle.soc_forms.proofs.JsonSizes.{texts_size, members_within}
 use Rattle.soc_forms.proofs.PartSizes.{lossy_short, part_size, body_short}
@@ -132,9 +134,16 @@ said_size parts fields (inr (extra, members, one, is, none, e)) =
 
 -- ---- the submission
 
+few_of : (fields : FieldTexts) → fields_fault fields ≡ None → length fields.annotations ≤ 1024
+few_of fields good = by (nat_lt 1024 (count_of fields)) refl good
+  where
+    by : (over : Bool) → nat_lt 1024 (count_of fields) ≡ over → (if over then Some TooManyAnnotations else (if length fields.annotations == 0 then Some NoAnnotations else (if has_short_product fields.annotations then None else Some LongProduct))) ≡ None → length fields.annotations ≤ 1024
+    by true is clash = absurd (cc)
+    by false is good = grind (arith, nat_tests)
+
 pub body_fits : (boundary body : List ℕ) (parts : List PartText) (said : SubmissionText) → Cut boundary body parts → SaysSubmission parts said → length body ≤ 16777216 → FitsCrash said
 body_fits boundary body parts said cut says short =
-    let annotations : length said.annotations ≤ 1024 = omega (arith, ap length says.annotations_are, says.few) in
+    let annotations : length said.annotations ≤ 1024 = omega (arith, ap length says.annotations_are, few_of says.fields says.good) in
     let dumps : length said.dumps ≤ 512 = omega (arith, ap length says.dumps_are, dumps_count [] parts, cut.few) in
     let total = body_short boundary body parts cut in
     let sizes = said_size parts says.fields says.says in

@@ -4,13 +4,13 @@ use Rattle.serde_json.specs.Data.{Members, object}
 use Rattle.soc_multipart.specs.declared.parts.PartsError.{PartsError}
 use Rattle.soc_multipart.specs.declared.parts.PartsError.TheVariants as fault
 use Rattle.soc_forms.specs.declared.reasons.Reason.{Reason}
-use Rattle.soc_forms.specs.declared.reasons.Reason.TheVariants.{ContentEncoding, NoContentType, WrongContentType, NoBoundary, NoFirst, BadPartHead, NoClose, TooManyParts, BadExtra, ExtraAndPlain, TooManyAnnotations, NoAnnotations}
+use Rattle.soc_forms.specs.declared.reasons.Reason.TheVariants.{ContentEncoding, NoContentType, WrongContentType, NoBoundary, NoFirst, BadPartHead, NoClose, TooManyParts, BadExtra, ExtraAndPlain, TooManyAnnotations, NoAnnotations, LongProduct}
 use Rattle.soc_multipart.specs.Params.{lower, value_of}
 use Rattle.soc_forms.specs.FormLines.{HasOneType, HasBoundary, AreFormLines, LinesFault, params_of, media_of}
 use Rattle.soc_forms.specs.Extras.{IsExtra, with_members}
 use Rattle.soc_forms.specs.Fields.{FieldTexts, no_fields, is_extra, is_plain}
 use Rattle.soc_multipart.specs.Parts.{PartText, Cut, CutFault}
-use Rattle.soc_forms.specs.Submissions.{SubmissionText, SaysFields, HasBadExtra, count_of, IsSentId, SaysSubmission, SaysFault, BodyFault, SubmissionFault, SubmissionOf, IsOneSubmission}
+use Rattle.soc_forms.specs.Submissions.{SubmissionText, SaysFields, HasBadExtra, HasFieldsFault, fields_fault, IsSentId, SaysSubmission, SaysFault, BodyFault, SubmissionFault, SubmissionOf, IsOneSubmission}
 use Rattle.soc_multipart.proofs.CutLemmas.{cut_once, fault_not_cut, fault_once}
 use Rattle.soc_multipart.proofs.DispositionLemmas.{params_once}
 
@@ -87,14 +87,7 @@ lines_not_refused encoding kinds b WrongContentType l (v, t, bad) =
     bad (ap (λ (x : List ℕ). lower (media_of x)) (type_once encoding kinds v l.value t l.lines) ∙ l.media)
 lines_not_refused encoding kinds b NoBoundary l (v, t, m, none) =
     none b (subst (λ (x : List ℕ). HasBoundary x b) (type_once encoding kinds l.value v l.lines t) l.has)
-lines_not_refused encoding kinds b NoFirst l f = f
-lines_not_refused encoding kinds b BadPartHead l f = f
-lines_not_refused encoding kinds b NoClose l f = f
-lines_not_refused encoding kinds b TooManyParts l f = f
-lines_not_refused encoding kinds b BadExtra l f = f
-lines_not_refused encoding kinds b ExtraAndPlain l f = f
-lines_not_refused encoding kinds b TooManyAnnotations l f = f
-lines_not_refused encoding kinds b NoAnnotations l f = f
+lines_not_refused encoding kinds b _ l f = f
 
 nil_not_two : (p q : PartText) (more : List PartText) → ¬ (◌≡◌ {A = List PartText} [] (p ∷ q ∷ more))
 nil_not_two p q more e = cc
@@ -113,22 +106,20 @@ not_both : (parts : List PartText) (fields : FieldTexts) (p : PartText) → Says
 not_both parts fields p (inl (a, e)) b = absurd (nil_not_one p (sym a ∙ b))
 not_both parts fields p (inr (x, ms, a, i, j, e)) b = j
 
+none_not_some : (reason : Reason) → ¬ (◌≡◌ {A = Option Reason} None (Some reason))
+none_not_some reason e = cc
+
+faultless : (parts : List PartText) (s : SubmissionText) (reason : Reason) → SaysSubmission parts s → ¬ (HasFieldsFault parts reason)
+faultless parts s reason h (fields, says, is) =
+    none_not_some reason (sym h.good ∙ (ap fields_fault (fields_once parts h.fields fields h.says says) ∙ is))
+
 pub says_not_refused : (parts : List PartText) (s : SubmissionText) (reason : Reason) → SaysSubmission parts s → ¬ (SaysFault parts reason)
 says_not_refused parts s BadExtra h f = good_extra parts h.fields h.says f
 says_not_refused parts s ExtraAndPlain h (p, ms, a, i, some) = some (not_both parts h.fields p h.says a)
-says_not_refused parts s TooManyAnnotations h (fields, says, many) =
-    let same : fields ≡ h.fields = fields_once parts fields h.fields says h.says in absurd (omega (arith, h.few, ap count_of same))
-says_not_refused parts s NoAnnotations h (fields, says, few, none) =
-    let same : fields ≡ h.fields = fields_once parts fields h.fields says h.says in
-    h.some (sym (ap (λ (x : FieldTexts). x.annotations) same) ∙ none)
-says_not_refused parts s ContentEncoding h f = f
-says_not_refused parts s NoContentType h f = f
-says_not_refused parts s WrongContentType h f = f
-says_not_refused parts s NoBoundary h f = f
-says_not_refused parts s NoFirst h f = f
-says_not_refused parts s BadPartHead h f = f
-says_not_refused parts s NoClose h f = f
-says_not_refused parts s TooManyParts h f = f
+says_not_refused parts s TooManyAnnotations h f = faultless parts s TooManyAnnotations h f
+says_not_refused parts s NoAnnotations h f = faultless parts s NoAnnotations h f
+says_not_refused parts s LongProduct h f = faultless parts s LongProduct h f
+says_not_refused parts s _ h f = f
 
 said_apart : (b body : List ℕ) (parts : List PartText) (s : SubmissionText) (reason : Reason) → Cut b body parts → SaysSubmission parts s
     → ¬ ((ps : List PartText) × Cut b body ps × SaysFault ps reason)
@@ -140,14 +131,7 @@ body_not_refused b body parts s NoFirst c h f = fault_not_cut b body parts fault
 body_not_refused b body parts s BadPartHead c h (n, f) = fault_not_cut b body parts (fault.BadPartHead n) c f
 body_not_refused b body parts s NoClose c h f = fault_not_cut b body parts fault.NoClose c f
 body_not_refused b body parts s TooManyParts c h f = fault_not_cut b body parts fault.TooManyParts c f
-body_not_refused b body parts s ContentEncoding c h f = said_apart b body parts s ContentEncoding c h f
-body_not_refused b body parts s NoContentType c h f = said_apart b body parts s NoContentType c h f
-body_not_refused b body parts s WrongContentType c h f = said_apart b body parts s WrongContentType c h f
-body_not_refused b body parts s NoBoundary c h f = said_apart b body parts s NoBoundary c h f
-body_not_refused b body parts s BadExtra c h f = said_apart b body parts s BadExtra c h f
-body_not_refused b body parts s ExtraAndPlain c h f = said_apart b body parts s ExtraAndPlain c h f
-body_not_refused b body parts s TooManyAnnotations c h f = said_apart b body parts s TooManyAnnotations c h f
-body_not_refused b body parts s NoAnnotations c h f = said_apart b body parts s NoAnnotations c h f
+body_not_refused b body parts s reason c h f = said_apart b body parts s reason c h f
 
 pub not_refused : (encoding : Option (List ℕ)) (kinds : List (List ℕ × List ℕ)) (body : List ℕ) (s : SubmissionText) (reason : Reason) → SubmissionOf encoding kinds body s → ¬ (SubmissionFault encoding kinds body reason)
 not_refused encoding kinds body s reason a (inl f) = lines_not_refused encoding kinds a.boundary reason a.lines f
@@ -170,14 +154,7 @@ lines_case encoding kinds ContentEncoding f = inl (refl, f)
 lines_case encoding kinds NoContentType f = inr (inl (refl, f))
 lines_case encoding kinds WrongContentType f = inr (inr (inl (refl, f)))
 lines_case encoding kinds NoBoundary f = inr (inr (inr (refl, f)))
-lines_case encoding kinds NoFirst f = absurd f
-lines_case encoding kinds BadPartHead f = absurd f
-lines_case encoding kinds NoClose f = absurd f
-lines_case encoding kinds TooManyParts f = absurd f
-lines_case encoding kinds BadExtra f = absurd f
-lines_case encoding kinds ExtraAndPlain f = absurd f
-lines_case encoding kinds TooManyAnnotations f = absurd f
-lines_case encoding kinds NoAnnotations f = absurd f
+lines_case encoding kinds _ f = absurd f
 
 media_apart : (encoding : Option (List ℕ)) (kinds : List (List ℕ × List ℕ)) → LinesFault encoding kinds WrongContentType → ¬ (LinesFault encoding kinds NoBoundary)
 media_apart encoding kinds (v, t, bad) (w, u, good, none) =
@@ -201,27 +178,18 @@ lines_reason_once encoding kinds r s (inr (inr (inr (e, f)))) (inr (inl (h, g)))
 lines_reason_once encoding kinds r s (inr (inr (inr (e, f)))) (inr (inr (inl (h, g)))) = absurd (media_apart encoding kinds g f)
 lines_reason_once encoding kinds r s (inr (inr (inr (e, f)))) (inr (inr (inr (h, g)))) = e ∙ sym h
 
--- what a fault of the fields is
+-- what a fault of the parts is
 abbrev SaysCase : List PartText → Reason → Type 0
 SaysCase parts reason =
-    ((reason ≡ BadExtra) × HasBadExtra parts)
-    ⊎ (((reason ≡ ExtraAndPlain) × SaysFault parts ExtraAndPlain)
-    ⊎ (((reason ≡ TooManyAnnotations) × SaysFault parts TooManyAnnotations)
-    ⊎ ((reason ≡ NoAnnotations) × SaysFault parts NoAnnotations)))
+    ((reason ≡ BadExtra) × HasBadExtra parts) ⊎ (((reason ≡ ExtraAndPlain) × SaysFault parts ExtraAndPlain) ⊎ HasFieldsFault parts reason)
 
 says_case : (parts : List PartText) (reason : Reason) → SaysFault parts reason → SaysCase parts reason
 says_case parts BadExtra f = inl (refl, f)
 says_case parts ExtraAndPlain f = inr (inl (refl, f))
-says_case parts TooManyAnnotations f = inr (inr (inl (refl, f)))
-says_case parts NoAnnotations f = inr (inr (inr (refl, f)))
-says_case parts ContentEncoding f = absurd f
-says_case parts NoContentType f = absurd f
-says_case parts WrongContentType f = absurd f
-says_case parts NoBoundary f = absurd f
-says_case parts NoFirst f = absurd f
-says_case parts BadPartHead f = absurd f
-says_case parts NoClose f = absurd f
-says_case parts TooManyParts f = absurd f
+says_case parts TooManyAnnotations f = inr (inr f)
+says_case parts NoAnnotations f = inr (inr f)
+says_case parts LongProduct f = inr (inr f)
+says_case parts _ f = absurd f
 
 bad_or_mixed : (parts : List PartText) → HasBadExtra parts → ¬ (SaysFault parts ExtraAndPlain)
 bad_or_mixed parts (inl (p, q, more, b)) (x, ms, a, i, some) = one_not_two x p q more (sym a ∙ b)
@@ -230,27 +198,20 @@ bad_or_mixed parts (inr (p, b, none)) (x, ms, a, i, some) = none ms (subst (λ (
 mixed_or_said : (parts : List PartText) (fields : FieldTexts) → SaysFault parts ExtraAndPlain → ¬ (SaysFields parts fields)
 mixed_or_said parts fields (x, ms, a, i, some) says = some (not_both parts fields x says a)
 
-many_or_none : (parts : List PartText) → SaysFault parts TooManyAnnotations → ¬ (SaysFault parts NoAnnotations)
-many_or_none parts (f, says, many) (g, says', few, none) =
-    let same : count_of f ≡ count_of g = ap count_of (fields_once parts f g says says') in absurd (omega (arith, same, many, few))
+same_reason : (r s : Reason) → Some r ≡ Some s → r ≡ s
+same_reason r s e = cc
 
 says_reason_once : (parts : List PartText) (r s : Reason) → SaysCase parts r → SaysCase parts s → r ≡ s
 says_reason_once parts r s (inl (e, f)) (inl (h, g)) = e ∙ sym h
 says_reason_once parts r s (inl (e, f)) (inr (inl (h, g))) = absurd (bad_or_mixed parts f g)
-says_reason_once parts r s (inl (e, f)) (inr (inr (inl (h, g)))) = absurd (good_extra parts g.0 g.1 f)
-says_reason_once parts r s (inl (e, f)) (inr (inr (inr (h, g)))) = absurd (good_extra parts g.0 g.1 f)
+says_reason_once parts r s (inl (e, f)) (inr (inr g)) = absurd (good_extra parts g.0 g.1 f)
 says_reason_once parts r s (inr (inl (e, f))) (inl (h, g)) = absurd (bad_or_mixed parts g f)
 says_reason_once parts r s (inr (inl (e, f))) (inr (inl (h, g))) = e ∙ sym h
-says_reason_once parts r s (inr (inl (e, f))) (inr (inr (inl (h, g)))) = absurd (mixed_or_said parts g.0 f g.1)
-says_reason_once parts r s (inr (inl (e, f))) (inr (inr (inr (h, g)))) = absurd (mixed_or_said parts g.0 f g.1)
-says_reason_once parts r s (inr (inr (inl (e, f)))) (inl (h, g)) = absurd (good_extra parts f.0 f.1 g)
-says_reason_once parts r s (inr (inr (inl (e, f)))) (inr (inl (h, g))) = absurd (mixed_or_said parts f.0 g f.1)
-says_reason_once parts r s (inr (inr (inl (e, f)))) (inr (inr (inl (h, g)))) = e ∙ sym h
-says_reason_once parts r s (inr (inr (inl (e, f)))) (inr (inr (inr (h, g)))) = absurd (many_or_none parts f g)
-says_reason_once parts r s (inr (inr (inr (e, f)))) (inl (h, g)) = absurd (good_extra parts f.0 f.1 g)
-says_reason_once parts r s (inr (inr (inr (e, f)))) (inr (inl (h, g))) = absurd (mixed_or_said parts f.0 g f.1)
-says_reason_once parts r s (inr (inr (inr (e, f)))) (inr (inr (inl (h, g)))) = absurd (many_or_none parts g f)
-says_reason_once parts r s (inr (inr (inr (e, f)))) (inr (inr (inr (h, g)))) = e ∙ sym h
+says_reason_once parts r s (inr (inl (e, f))) (inr (inr g)) = absurd (mixed_or_said parts g.0 f g.1)
+says_reason_once parts r s (inr (inr f)) (inl (h, g)) = absurd (good_extra parts f.0 f.1 g)
+says_reason_once parts r s (inr (inr f)) (inr (inl (h, g))) = absurd (mixed_or_said parts f.0 g f.1)
+says_reason_once parts r s (inr (inr f)) (inr (inr g)) =
+    same_reason r s (sym f.2 ∙ (ap fields_fault (fields_once parts f.0 g.0 f.1 g.1) ∙ g.2))
 
 -- the reason that a fault of the cut is; one that is none stands for a boundary that isn't good
 reason_of : PartsError → Reason
@@ -272,14 +233,7 @@ body_case b body NoFirst f = inl (fault.NoFirst, f, refl)
 body_case b body BadPartHead (n, f) = inl (fault.BadPartHead n, f, refl)
 body_case b body NoClose f = inl (fault.NoClose, f, refl)
 body_case b body TooManyParts f = inl (fault.TooManyParts, f, refl)
-body_case b body ContentEncoding f = inr f
-body_case b body NoContentType f = inr f
-body_case b body WrongContentType f = inr f
-body_case b body NoBoundary f = inr f
-body_case b body BadExtra f = inr f
-body_case b body ExtraAndPlain f = inr f
-body_case b body TooManyAnnotations f = inr f
-body_case b body NoAnnotations f = inr f
+body_case b body reason f = inr f
 
 body_reason_once : (b body : List ℕ) (r s : Reason) → BodyCase b body r → BodyCase b body s → r ≡ s
 body_reason_once b body r s (inl (f, is, e)) (inl (g, is', h)) = e ∙ (ap reason_of (fault_once b body f g is is') ∙ sym h)

@@ -13,7 +13,8 @@ use Rattle.std.proofs.lemmas.Map.Text.{is_eq-slice_cmp}
 use Rattle.std.proofs.lemmas.Slice.Eq.{bytes_eq-Decides}
 use Rattle.serde_json.specs.View.{members_view, view}
 use Rattle.serde_json.specs.declared.value.Value.{Value}
-use Rattle.soc_raw.specs.Names.{with_value}
+use Rattle.soc_base.proofs.Folk.{not_both}
+use Rattle.soc_base.specs.Names.{with_value}
 use Rattle.soc_forms.specs.Extras.{text_of, with_members}
 use Rattle.soc_forms.specs.Fields.{FieldTexts, no_fields, put}
 use Rattle.soc_forms.specs.Submissions.{count_of}
@@ -26,9 +27,6 @@ Texts = List (List ℕ × List ℕ)
 
 abbrev by_bytes : List ℕ → List ℕ → Ordering
 by_bytes = slice_cmp nat_cmp
-
-not_both : (b : Bool) → b ≡ true → b ≡ false → ⊥
-not_both b e f = cc
 
 -- the name is above those of the pairs, and so stands last
 abbrev IsAbove : List ℕ → Texts → Type 0

@@ -5,7 +5,7 @@ use Rattle.soc_forms.specs.declared.form_error.FormError.{FormError}
 use Rattle.soc_forms.specs.declared.form_error.FormError.TheVariants.{Malformed, NoMemory}
 use Rattle.soc_multipart.specs.declared.parts.PartsError.{PartsError}
 use Rattle.soc_forms.specs.declared.reasons.Reason.{Reason}
-use Rattle.soc_forms.specs.declared.reasons.Reason.TheVariants.{ContentEncoding, NoContentType, WrongContentType, NoBoundary, NoFirst, BadPartHead, NoClose, TooManyParts, BadExtra, ExtraAndPlain, TooManyAnnotations, NoAnnotations}
+use Rattle.soc_forms.specs.declared.reasons.Reason.TheVariants.{BadExtra, ExtraAndPlain, TooManyAnnotations, NoAnnotations, LongProduct}
 use Rattle.soc_multipart.specs.Delimiters.{IsBoundary}
 use Rattle.soc_forms.specs.FormLines.{AreFormLines}
 use Rattle.soc_multipart.specs.Parts.{PartText, Cut}
@@ -37,18 +37,12 @@ says_lifts encoding kinds body b now said lines e (parts, cut, says) =
     record { boundary = b; parts = parts; lines = lines; cut = subst (λ (x : List ℕ). Cut x body parts) e cut; says = says }
 
 says_body : (b body : List ℕ) (parts : List PartText) (reason : Reason) → Cut b body parts → SaysFault parts reason → BodyFault b body reason
-says_body b body parts ContentEncoding c h = absurd h
-says_body b body parts NoContentType c h = absurd h
-says_body b body parts WrongContentType c h = absurd h
-says_body b body parts NoBoundary c h = absurd h
-says_body b body parts NoFirst c h = absurd h
-says_body b body parts BadPartHead c h = absurd h
-says_body b body parts NoClose c h = absurd h
-says_body b body parts TooManyParts c h = absurd h
 says_body b body parts BadExtra c h = (parts, c, h)
 says_body b body parts ExtraAndPlain c h = (parts, c, h)
 says_body b body parts TooManyAnnotations c h = (parts, c, h)
 says_body b body parts NoAnnotations c h = (parts, c, h)
+says_body b body parts LongProduct c h = (parts, c, h)
+says_body b body parts _ c h = absurd h
 
 pub says_refusal : (b body : List ℕ) (parts : List PartText) (error : FormError) → Cut b body parts → SaysRefusal parts error → BodyRefusal b body error
 says_refusal b body parts (Malformed reason) c h = says_body b body parts reason c h

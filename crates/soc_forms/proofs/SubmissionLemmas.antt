@@ -1,5 +1,6 @@
 -- What the parts of a form say, by the JSON part and the plain parts among them.
-use Rattle.std.proofs.Common.{◌≡◌, ◌≢◌, ℕ, List, [], ◌∷◌, filter, length, drop, get_or, ◌+◌, ◌<◌, Bool, true, false, sym, refl, ap, ◌∙◌, subst, inr, Option, None, Some, is_some, MatchOption, String, Global, string_cmp, arith}
+use Rattle.std.proofs.Common.{◌≡◌, ◌≢◌, ℕ, List, [], ◌∷◌, filter, length, drop, get_or, ◌+◌, ◌<◌, Bool, true, false, sym, refl, ap, ◌∙◌, subst, inr, Option, None, Some, is_some, MatchOption, String, Global, string_cmp, nat_lt, arith}
+use Rattle.std.proofs.lemmas.Bool.Decides.{nat_tests}
 use Rattle.std.specs.List.Sorted.{IsStrictlySortedBy}
 use Rattle.std.specs.Map.{keys_of}
 use Rattle.soc_forms.proofs.MemberLemmas.{many_members}
@@ -13,7 +14,7 @@ use Rattle.serde_json.specs.declared.value.Value.{Value}
 use Rattle.soc_forms.specs.declared.reasons.Reason.TheVariants.{ExtraAndPlain, TooManyAnnotations}
 use Rattle.soc_forms.specs.Fields.{FieldTexts, is_extra, is_plain, no_fields}
 use Rattle.soc_forms.specs.SubmissionViews.{HasNextExtra}
-use Rattle.soc_forms.specs.Submissions.{HasBadExtra, SaysFault, SaysFields}
+use Rattle.soc_forms.specs.Submissions.{HasBadExtra, SaysFault, SaysFields, count_of, fields_fault}
 use Rattle.soc_forms.specs.inner.ExtraViews.{ShowsExtra}
 use Rattle.soc_multipart.specs.declared.owned_parts.OwnedPart.{OwnedPart}
 use Rattle.soc_forms.specs.Extras.{with_members}
@@ -79,6 +80,9 @@ says_json parts x found value ns fields none one shows e object plain f g =
     let same : ns ≡ is.0 = same_members ns is.0 (sym object ∙ is.1) in
     inr (owned_text x, is.0, one, is.2, plain, g ∙ (ap (λ (t : FieldTexts). with_members t ns) f ∙ ap (with_members no_fields) same))
 
+too_many : (fields : FieldTexts) → 1024 < count_of fields → fields_fault fields ≡ Some TooManyAnnotations
+too_many fields many = (let over : nat_lt 1024 (count_of fields) ≡ true = grind (arith, nat_tests) in rw over refl)
+
 pub too_many_json : (parts : List OwnedPart) (x : OwnedPart) (found : Option Value) (value : Value) (es : List (String Global × Value)) (count : ℕ) → filter is_extra (owned_texts parts) ≡ owned_text x ∷ []
     → ShowsExtra x.content found → found ≡ Some value → as_object (view value) ≡ Some (members_view es) → filter is_plain (owned_texts parts) ≡ [] → IsStrictlySortedBy string_cmp (keys_of es)
     → count ≡ length es → 1024 < count → SaysFault (owned_texts parts) TooManyAnnotations
@@ -86,5 +90,5 @@ too_many_json parts x found value es count one shows e object plain sorted is mo
     let ns : Members = members_view es in (
       with_members no_fields ns,
       says_json parts x found value ns (with_members no_fields ns) no_fields one shows e object plain refl refl,
-      omega (arith, many_members es sorted, more, is),
+      too_many (with_members no_fields ns) (omega (arith, many_members es sorted, more, is)),
     )

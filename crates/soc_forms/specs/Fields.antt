@@ -3,7 +3,7 @@ use Rattle.std.specs.Prelude.{ℕ, Bool, ◌&&◌, not, nat_eq, List, [], fold, 
 use Rattle.std.specs.List.{starts_with}
 use Rattle.std.specs.Str.{bytes_eq}
 use Rattle.std.specs.Str.Lossy.{utf8_lossy}
-use Rattle.soc_raw.specs.Names.{with_value}
+use Rattle.soc_base.specs.Names.{with_value}
 use Rattle.soc_multipart.specs.Parts.{PartText}
 
 -- the JSON part: named `extra`, of a kind that begins so

@@ -3,7 +3,7 @@
 use Rattle.std.specs.Prelude.{◌≡◌, ◌≢◌, ℕ, ◌==◌, Bool, true, List, [], ◌∷◌, length, take, drop, codes, Option, Some, MatchOption, ⊤}
 use Rattle.std.specs.List.{position_or_len}
 use Rattle.soc_forms.specs.declared.reasons.Reason.{Reason}
-use Rattle.soc_forms.specs.declared.reasons.Reason.TheVariants.{ContentEncoding, NoContentType, WrongContentType, NoBoundary, NoFirst, BadPartHead, NoClose, TooManyParts, BadExtra, ExtraAndPlain, TooManyAnnotations, NoAnnotations}
+use Rattle.soc_forms.specs.declared.reasons.Reason.TheVariants.{ContentEncoding, NoContentType, WrongContentType, NoBoundary}
 use Rattle.soc_multipart.specs.Delimiters.{IsBoundary}
 use Rattle.soc_text.specs.Blanks.{trimmed}
 use Rattle.soc_multipart.specs.Params.{ParamText, AreParams, lower, semicolon, value_of}
@@ -52,11 +52,4 @@ LinesFault encoding kinds WrongContentType =
 LinesFault encoding kinds NoBoundary =
     (value : List ℕ) × HasOneType encoding kinds value × (lower (media_of value) ≡ codes "multipart/form-data")
     × ((boundary : List ℕ) → ¬ (HasBoundary value boundary))
-LinesFault encoding kinds NoFirst = ⊥
-LinesFault encoding kinds BadPartHead = ⊥
-LinesFault encoding kinds NoClose = ⊥
-LinesFault encoding kinds TooManyParts = ⊥
-LinesFault encoding kinds BadExtra = ⊥
-LinesFault encoding kinds ExtraAndPlain = ⊥
-LinesFault encoding kinds TooManyAnnotations = ⊥
-LinesFault encoding kinds NoAnnotations = ⊥
+LinesFault encoding kinds _ = ⊥

@@ -8,8 +8,8 @@ ghost use Rattle.soc_forms.specs.inner.FieldViews.{fields_text};
 
 use crate::fields::{Fields, put};
 use serde_json::{Map, Value};
+use soc_base::{NoMemory, Text};
 use soc_multipart::OwnedPart;
-use soc_raw::{NoMemory, Text};
 use std::alloc::Global;
 
 /// The object that the JSON part is the text of, where no number in it is a float.

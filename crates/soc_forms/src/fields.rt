@@ -4,8 +4,8 @@ ghost use Rattle.soc_forms.specs.Fields.{dump_step, dumps_of, is_dump, is_extra,
 ghost use Rattle.soc_forms.specs.inner.FieldViews.{fields_text};
 ghost use Rattle.soc_multipart.specs.OwnedViews.{owned_text, owned_texts};
 
+use soc_base::{Blobs, NoMemory, Text, Texts};
 use soc_multipart::{OwnedPart, lossy_text};
-use soc_raw::{Blobs, NoMemory, Text, Texts};
 use std::alloc::Global;
 
 /// The fields of a form.

@@ -1,6 +1,6 @@
 //! Why a message was not read as a submission.
 use crate::reasons::Reason;
-use soc_raw::NoMemory;
+use soc_base::NoMemory;
 use std::alloc::{AllocError, AllocFailed};
 use thiserror::Error;
 

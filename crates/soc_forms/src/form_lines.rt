@@ -8,8 +8,8 @@ ghost use Rattle.soc_forms.specs.FormErrors.{LinesRefusal};
 
 use crate::form_error::FormError;
 use crate::reasons::Reason;
+use soc_base::{NoMemory, Pairs};
 use soc_multipart::{find_param, is_boundary, parameters};
-use soc_raw::{NoMemory, Pairs};
 use soc_text::{after, trim_blanks};
 use std::alloc::Global;
 

@@ -13,8 +13,8 @@ ghost use Rattle.soc_forms.specs.Submissions.{BodyRefusal};
 use crate::form_error::FormError;
 use crate::form_lines::boundary_of;
 use crate::submissions::{Submission, form_error, said_by};
+use soc_base::Pairs;
 use soc_multipart::Reader;
-use soc_raw::Pairs;
 use std::alloc::Global;
 use std::marker::Model;
 

@@ -28,6 +28,8 @@ pub enum Reason {
     TooManyAnnotations,
     /// There is no annotation.
     NoAnnotations,
+    /// The product's name has more than 1,024 bytes.
+    LongProduct,
 }
 
 impl Reason {
@@ -51,6 +53,7 @@ impl Reason {
             Reason::ExtraAndPlain => "extra_and_plain",
             Reason::TooManyAnnotations => "too_many_annotations",
             Reason::NoAnnotations => "no_annotations",
+            Reason::LongProduct => "product_name",
         }
     }
 }

@@ -8,7 +8,7 @@ ghost use Rattle.soc_forms.specs.Fits.{FitsCrash};
 ghost use Rattle.soc_multipart.specs.Readers.{RefusesBody};
 ghost use Rattle.soc_forms.specs.Forms.{error_of};
 ghost use Rattle.soc_multipart.specs.OwnedViews.{owned_texts};
-ghost use Rattle.soc_forms.specs.Submissions.{BodyRefusal, IsOneSubmission, IsSentId, SaysFields, SaysRefusal, SaysSubmission, SubmissionOf, SubmissionRefusal};
+ghost use Rattle.soc_forms.specs.Submissions.{BodyRefusal, IsOneSubmission, IsSentId, SaysFields, SaysRefusal, SaysSubmission, SubmissionOf, SubmissionRefusal, has_short_product};
 ghost use Rattle.soc_forms.specs.SubmissionViews.{HasNextExtra, submission_text};
 
 use crate::extras::{extra_of, with_members};
@@ -16,12 +16,16 @@ use crate::fields::{Fields, dumps_of, is_extra, is_plain, no_fields, plain_field
 use crate::form_error::FormError;
 use crate::forms::Form;
 use crate::reasons::Reason;
+use soc_base::{Blobs, Pairs, Text, Texts};
 use soc_multipart::{OwnedPart, PartsError};
-use soc_raw::{Blobs, CrashId, Pairs, Text, Texts};
+use soc_raw::CrashId;
 use std::alloc::Global;
 
 /// The most annotations, `uuid` counted.
 const ANNOTATIONS_LIMIT: usize = 1024;
+
+/// The longest name of a product, in bytes.
+const PRODUCT_LIMIT: usize = 1024;
 
 /// What a message says.
 #[derive(Debug, Drop)]
@@ -87,6 +91,9 @@ pub fn said_by(alloc: Global, parts: Vec<OwnedPart>) -> Result<Submission, FormE
     if fields.annotations.is_empty() {
         return Err(FormError::Malformed(Reason::NoAnnotations));
     }
+    if !has_short_product(&fields.annotations) {
+        return Err(FormError::Malformed(Reason::LongProduct));
+    }
     let dumps = dumps_of(alloc, parts)?;
     let Fields { sent, annotations } = fields;
     Ok(Submission {
@@ -94,6 +101,15 @@ pub fn said_by(alloc: Global, parts: Vec<OwnedPart>) -> Result<Submission, FormE
         annotations,
         dumps,
     })
+}
+
+fn has_short_product(annotations: &Texts) -> bool
+    ensures { result ≡ has_short_product annotations.now }
+{
+    match annotations.get("ProductName") {
+        Some(product) => product.len() <= PRODUCT_LIMIT,
+        None => true,
+    }
 }
 
 fn sent_id(sent: Option<Text>) -> Option<CrashId>

@@ -6,6 +6,7 @@ use Rattle.std.proofs.lemmas.Slice.Eq.{starts_is, ends_is}
 use Rattle.std.proofs.lemmas.Str.{IsCharBoundary-before_ascii}
 use Rattle.std.specs.Str.{IsCharBoundary}
 use Rattle.std.specs.Str.Iter.{HasSubslice}
+use Rattle.soc_base.proofs.Folk.{or_second}
 use Rattle.soc_frames.specs.Depth.{begins, ends}
 use Rattle.soc_frames.specs.Cpp.{constant, conversion, contains, end_length, without_end, without_ends, behind_spaces, without_return_type}
 
@@ -20,10 +21,6 @@ begins_so piece rest = (starts_is Decides-eqb (piece ++ rest) piece (begins (pie
 or_first : (s t : Bool) → s ≡ true → (s || t) ≡ true
 or_first true t e = refl
 or_first false t e = cc
-
-or_second : (s t : Bool) → t ≡ true → (s || t) ≡ true
-or_second true t e = refl
-or_second false t e = e
 
 contains_front : (piece text : List ℕ) → begins text piece ≡ true → contains piece text ≡ true
 contains_front piece [] e = e

@@ -6,7 +6,7 @@ ghost use Rattle.soc_frames.specs.Cpp.{end_length, trimmed, behind_spaces, witho
 use crate::groups::collapse;
 use crate::spaces::put_spaces_right;
 use crate::walk::Walk;
-use soc_raw::{NoMemory, Text};
+use soc_base::{NoMemory, Text};
 use std::alloc::Global;
 
 const CONST: &[u8] = b" const";

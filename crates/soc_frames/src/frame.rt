@@ -1,5 +1,5 @@
 //! One frame of a stack.
-use soc_raw::Text;
+use soc_base::Text;
 
 const RUST_END: &[u8] = b".rs";
 

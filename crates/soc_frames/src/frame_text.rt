@@ -5,7 +5,7 @@ ghost use Rattle.soc_frames.specs.Frames.{address_text, place_text, normal_of};
 use crate::cpp::cpp_text;
 use crate::frame::Frame;
 use crate::rust::rust_name;
-use soc_raw::{NoMemory, Text};
+use soc_base::{NoMemory, Text};
 use soc_text::base_name;
 use std::alloc::Global;
 

@@ -4,7 +4,7 @@ ghost use Rattle.soc_frames.specs.Collapse.{collapsed, outer_text};
 ghost use Rattle.soc_frames.specs.inner.Walks.{opens};
 
 use crate::walk::{Place, Walk};
-use soc_raw::{NoMemory, Text};
+use soc_base::{NoMemory, Text};
 use std::alloc::Global;
 
 /// What stands for a group of `<`.

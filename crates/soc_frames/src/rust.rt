@@ -7,7 +7,7 @@ ghost use Rattle.soc_frames.specs.inner.Walks.{rest_of, PassesAngles, FindsAngle
 
 use crate::groups::TEMPLATE;
 use crate::walk::{Place, Walk};
-use soc_raw::{NoMemory, Text};
+use soc_base::{NoMemory, Text};
 use soc_text::{after, is_lower_hex};
 use std::alloc::Global;
 

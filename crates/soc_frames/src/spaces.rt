@@ -5,7 +5,7 @@ ghost use Rattle.std.specs.Str.{IsCharBoundary};
 ghost use Rattle.soc_frames.specs.Cpp.{is_mark, comes_to_mark, spaced};
 ghost use Rattle.soc_frames.specs.inner.Spaces.{Puts, is_inner, is_space_byte};
 
-use soc_raw::{NoMemory, Text};
+use soc_base::{NoMemory, Text};
 use soc_text::after;
 use std::alloc::Global;
 

@@ -8,3 +8,4 @@ pub mod Meets
 pub mod Closes
 pub mod Taken
 pub mod Totals
+pub mod Crossing

@@ -6,7 +6,7 @@ use crate::plays::{Number, Part};
 use crate::seats::{Chair, HallSeat, Seat, Seats};
 use crate::view::{Law, Place, Start, View};
 use atomic_table::{Refused, Table, TableRule};
-use soc_raw::NoMemory;
+use soc_base::NoMemory;
 use std::alloc::Global;
 use std::snapshot::Snapshot;
 

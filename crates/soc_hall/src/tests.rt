@@ -2,7 +2,7 @@ ghost use Rattle.std.specs.Prelude.{◌≡◌, ◌+◌, ◌*◌, ◌<◌, ◌≤
 ghost use Rattle.soc_hall.specs.Seats.{known_of, seats_in, room_of, IsSeatOf};
 
 use super::*;
-use soc_raw::NoMemory;
+use soc_base::NoMemory;
 use std::alloc::Global;
 use std::rt::Clock;
 use std::sync::Wait;

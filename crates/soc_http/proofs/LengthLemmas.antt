@@ -8,6 +8,7 @@ use Rattle.std.specs.List.{list_all, list_any}
 use Rattle.std.specs.Char.{digit_value, is_ascii_digit}
 use Rattle.std.specs.Str.Parse.{digits_value, AllDigits}
 use Rattle.std.specs.Bool.{Decides}
+use Rattle.soc_base.proofs.Folk.{not_true, or_false}
 use Rattle.soc_text.specs.Digits.{IsNumber}
 use Rattle.soc_http.specs.declared.framing.Framing.{Framing}
 use Rattle.soc_http.specs.declared.framing.Stated.{Stated}
@@ -32,16 +33,12 @@ length-is value =
     (Decides-and (nat_le (length value) digit_limit) (list_all is_ascii_digit value) (at-most (length value) digit_limit) (digits-are value)) in
     (λ e. let p = parts.0 e in (p.1.0, (p.0, p.1.1)), λ p. parts.1 (p.1.0, (p.0, p.1.1)))
 
-false_from : (b : Bool) → (b ≡ true → ⊥) → b ≡ false
-false_from true h = absurd (h refl)
-false_from false h = refl
-
 -- such a value states its number, another one states nothing that can be taken
 pub stated-number : (so_far : Stated) (value : List ℕ) (n : ℕ) → so_far ≡ Nothing → IsNumber 19 value → n ≡ digits_value 10 value → Length n ≡ stated_more so_far value
 stated-number so_far value n none is e = rw (none, (length-is value).1 is, e) refl
 
 pub stated-other : (so_far : Stated) (value : List ℕ) → so_far ≡ Nothing → ¬ (IsNumber 19 value) → Bad ≡ stated_more so_far value
-stated-other so_far value none not = rw (none, false_from (is_length value) (λ e. not ((length-is value).0 e))) refl
+stated-other so_far value none not = rw (none, not_true (is_length value) (λ e. not ((length-is value).0 e))) refl
 
 -- ---- lines
 
@@ -75,12 +72,8 @@ stated_by_line-snoc lines line =
     step true = stated-snoc before line.1
     step false = ap stated (append-nil before)
 
-or_last : (b : Bool) → (b || false) ≡ b
-or_last true = refl
-or_last false = refl
-
 list_any-snoc : (p : Line → Bool) (lines : List Line) (line : Line) → list_any p (lines ++ line ∷ []) ≡ (list_any p lines || p line)
-list_any-snoc p lines line = list_any-append p lines (line ∷ []) ∙ ap (λ b. list_any p lines || b) (or_last (p line))
+list_any-snoc p lines line = list_any-append p lines (line ∷ []) ∙ ap (λ b. list_any p lines || b) (or_false (p line))
 
 abbrev pub framing : Stated → Bool → Bool → Framing
 framing s c d = record { stated = s; coded = c; close = d }

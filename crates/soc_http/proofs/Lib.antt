@@ -8,3 +8,4 @@ pub mod WindowLemmas
 pub mod HeadLemmas
 pub mod BodyLemmas
 pub mod BoundLemmas
+pub mod RouterLemmas

@@ -1,39 +1,49 @@
 -- The routes of the service, which are this project's own. All paths but a report's are literal, and no path is decoded.
-use Rattle.std.specs.Prelude.{◌≡◌, ℕ, Bool, true, false, not, ◌&&◌, ◌==◌, nat_lt, if◌then◌else◌, List, length, take, drop, codes, Option, None, Some, Result, Ok, Err, bytes_eq, ⊤}
+use Rattle.std.specs.Prelude.{◌≡◌, ℕ, Bool, true, false, not, ◌&&◌, ◌==◌, nat_lt, if◌then◌else◌, List, [], ◌∷◌, length, take, drop, codes, Option, None, Some, Result, Ok, Err, bytes_eq, ⊤}
 use Rattle.std.specs.List.{list_any}
 use Rattle.soc_http.specs.declared.verb.Verb.{Verb}
 use Rattle.soc_http.specs.declared.verb.Verb.TheVariants.{Get, Post, Other}
 use Rattle.soc_http.specs.declared.route.Route.{Route}
+pub use Rattle.soc_http.specs.declared.route.Target.{Target}
 use Rattle.soc_http.specs.declared.route.Route.TheVariants as R
 use Rattle.soc_http.specs.declared.route.RouteError.{RouteError}
 use Rattle.soc_http.specs.declared.route.RouteError.TheVariants.{NoRoute, WrongVerb, NoMemory}
 
--- what a path is taken with, and where it leads
-pub record Target : Type 0 where
-  pub verb : Verb
-  pub route : Route
-
 abbrev pub to : Verb → Route → Option Target
 to verb route = Some (record { verb = verb; route = route })
 
+-- a literal path, what it is taken with, and where it leads
+abbrev pub literal : List ℕ → Verb → Route → List ℕ × Target
+literal path verb route = (path, record { verb = verb; route = route })
+
+-- the literal paths, in the order of their bytes
+abbrev pub literals : List (List ℕ × Target)
+literals =
+    literal (codes "/api/PriorityJob/") Post R.PriorityJob
+    ∷ literal (codes "/api/ProcessedCrash/") Get R.ProcessedCrash
+    ∷ literal (codes "/api/RawCrash/") Get R.RawCrash
+    ∷ literal (codes "/api/RawDump/") Get R.RawDump
+    ∷ literal (codes "/api/Reprocessing/") Post R.Reprocessing
+    ∷ literal (codes "/api/SuperSearch/") Get R.SuperSearch
+    ∷ literal (codes "/api/SuperSearchFields/") Get R.SuperSearchFields
+    ∷ literal (codes "/api/TopCrashers/") Get R.Tops
+    ∷ literal (codes "/api/Withdrawal/") Post R.Withdrawal
+    ∷ literal (codes "/control/drain") Post R.Drain
+    ∷ literal (codes "/control/stop") Post R.Stop
+    ∷ literal (codes "/control/turn") Post R.Turn
+    ∷ literal (codes "/search/") Get R.Search
+    ∷ literal (codes "/submit") Post R.Submit
+    ∷ literal (codes "/topcrashers/") Get R.TopsPage
+    ∷ []
+
+-- the target of a path in such a table
+abbrev pub target_in : List (List ℕ × Target) → List ℕ → Option Target
+target_in [] path = None
+target_in (l ∷ rest) path = if bytes_eq l.0 path then Some l.1 else target_in rest path
+
 -- the target of a literal path
 abbrev pub literal_target : List ℕ → Option Target
-literal_target path =
-    if bytes_eq path (codes "/submit") then to Post R.Submit else (
-    if bytes_eq path (codes "/api/RawCrash/") then to Get R.RawCrash else (
-    if bytes_eq path (codes "/api/RawDump/") then to Get R.RawDump else (
-    if bytes_eq path (codes "/api/ProcessedCrash/") then to Get R.ProcessedCrash else (
-    if bytes_eq path (codes "/api/SuperSearch/") then to Get R.SuperSearch else (
-    if bytes_eq path (codes "/api/SuperSearchFields/") then to Get R.SuperSearchFields else (
-    if bytes_eq path (codes "/api/Reprocessing/") then to Post R.Reprocessing else (
-    if bytes_eq path (codes "/api/PriorityJob/") then to Post R.PriorityJob else (
-    if bytes_eq path (codes "/api/Withdrawal/") then to Post R.Withdrawal else (
-    if bytes_eq path (codes "/api/TopCrashers/") then to Get R.Tops else (
-    if bytes_eq path (codes "/control/turn") then to Post R.Turn else (
-    if bytes_eq path (codes "/control/drain") then to Post R.Drain else (
-    if bytes_eq path (codes "/control/stop") then to Post R.Stop else (
-    if bytes_eq path (codes "/search/") then to Get R.Search else (
-    if bytes_eq path (codes "/topcrashers/") then to Get R.TopsPage else None))))))))))))))
+literal_target path = target_in literals path
 
 -- what a report's path begins with
 abbrev pub report_front : List ℕ
@@ -59,8 +69,8 @@ report_id path =
 
 -- the target of a path: a report's, or a literal one
 abbrev pub report_or : Option (List ℕ) → Option Target → Option Target
-report_or (Some id) literal = to Get (R.Report id)
-report_or None literal = literal
+report_or (Some id) other = to Get (R.Report id)
+report_or None other = other
 
 abbrev pub target_of : List ℕ → Option Target
 target_of path = report_or (report_id path) (literal_target path)

@@ -3,3 +3,4 @@ pub mod Bodies
 pub mod Framing
 pub mod Pieces
 pub mod Windows
+pub mod Routers

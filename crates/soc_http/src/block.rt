@@ -13,7 +13,7 @@ use crate::head::{Head, HeadError};
 use crate::verb::Verb;
 use httparse::Status;
 use httparse::spans::{EMPTY_HEADER_SPAN, HeaderSpan, RequestSpans, parse_request};
-use soc_raw::{NoMemory, Pairs, Text};
+use soc_base::{NoMemory, Pairs, Text};
 use std::alloc::Global;
 
 /// How many lines may stand between the first and the empty one.

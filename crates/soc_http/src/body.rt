@@ -10,8 +10,8 @@ ghost use Rattle.soc_http.specs.contracts.buffer.Buffer.{the_row};
 
 use crate::buffer::{Buffer, read_behind};
 use crate::head::Head;
+use soc_base::Bytes;
 use soc_edge::{Failed, Source};
-use soc_raw::Bytes;
 use soc_text::before;
 use std::alloc::{AllocError, Global};
 use thiserror::Error;

@@ -9,8 +9,8 @@ ghost use Rattle.soc_http.specs.Body.{PieceFrom};
 ghost use Rattle.soc_http.specs.contracts.buffer.Buffer.{the_row};
 
 use crate::body::{BodyError, piece_len};
+use soc_base::NoMemory;
 use soc_edge::{Failed, Source};
-use soc_raw::NoMemory;
 use std::alloc::Global;
 use std::marker::Model;
 use std::ops::Range;

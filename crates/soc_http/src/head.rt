@@ -1,6 +1,6 @@
 //! Heads of requests, and why one is refused.
 use crate::verb::Verb;
-use soc_raw::{NoMemory, Pairs, Text};
+use soc_base::{NoMemory, Pairs, Text};
 use thiserror::Error;
 
 /// What the head of a request says (RFC 9112, sections 3 to 6).

@@ -5,7 +5,7 @@ ghost use Rattle.std.specs.Str.{str_eq_ignore_ascii_case};
 ghost use Rattle.soc_http.specs.Lines.{encodes, encoding_of, is_encoded, lines_named};
 ghost use Rattle.soc_http.specs.Request.{values_of};
 
-use soc_raw::{NoMemory, Pairs, Text};
+use soc_base::{NoMemory, Pairs, Text};
 use std::alloc::Global;
 
 /// The value of the first line of this name.

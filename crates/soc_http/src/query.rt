@@ -3,7 +3,7 @@ ghost use Rattle.std.specs.Prelude.{◌≡◌, IfOk};
 ghost use Rattle.std.specs.Option.{option_copied};
 ghost use Rattle.soc_http.specs.Query.{first_value, query_pairs};
 
-use soc_raw::{NoMemory, Pairs, Text};
+use soc_base::{NoMemory, Pairs, Text};
 use std::alloc::Global;
 
 /// The names and values of a query or of a form's body, in order, decoded (URL Standard, section 5.1).

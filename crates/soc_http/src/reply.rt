@@ -7,8 +7,8 @@ ghost use Rattle.soc_http.specs.inner.Pieces.{pieces_text};
 use crate::pieces::write_pieces;
 use crate::verb::Verb;
 use http::StatusCode;
+use soc_base::Bytes;
 use soc_edge::{Failed, Sink};
-use soc_raw::Bytes;
 use thiserror::Error;
 
 /// The media type of a reply's body.

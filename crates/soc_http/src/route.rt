@@ -1,10 +1,14 @@
 //! Routes.
-ghost use Rattle.std.specs.Prelude.{◌≡◌, IsOk, MatchOption, None, Some};
-ghost use Rattle.soc_http.specs.Route.{IsRouteOf, literal_target, report_id, is_verb};
+ghost use Rattle.std.specs.Prelude.{◌≡◌, IfOk, MatchOption, None, OnOk, Some, true, []};
+ghost use Rattle.matchit.specs.Order.{placed};
+ghost use Rattle.soc_http.specs.Route.{IsRouteOf, literals as table, literal_target, report_id, is_verb};
+ghost use Rattle.soc_http.specs.inner.Routers.{is_literal, row_of, rows_of};
 
 use crate::verb::Verb;
-use soc_raw::{NoMemory, Text};
+use matchit::Router;
+use soc_base::{NoMemory, Text};
 use std::alloc::Global;
+use std::marker::Model;
 use thiserror::Error;
 
 /// What a message asks for.
@@ -55,36 +59,109 @@ impl From<NoMemory> for RouteError {
     }
 }
 
-/// The routes of the service.
-#[derive(Clone, Copy, Debug)]
-pub struct Routes;
+/// What a path is taken with, and where it leads.
+#[derive(Drop)]
+struct Target {
+    verb: Verb,
+    route: Route,
+}
+
+/// The routes of the service. Contracts don't see inside: each has the table of literal paths.
+#[derive(Drop)]
+pub struct Routes {
+    literals: Router<Target>,
+}
+
+impl Model for Routes {
+    ghost use Rattle.std.specs.Prelude.{◌≡◌};
+    ghost use Rattle.soc_http.specs.Route.{literals as table};
+    ghost use Rattle.soc_http.specs.inner.Routers.{rows_of};
+
+    ghost Value = { Unit {0} };
+
+    ghost view = { λ _. tt };
+
+    ghost invariant = { λ routes. routes.literals ≡ rows_of table };
+}
 
 const REPORT_FRONT: &str = "/report/index/";
 
-/// A method and the route that a literal path leads to with it.
-fn literal_target(path: &str) -> Option<(Verb, Route)>
-    ensures { MatchOption result (literal_target path.now ≡ None)
-        (λ t. literal_target path.now ≡ Some (record { verb = t.0; route = t.1 })) }
+/// One more literal path.
+fn add(literals: &mut Router<Target>, path: &str, verb: Verb, route: Route) -> Result<(), NoMemory>
+    requires { is_literal path.now ≡ true }
+    ensures { OnOk result (literals.new ≡ placed (row_of (path.now, record { verb = verb; route = route })) literals.old) }
 {
-    let target = match path {
-        "/submit" => (Verb::Post, Route::Submit),
-        "/api/RawCrash/" => (Verb::Get, Route::RawCrash),
-        "/api/RawDump/" => (Verb::Get, Route::RawDump),
-        "/api/ProcessedCrash/" => (Verb::Get, Route::ProcessedCrash),
-        "/api/SuperSearch/" => (Verb::Get, Route::SuperSearch),
-        "/api/SuperSearchFields/" => (Verb::Get, Route::SuperSearchFields),
-        "/api/Reprocessing/" => (Verb::Post, Route::Reprocessing),
-        "/api/PriorityJob/" => (Verb::Post, Route::PriorityJob),
-        "/api/Withdrawal/" => (Verb::Post, Route::Withdrawal),
-        "/api/TopCrashers/" => (Verb::Get, Route::Tops),
-        "/control/turn" => (Verb::Post, Route::Turn),
-        "/control/drain" => (Verb::Post, Route::Drain),
-        "/control/stop" => (Verb::Post, Route::Stop),
-        "/search/" => (Verb::Get, Route::Search),
-        "/topcrashers/" => (Verb::Get, Route::TopsPage),
-        _ => return None,
+    let Ok(()) = literals.insert(path, Target { verb, route }) else {
+        return Err(NoMemory);
     };
-    Some(target)
+    Ok(())
+}
+
+/// Puts the literal paths into an empty router.
+fn fill(literals: &mut Router<Target>) -> Result<(), NoMemory>
+    requires { literals.old ≡ [] }
+    ensures { OnOk result (literals.new ≡ rows_of table) }
+{
+    add(literals, "/topcrashers/", Verb::Get, Route::TopsPage)?;
+    add(literals, "/submit", Verb::Post, Route::Submit)?;
+    add(literals, "/search/", Verb::Get, Route::Search)?;
+    add(literals, "/control/turn", Verb::Post, Route::Turn)?;
+    add(literals, "/control/stop", Verb::Post, Route::Stop)?;
+    add(literals, "/control/drain", Verb::Post, Route::Drain)?;
+    add(literals, "/api/Withdrawal/", Verb::Post, Route::Withdrawal)?;
+    add(literals, "/api/TopCrashers/", Verb::Get, Route::Tops)?;
+    add(
+        literals,
+        "/api/SuperSearchFields/",
+        Verb::Get,
+        Route::SuperSearchFields,
+    )?;
+    add(literals, "/api/SuperSearch/", Verb::Get, Route::SuperSearch)?;
+    add(
+        literals,
+        "/api/Reprocessing/",
+        Verb::Post,
+        Route::Reprocessing,
+    )?;
+    add(literals, "/api/RawDump/", Verb::Get, Route::RawDump)?;
+    add(literals, "/api/RawCrash/", Verb::Get, Route::RawCrash)?;
+    add(
+        literals,
+        "/api/ProcessedCrash/",
+        Verb::Get,
+        Route::ProcessedCrash,
+    )?;
+    add(
+        literals,
+        "/api/PriorityJob/",
+        Verb::Post,
+        Route::PriorityJob,
+    )
+}
+
+/// A copy of a route.
+fn copy_of(alloc: Global, route: &Route) -> Result<Route, NoMemory>
+    ensures { IfOk result (λ copy. copy ≡ route.now) }
+{
+    let copy = match route {
+        Route::Submit => Route::Submit,
+        Route::RawCrash => Route::RawCrash,
+        Route::RawDump => Route::RawDump,
+        Route::ProcessedCrash => Route::ProcessedCrash,
+        Route::SuperSearch => Route::SuperSearch,
+        Route::SuperSearchFields => Route::SuperSearchFields,
+        Route::Reprocessing => Route::Reprocessing,
+        Route::PriorityJob => Route::PriorityJob,
+        Route::Withdrawal => Route::Withdrawal,
+        Route::Tops => Route::Tops,
+        Route::Turn => Route::Turn,
+        Route::Drain => Route::Drain,
+        Route::Stop => Route::Stop,
+        Route::Report(id) => Route::Report(Text::of(alloc, id.as_str())?),
+        Route::Search => Route::Search,
+        Route::TopsPage => Route::TopsPage,
+    };
+    Ok(copy)
 }
 
 /// The id parameter of a report's path.
@@ -105,11 +182,21 @@ fn is_verb(verb: Verb, allow: Verb) -> bool
 }
 
 impl Routes {
-    /// The routes. They take no memory.
-    pub fn new(_alloc: Global) -> Result<Routes, NoMemory>
-        ensures { IsOk result }
+    /// The routes.
+    pub fn new(alloc: Global) -> Result<Routes, NoMemory> {
+        let mut literals = Router::new(alloc);
+        fill(&mut literals)?;
+        Ok(Routes { literals })
+    }
+
+    /// Where a literal path leads.
+    fn literal_target(&self, path: &str) -> Option<&Target>
+        ensures { MatchOption result (literal_target path.now ≡ None) (λ target. literal_target path.now ≡ Some target.now) }
     {
-        Ok(Routes)
+        match self.literals.at(path) {
+            Ok(found) => Some(found.value),
+            Err(_) => None,
+        }
     }
 
     /// The route of a path with this method. Paths are not decoded.
@@ -122,13 +209,13 @@ impl Routes {
             }
             return Ok(Route::Report(Text::of(alloc, id)?));
         }
-        let Some((allow, route)) = literal_target(path) else {
+        let Some(target) = self.literal_target(path) else {
             return Err(RouteError::NoRoute);
         };
-        if is_verb(verb, allow) {
-            Ok(route)
+        if is_verb(verb, target.verb) {
+            Ok(copy_of(alloc, &target.route)?)
         } else {
-            Err(RouteError::WrongVerb { allow })
+            Err(RouteError::WrongVerb { allow: target.verb })
         }
     }
 }

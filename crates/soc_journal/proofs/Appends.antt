@@ -5,6 +5,7 @@ use Rattle.std.specs.List.{AllByRecursion}
 use Rattle.std.proofs.lemmas.Bool.{cases_eq}
 use Rattle.std.proofs.lemmas.Bool.Decides.{nat_tests}
 use Rattle.std.proofs.lemmas.List.{take_all, length-drop}
+use Rattle.soc_base.proofs.Folk.{all_push}
 use Rattle.soc_edge.proofs.Disks.{LeavesOnly-append, LeavesOnly-weaker}
 use Rattle.soc_edge.specs.Disk.{written, Tears, WhereTold, Follows, Only, DiskTold, IsDisk, LeavesOnly, IsTorn, MayTear}
 use Rattle.soc_journal.specs.Entries.{Entry, IsEntryOf, has_kind, open_gate, closed_gate, first_version, second_version, entry_text, place_behind, sealed}
@@ -13,7 +14,7 @@ use Rattle.soc_journal.specs.declared.error.AppendError.TheVariants.{StoreFault,
 use Rattle.soc_journal.specs.States.{JournalState, AtRest, InDoubt}
 use Rattle.soc_journal.specs.Text.{version_of, JournalText, EitherText}
 use Rattle.soc_journal.proofs.Options.{IfSome-always}
-use Rattle.soc_journal.proofs.Texts.{behind_gate, sealed_behind, front_of, length-front_of, front_of-push, version_of-front, begins_front, front_begins, AllByRecursion-push, place_behind-push}
+use Rattle.soc_journal.proofs.Texts.{behind_gate, sealed_behind, front_of, length-front_of, front_of-push, version_of-front, begins_front, front_begins, place_behind-push}
 use Rattle.soc_journal.proofs.Ranges.{Tears-wider, Tears-append, WhereTold-map, WhereTold-append, MayTear-wider, MayTear-append, opened_told}
 use Rattle.soc_journal.proofs.Torn.{torn_behind, written_behind, torn_byte, written_byte}
 
@@ -44,7 +45,7 @@ stands_after version entries entry rest image whole legal one =
     ∙ (ap (λ (x : List ℕ). front_of version entries ++ (x ++ rest)) (sym (sealed_behind entry))
     ∙ (ap (λ (x : List ℕ). front_of version entries ++ x) (append_assoc (entry_text entry) (closed_gate ∷ []) rest)
     ∙ front_of-push version entries entry (closed_gate ∷ rest))) in
-    stands_before version (entries ++ entry ∷ []) closed_gate rest image moved closed (AllByRecursion-push (IsEntryOf version) entries entry legal one)
+    stands_before version (entries ++ entry ∷ []) closed_gate rest image moved closed (all_push (IsEntryOf version) entries entry legal one)
 
 -- and any byte there does the one or the other
 stands_either : (version : ℕ) (entries : List Entry) (entry : Entry) (gate : ℕ) (rest image : List ℕ) → image ≡ front_of version entries ++ gate ∷ (behind_gate entry ++ rest)

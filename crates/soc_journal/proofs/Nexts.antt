@@ -3,6 +3,7 @@ use Rattle.std.proofs.Common.{◌≡◌, ℕ, ◌+◌, ◌≤◌, Option, IfSome
 use Rattle.std.specs.Int.{to_le_bytes, w32}
 use Rattle.std.proofs.lemmas.List.{drop_at, length-take}
 use Rattle.std.proofs.lemmas.Option.{IfSome_then}
+use Rattle.soc_base.proofs.Folk.{all_push}
 use Rattle.soc_edge.specs.Disk.{NoMore}
 use Rattle.soc_journal.specs.Entries.{Entry, IsEntryOf, open_gate, entry_text}
 use Rattle.soc_journal.specs.inner.Gates.{entry_head, IsFront, IsHead, IsBad, IsAtGate}
@@ -12,7 +13,7 @@ use Rattle.soc_journal.specs.declared.gate.Front.TheVariants.{Shut}
 use Rattle.soc_journal.specs.declared.gate.AtGate.{AtGate}
 use Rattle.soc_journal.specs.declared.gate.AtGate.TheVariants.{Open, Closed, Bad}
 use Rattle.soc_journal.specs.declared.mark.Mark.{Mark}
-use Rattle.soc_journal.proofs.Texts.{front_of, length-front_of, front_of-push, begins_front, front_begins, AllByRecursion-push, place_behind-push, length-entry_text}
+use Rattle.soc_journal.proofs.Texts.{front_of, length-front_of, front_of-push, begins_front, front_begins, place_behind-push, length-entry_text}
 
 -- an entry of this body, from its head and what follows it
 pub entry_whole : (kind count : ℕ) (more : List ℕ) → count ≤ length more → entry_head kind count ++ more ≡ entry_text (record { kind = kind; body = take count more }) ++ drop count more
@@ -97,7 +98,7 @@ module _ (opening : OpeningState) (entries : List Entry) (bytes : List ℕ) (ima
           rest = drop mark.length head.more;
           begins = front_begins (version_of bytes) (entries ++ entry ∷ []) (drop mark.length head.more) bytes
               (stands ∙ front_of-push (version_of bytes) entries entry (drop mark.length head.more))
-              (AllByRecursion-push (IsEntryOf (version_of bytes)) entries entry has.begins.legal legal);
+              (all_push (IsEntryOf (version_of bytes)) entries entry has.begins.legal legal);
           behind = omega (arith, moved, has.behind, place_behind-push entries entry, length-entry_text entry, count);
           size = same_length ∙ has.size;
           same_version = same_version ∙ has.same_version;

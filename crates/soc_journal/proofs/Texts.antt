@@ -45,10 +45,6 @@ place_behind-push entries entry =
     ∙ ap (λ (x : List ℕ). entries_text entries ++ x) (append-nil (entry_text entry))) in
     omega (arith, ap (λ (x : List ℕ). length x) whole, length-append (entries_text entries) (entry_text entry))
 
-pub AllByRecursion-push : {X : Type 0} (P : X → Type 0) (xs : List X) (x : X) → AllByRecursion P xs → P x → AllByRecursion P (xs ++ x ∷ [])
-AllByRecursion-push P [] x all one = (one, tt)
-AllByRecursion-push P (y ∷ xs) x all one = (all.0, AllByRecursion-push P xs x all.1 one)
-
 -- the header and the entries
 abbrev pub front_of : ℕ → List Entry → List ℕ
 front_of version entries = header version ++ entries_text entries

@@ -5,7 +5,8 @@ ghost use Rattle.soc_raw.specs.RawCrash.{record_text};
 ghost use Rattle.soc_journal.specs.Entries.{IsEntryOf, accept_kind, open_gate, beside_body, has_kind, head_size, second_version, max_body, sealed};
 
 use crate::format::{ACCEPT, CLOSED_GATE, ENTRY_HEAD, OPEN_GATE};
-use soc_raw::{NoMemory, RawCrash};
+use soc_base::NoMemory;
+use soc_raw::RawCrash;
 use std::alloc::Global;
 use std::marker::Model;
 

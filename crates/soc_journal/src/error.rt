@@ -1,6 +1,6 @@
 //! Why a call on a journal is refused.
+use soc_base::NoMemory;
 use soc_edge::Failed;
-use soc_raw::NoMemory;
 use std::alloc::AllocError;
 use thiserror::Error;
 

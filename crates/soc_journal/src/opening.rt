@@ -15,8 +15,8 @@ use crate::journal::Journal;
 use crate::mark::Mark;
 use crate::reading::body_at;
 use crate::writing::write_and_sync;
+use soc_base::Bytes;
 use soc_edge::{Disk, Failed};
-use soc_raw::Bytes;
 use std::alloc::Global;
 use std::marker::Model;
 

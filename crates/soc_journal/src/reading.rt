@@ -9,8 +9,8 @@ use crate::error::ReadError;
 use crate::format::{ENTRY_HEAD, SECOND_VERSION};
 use crate::gate::{AtGate, at_gate};
 use crate::journal::Journal;
+use soc_base::Bytes;
 use soc_edge::{Disk, Failed};
-use soc_raw::Bytes;
 use std::alloc::{AllocError, Global};
 
 /// How many bytes are compared at once.

@@ -11,6 +11,7 @@ use Rattle.std.proofs.lemmas.List.Elements.{filter_map-append}
 use Rattle.std.proofs.lemmas.List.Filters.{length-filter_both}
 use Rattle.std.proofs.lemmas.List.Folds.{list_any-append}
 use Rattle.std.proofs.lemmas.List.Sums.{length-filter, sum_by-cons, sum_by-set, sum_by_push}
+use Rattle.soc_base.proofs.Folk.{or_true, none_is_not_some, or_no_left, or_no_right, some-injective}
 use Rattle.soc_ledger.specs.declared.crash.Standing.{Standing}
 use Rattle.soc_ledger.specs.declared.due.Due.{Due}
 use Rattle.soc_ledger.specs.declared.event.Event.{Event}
@@ -21,7 +22,7 @@ use Rattle.soc_ledger.specs.Legal.{IsLegal, IsLegalNext}
 use Rattle.soc_ledger.specs.Reported.{has_report, report_count}
 use Rattle.soc_ledger.specs.State.{standing_of}
 use Rattle.soc_ledger.specs.inner.Tables.{Tells, shows_report}
-use Rattle.soc_ledger.proofs.Lists.{AreDistinct, among_place, filter-filter, itself, map-one, none_is_not_some, or_no, or_no_left, or_no_right, same_text, some-injective, true_is_not_false, turned}
+use Rattle.soc_ledger.proofs.Lists.{AreDistinct, among_place, filter-filter, itself, map-one, or_no, same_text, true_is_not_false, turned}
 use Rattle.soc_ledger.proofs.Logs.{distinct_ids, legal_induction, not_true, unknown_crash}
 use Rattle.soc_ledger.proofs.More.{accepted_ids-more}
 
@@ -47,10 +48,6 @@ held_parts : (a w : Bool) → IsTrue (a && not w) → (a ≡ true) × (w ≡ fal
 held_parts true true held = absurd (true_is_not_false (sym held))
 held_parts true false held = (refl, refl)
 held_parts false w held = absurd (true_is_not_false (sym held))
-
-or_true : (b : Bool) → (b || true) ≡ true
-or_true true = refl
-or_true false = refl
 
 abbrev Counts : List Event → Type 0
 Counts log = length (withdrawn_ids log) ≡ count_by (was_withdrawn log) (accepted_ids log)

@@ -15,7 +15,7 @@ use Rattle.std.proofs.lemmas.Map.Text.{is_eq-slice_cmp}
 use Rattle.std.proofs.lemmas.Option.{slice_get-get_or}
 use Rattle.std.proofs.lemmas.Bool.{cases_lt}
 use Rattle.std.proofs.Math.Nat.{eq-or-lt_of_le}
-use Rattle.soc_raw.specs.Names.{byte_cmp}
+use Rattle.soc_base.specs.Names.{byte_cmp}
 use Rattle.soc_ledger.specs.declared.crash.Crash.{Crash}
 use Rattle.soc_ledger.specs.Events.{is_among}
 use Rattle.soc_ledger.specs.inner.Tables.{FindsNumber, IsIndex, id_at, ids_in}

@@ -4,13 +4,8 @@ use Rattle.std.specs.Prelude.{bytes_eq, slice_get}
 use Rattle.std.specs.List.{AllByRecursion, enumerate_from}
 use Rattle.std.proofs.lemmas.List.{reverse-append}
 use Rattle.std.proofs.lemmas.Slice.Eq.{bytes_eq-Decides}
+use Rattle.soc_base.proofs.Folk.{none_is_not_some, or_no_left, or_no_right}
 use Rattle.soc_ledger.specs.Events.{is_among}
-
-pub none_is_not_some : {A : Type 0} {x : A} → None ≡ Some x → ⊥
-none_is_not_some is = cc
-
-pub some-injective : {A : Type 0} {x y : A} → Some x ≡ Some y → x ≡ y
-some-injective is = cc
 
 pub true_is_not_false : true ≡ false → ⊥
 true_is_not_false is = cc
@@ -85,14 +80,6 @@ turned a b differ =
 abbrev pub AreDistinct : List (List ℕ) → Type 0
 AreDistinct [] = Unit {0}
 AreDistinct (x ∷ xs) = (is_among xs x ≡ false) × AreDistinct xs
-
-pub or_no_left : (a b : Bool) → (a || b) ≡ false → a ≡ false
-or_no_left true b is = is
-or_no_left false b is = refl
-
-pub or_no_right : (a b : Bool) → (a || b) ≡ false → b ≡ false
-or_no_right true b is = absurd (true_is_not_false is)
-or_no_right false b is = is
 
 pub or_no : (a b : Bool) → a ≡ false → b ≡ false → (a || b) ≡ false
 or_no true b left right = left

@@ -3,6 +3,7 @@ use Rattle.std.proofs.Common.{◌≡◌, ℕ, Bool, true, false, not, ◌&&◌, 
 use Rattle.std.specs.Prelude.{IsTrue, bytes_eq, filter_map, is_some, if◌then◌else◌}
 use Rattle.std.proofs.lemmas.List.{append-nil, reverse-reverse}
 use Rattle.std.proofs.lemmas.List.Folds.{list_any-append}
+use Rattle.soc_base.proofs.Folk.{or_no_left, or_no_right}
 use Rattle.soc_ledger.specs.declared.crash.Standing.{Standing}
 use Rattle.soc_ledger.specs.declared.event.Event.{Event}
 use Rattle.soc_ledger.specs.declared.event.Event.TheVariants.{Accepted, Asked, Withdrawn, Reported, Done, Stopped}
@@ -11,7 +12,7 @@ use Rattle.soc_ledger.specs.Due.{is_due}
 use Rattle.soc_ledger.specs.Legal.{IsLegal, IsLegalBack, IsLegalNext}
 use Rattle.soc_ledger.specs.State.{standing_of}
 use Rattle.soc_ledger.specs.inner.Tables.{standing_after}
-use Rattle.soc_ledger.proofs.Lists.{AreDistinct, distinct-push, or_no_left, or_no_right, reverse-first, reverse-more, same_text, true_is_not_false}
+use Rattle.soc_ledger.proofs.Lists.{AreDistinct, distinct-push, reverse-first, reverse-more, same_text, true_is_not_false}
 use Rattle.soc_ledger.proofs.More.{accepted_ids-more, is_about, standing_of-more}
 
 -- what holds of no event, and of one more event behind those of which it holds

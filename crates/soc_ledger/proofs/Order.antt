@@ -7,6 +7,7 @@ use Rattle.std.specs.Ordering.{nat_cmp, ordering_index}
 use Rattle.std.specs.declared.cmp.Ordering.{Ordering}
 use Rattle.std.specs.declared.cmp.Ordering.TheVariants.{Less, Equal, Greater}
 use Rattle.std.proofs.lemmas.Bool.{cases_lt, cases_order, eq-eqb, lt-ltb, le-ltb, ne_eqb}
+use Rattle.soc_base.proofs.Folk.{all_get}
 use Rattle.soc_ledger.specs.declared.due.Due.{Due}
 use Rattle.soc_ledger.specs.inner.Tables.{AreBefore, IsInOrder}
 
@@ -61,15 +62,10 @@ all_here : {A : Type 0} (P : A → Type 0) (xs : List A) → ((k : ℕ) (d : A) 
 all_here P [] each = tt
 all_here P (x ∷ xs) each = (each 0 x (omega arith), all_here P xs (λ k d lt. each (suc k) d (omega arith)))
 
-at_index : {A : Type 0} (P : A → Type 0) (xs : List A) (k : ℕ) (d : A) → AllByRecursion P xs → k < length xs → P (get_or xs k d)
-at_index P [] k d all lt = absurd (omega arith)
-at_index P (x ∷ xs) zero d all lt = all.0
-at_index P (x ∷ xs) (suc k) d all lt = at_index P xs k d all.1 (omega arith)
-
 rises : (ds : List Due) (i j : ℕ) (d : Due) → IsInOrder ds → i ≤ j → j < length ds → (get_or ds i d).since ≤ (get_or ds j d).since
 rises [] i j d order le lt = absurd (omega arith)
 rises (x ∷ ds) zero zero d order le lt = omega arith
-rises (x ∷ ds) zero (suc j) d order le lt = let less : x.since < (get_or ds j d).since = at_index (λ y. x.since < y.since) ds j d order.0 (omega arith) in omega arith
+rises (x ∷ ds) zero (suc j) d order le lt = let less : x.since < (get_or ds j d).since = all_get (λ y. x.since < y.since) ds j d order.0 (omega arith) in omega arith
 rises (x ∷ ds) (suc i) zero d order le lt = absurd (omega arith)
 rises (x ∷ ds) (suc i) (suc j) d order le lt = rises ds i j d order.1 (omega arith) (omega arith)
 
@@ -88,7 +84,7 @@ removed p (x ∷ ds) zero d order lt is =
     sym (ap (λ b. cond (not b) (x ∷ filter (is_other p) ds) (filter (is_other p) ds)) (eq-eqb x.since p is)
     ∙ keep_all p ds (later_differ p ds (subst (λ u. AllByRecursion (λ y. u < y.since) ds) is order.0)))
 removed p (x ∷ ds) (suc i) d order lt is =
-    let less : x.since < (get_or ds i d).since = at_index (λ y. x.since < y.since) ds i d order.0 (omega arith) in
+    let less : x.since < (get_or ds i d).since = all_get (λ y. x.since < y.since) ds i d order.0 (omega arith) in
     ap (λ t. x ∷ t) (removed p ds i d order.1 (omega arith) is)
     ∙ sym (ap (λ b. cond (not b) (x ∷ filter (is_other p) ds) (filter (is_other p) ds)) (ne_eqb x.since p (λ e. absurd (omega arith))))
 

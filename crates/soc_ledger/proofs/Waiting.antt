@@ -7,10 +7,11 @@ use Rattle.std.proofs.lemmas.Bool.{eq-eqb, eqb-true, ne_eqb}
 use Rattle.std.proofs.lemmas.List.{append-nil}
 use Rattle.std.proofs.lemmas.List.Elements.{filter-append, filter_agree, filter_map-append}
 use Rattle.std.proofs.lemmas.Option.{slice_get_within}
+use Rattle.soc_base.proofs.Folk.{none_is_not_some, some-injective}
 use Rattle.soc_ledger.specs.declared.event.Event.{Event}
 use Rattle.soc_ledger.specs.declared.event.Event.TheVariants.{Accepted, Asked, Withdrawn, Reported, Done, Stopped}
 use Rattle.soc_ledger.specs.Due.{due_since, is_due_at_once, is_since, urged, urged_by, urged_in, waiting}
-use Rattle.soc_ledger.proofs.Lists.{all-more, all-weaker, enumerate-more, filter-filter, filter-on, itself, none_is_not_some, same_text, slice_get-front, slice_get-last, some-injective, true_is_not_false}
+use Rattle.soc_ledger.proofs.Lists.{all-more, all-weaker, enumerate-more, filter-filter, filter-on, itself, same_text, slice_get-front, slice_get-last, true_is_not_false}
 use Rattle.soc_ledger.proofs.Logs.{log_induction}
 use Rattle.soc_ledger.proofs.More.{due_since-more}
 

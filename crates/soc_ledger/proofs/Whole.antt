@@ -5,6 +5,7 @@ use Rattle.std.specs.Option.{option_map, option_map_or}
 use Rattle.std.specs.List.{cons_option}
 use Rattle.std.proofs.lemmas.List.{append-nil, length-map, map_push}
 use Rattle.std.proofs.lemmas.Option.{get_or_from_slice_get, slice_get-map, slice_get_within}
+use Rattle.soc_base.proofs.Folk.{none_is_not_some, some-injective}
 use Rattle.soc_ledger.specs.declared.crash.Filed.{Filed}
 use Rattle.soc_ledger.specs.declared.crash.Standing.{Standing}
 use Rattle.soc_ledger.specs.declared.due.Due.{Due}
@@ -15,7 +16,7 @@ use Rattle.soc_ledger.specs.Events.{accepted_in, accepted_ids, has_stop, is_amon
 use Rattle.soc_ledger.specs.Legal.{IsLegalNext}
 use Rattle.soc_ledger.specs.State.{LedgerState, id_of, standing_of}
 use Rattle.soc_ledger.specs.inner.Tables.{AreBefore, Tells, about, ids_in, named, queue_after, standing_after}
-use Rattle.soc_ledger.proofs.Lists.{AreDistinct, filter-map, itself, map-one, map-others, none_is_not_some, place_among, same_text, slice_get-front, slice_get-last, some-injective, turned}
+use Rattle.soc_ledger.proofs.Lists.{AreDistinct, filter-map, itself, map-one, map-others, place_among, same_text, slice_get-front, slice_get-last, turned}
 use Rattle.soc_ledger.proofs.Logs.{distinct_ids, legal-more, unknown, unknown_crash}
 use Rattle.soc_ledger.proofs.More.{accepted_ids-more, is_about, standing_of-more}
 use Rattle.soc_ledger.proofs.Waiting.{AreEarlier, waiting-done, waiting-due, waiting-earlier, waiting-same}

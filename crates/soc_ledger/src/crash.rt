@@ -3,7 +3,8 @@ ghost use Rattle.std.specs.Prelude.{◌≡◌, if◌then◌else◌, None, Some};
 ghost use Rattle.soc_ledger.specs.Due.{is_due_at_once};
 
 use crate::event::Event;
-use soc_raw::{CrashId, Digit, Text};
+use soc_base::SharedText;
+use soc_raw::{CrashId, Digit};
 
 /// What is kept of an accepted crash beside its events.
 #[derive(Debug, Drop)]
@@ -13,7 +14,7 @@ pub struct Filed {
     pub place: u64,
     /// Where its content begins in the journal.
     pub content: u64,
-    pub product: Option<Text>,
+    pub product: Option<SharedText>,
     /// The SHA-256 of its content.
     pub digest: [u8; 32],
 }

@@ -1,12 +1,13 @@
 //! The accepted crashes by number and by id.
 ghost use Rattle.std.specs.Prelude.{◌≡◌, ◌-◌, ◌+◌, ◌<◌, ◌≤◌, ◌^◌, ◌++◌, ◌∷◌, [], false, length, map, count_by, bytes_eq, slice_get, slice_index_or, slice_set, MatchOption, Some, OnOk};
 ghost use Rattle.std.specs.List.{list_any};
-ghost use Rattle.soc_raw.specs.Names.{byte_cmp};
+ghost use Rattle.soc_base.specs.Names.{byte_cmp};
 ghost use Rattle.soc_ledger.specs.Events.{is_among};
 ghost use Rattle.soc_ledger.specs.inner.Tables.{FindsNumber, IsIndex, ids_in, shows_report};
 
 use crate::crash::{Crash, Standing};
-use soc_raw::{CrashId, NoMemory};
+use soc_base::NoMemory;
+use soc_raw::CrashId;
 use std::alloc::Global;
 use std::cmp::Ordering;
 use std::marker::Model;

@@ -12,7 +12,8 @@ use crate::crashes::Crashes;
 use crate::due::Queue;
 use crate::event::Event;
 use crate::log::Log;
-use soc_raw::{CrashId, NoMemory};
+use soc_base::NoMemory;
+use soc_raw::CrashId;
 use std::alloc::Global;
 use std::marker::Model;
 

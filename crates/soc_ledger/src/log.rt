@@ -3,7 +3,7 @@ ghost use Rattle.std.specs.Prelude.{◌≡◌, ◌+◌, ◌<◌, ◌≤◌, ◌^
 ghost use Rattle.soc_ledger.specs.Events.{ask_count, has_stop};
 
 use crate::event::Event;
-use soc_raw::NoMemory;
+use soc_base::NoMemory;
 use std::alloc::Global;
 use std::marker::Model;
 

@@ -5,6 +5,7 @@ use Rattle.std.proofs.lemmas.List.{append-nil, length-append}
 use Rattle.std.proofs.lemmas.List.Elements.{All-nil, All-cons, All-append}
 use Rattle.std.proofs.lemmas.Bool.{cases_Bool}
 use Rattle.std.proofs.lemmas.Bool.Decides.{nat_tests}
+use Rattle.soc_base.proofs.Folk.{not_both}
 use Rattle.soc_multipart.specs.declared.dispositions.Head.{Head}
 use Rattle.soc_multipart.specs.Chains.{Chain, HasNoStep}
 use Rattle.soc_text.specs.Lines.{crlf}
@@ -17,9 +18,6 @@ use Rattle.soc_multipart.proofs.ChainLemmas.{chain_once, chain_end}
 use Rattle.soc_multipart.proofs.HeadLemmas.{line_once, line_end_stuck, lines_longer, lines_shorter, lines_front, parted}
 use Rattle.soc_multipart.proofs.PartLemmas.{ends_stuck, open_line_stuck}
 use Rattle.soc_multipart.proofs.TailLemmas.{feed_behind}
-
-not_both : (b : Bool) → b ≡ true → b ≡ false → ⊥
-not_both b e f = cc
 
 heads : (x y : ℕ) (xs ys : List ℕ) → x ∷ xs ≡ y ∷ ys → (x ≡ y) × (xs ≡ ys)
 heads x y xs ys e = (cc, cc)

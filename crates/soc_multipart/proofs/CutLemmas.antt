@@ -3,6 +3,7 @@ use Rattle.std.proofs.Common.{◌≡◌, ℕ, ◌+◌, ◌<◌, List, [], ◌∷
 use Rattle.std.proofs.Common.{Bor}
 use Rattle.std.proofs.lemmas.Bool.{cases_lt}
 use Rattle.std.proofs.lemmas.List.{append_cancel_left, length-append, length-map, take_at, drop_at, map_push}
+use Rattle.soc_base.proofs.Folk.{not_both}
 use Rattle.soc_multipart.specs.declared.delimiters.Ending.{Ending}
 use Rattle.soc_multipart.specs.declared.delimiters.Ending.TheVariants.{Opening}
 use Rattle.soc_multipart.specs.declared.parts.PartsError.{PartsError}
@@ -23,9 +24,6 @@ use Rattle.soc_multipart.proofs.PartLemmas.{part_once}
 
 heads : (x y : ℕ) (xs ys : List ℕ) → x ∷ xs ≡ y ∷ ys → (x ≡ y) × (xs ≡ ys)
 heads x y xs ys e = (cc, cc)
-
-not_both : (b : Bool) → b ≡ true → b ≡ false → ⊥
-not_both b e f = cc
 
 -- a text has one first delimiter
 not_before : (mark t f n f' n' : List ℕ) → Reaches mark t f n → IsAtDelimiter mark n → Reaches mark t f' n' → ¬ (length f < length f')

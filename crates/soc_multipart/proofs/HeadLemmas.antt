@@ -4,6 +4,7 @@ use Rattle.std.specs.Str.{bytes_eq}
 use Rattle.std.proofs.lemmas.List.{append_cancel_left, append_cancel_right, append-nil, length-append, length-take, length-drop, take-append-drop, drop_at, map_push, take_more, take_all, drop_all}
 use Rattle.std.proofs.lemmas.List.Elements.{All-head}
 use Rattle.std.proofs.lemmas.Slice.Eq.{bytes_eq-Decides}
+use Rattle.soc_base.proofs.Folk.{not_both}
 use Rattle.soc_multipart.specs.declared.heads.HeadEnd.{HeadEnd}
 use Rattle.soc_multipart.specs.declared.heads.HeadEnd.TheVariants.{Content, Open}
 use Rattle.soc_multipart.specs.declared.heads.Line.{Line}
@@ -22,9 +23,6 @@ use Rattle.soc_multipart.proofs.ChainLemmas.{chain_once, chain_end}
 
 heads : (x y : ℕ) (xs ys : List ℕ) → x ∷ xs ≡ y ∷ ys → (x ≡ y) × (xs ≡ ys)
 heads x y xs ys e = (cc, cc)
-
-not_both : (b : Bool) → b ≡ true → b ≡ false → ⊥
-not_both b e f = cc
 
 cases_bool : (b : Bool) → (b ≡ true) ⊎ (b ≡ false)
 cases_bool true = inl refl

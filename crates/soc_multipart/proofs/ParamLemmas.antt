@@ -7,6 +7,7 @@ use Rattle.std.proofs.lemmas.Bool.Decides.{nat_tests}
 use Rattle.std.proofs.lemmas.Slice.Eq.{bytes_eq-Decides}
 use Rattle.std.proofs.lemmas.List.Elements.{All-head}
 use Rattle.std.proofs.lemmas.List.Quantifiers.{all_pairs_push}
+use Rattle.soc_base.proofs.Folk.{not_both}
 use Rattle.soc_multipart.specs.Chains.{Chain, HasNoStep}
 use Rattle.soc_multipart.specs.Delimiters.{PartsRun}
 use Rattle.soc_text.specs.Blanks.{is_blank}
@@ -20,9 +21,6 @@ heads x y xs ys e = (cc, cc)
 
 nil_not_cons : (x : ℕ) (xs : List ℕ) → ¬ ([] ≡ x ∷ xs)
 nil_not_cons x xs e = cc
-
-not_both : (b : Bool) → b ≡ true → b ≡ false → ⊥
-not_both b e f = cc
 
 cases_bool : (b : Bool) → (b ≡ true) ⊎ (b ≡ false)
 cases_bool true = inl refl

@@ -8,6 +8,7 @@ use Rattle.std.proofs.lemmas.Bool.Decides.{nat_tests}
 use Rattle.std.proofs.lemmas.List.{append_cancel_left, append_cancel_right, append-nil, length-append, length-take, length-drop, take-append-drop, take-append-le, drop-append-le, drop_at, take_at, drop-drop, drop_all, take_all, take_more, get_or-take, get_or_default}
 use Rattle.memchr.specs.Find.{NoneBefore, Nowhere, Passes, is_byte}
 use Rattle.std.proofs.lemmas.List.Elements.{All-nil, All-cons, All-head, All-tail, All-append, All-drop}
+use Rattle.soc_base.proofs.Folk.{not_both}
 use Rattle.soc_multipart.specs.declared.delimiters.Ending.{Ending}
 use Rattle.soc_multipart.specs.declared.delimiters.Ending.TheVariants as ending
 use Rattle.soc_multipart.specs.declared.tails.Kind.{Kind}
@@ -22,9 +23,6 @@ use Rattle.soc_multipart.proofs.HeadLemmas.{parted}
 
 heads : (x y : ℕ) (xs ys : List ℕ) → x ∷ xs ≡ y ∷ ys → (x ≡ y) × (xs ≡ ys)
 heads x y xs ys e = (cc, cc)
-
-not_both : (b : Bool) → b ≡ true → b ≡ false → ⊥
-not_both b e f = cc
 
 feed_stops : (rest : List ℕ) → Stops is_inline (10 ∷ rest)
 feed_stops rest = stops_cons is_inline 10 rest refl

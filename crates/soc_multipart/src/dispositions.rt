@@ -8,7 +8,7 @@ ghost use Rattle.soc_multipart.specs.inner.Views.{line_texts, param_texts};
 
 use crate::heads::{Line, Named, values_named};
 use crate::params::{Param, find_param, params};
-use soc_raw::{NoMemory, Text};
+use soc_base::{NoMemory, Text};
 use soc_text::strip_front;
 use std::alloc::Global;
 

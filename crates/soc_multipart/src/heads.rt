@@ -9,7 +9,7 @@ ghost use Rattle.soc_text.specs.Blanks.{trimmed};
 ghost use Rattle.soc_multipart.specs.inner.Views.{EndsSo, HasValues, line_text, line_texts};
 
 use crate::params::split_token;
-use soc_raw::NoMemory;
+use soc_base::NoMemory;
 use soc_text::{CRLF, after, strip_front, trim_blanks};
 use std::alloc::Global;
 

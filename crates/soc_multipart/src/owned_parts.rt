@@ -6,7 +6,7 @@ ghost use Rattle.soc_multipart.specs.PartViews.{part_text};
 
 use crate::dispositions::Head;
 use crate::parts::Part;
-use soc_raw::{Bytes, NoMemory, Text};
+use soc_base::{Bytes, NoMemory, Text};
 use std::alloc::Global;
 
 /// A part of a body that was read in pieces.

@@ -8,7 +8,7 @@ ghost use Rattle.soc_text.specs.Tokens.{is_token_byte as passes_token};
 ghost use Rattle.soc_multipart.specs.inner.Views.{param_text, param_texts};
 
 use crate::delimiters::split_blanks;
-use soc_raw::NoMemory;
+use soc_base::NoMemory;
 use soc_text::{is_token_byte, strip_front, token_len};
 use std::alloc::Global;
 use std::collections::BTreeSet;

@@ -11,7 +11,7 @@ use crate::delimiters::{Ending, Found, first_delimiter, is_boundary, next_delimi
 use crate::dispositions::{Head, head_of, may_be_head};
 use crate::heads::{HEAD_LIMIT, HeadEnd, HeadLines, head_lines};
 use memchr::memmem::{Finder, find};
-use soc_raw::{NoMemory, Text};
+use soc_base::{NoMemory, Text};
 use std::alloc::{AllocError, AllocFailed, Global};
 use thiserror::Error;
 

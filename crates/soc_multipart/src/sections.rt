@@ -19,7 +19,7 @@ use crate::tails::{
     Kind, Split, Tail, closing_in, delimiter_in, empty, grown, moved_on, narrowed, renewed,
     split_line,
 };
-use soc_raw::{Bytes, NoMemory};
+use soc_base::{Bytes, NoMemory};
 use soc_text::{CRLF, before, strip_back};
 use std::alloc::Global;
 use std::cmp::min;

@@ -6,7 +6,7 @@ ghost use Rattle.soc_multipart.specs.inner.Tails.{ClosesIn, EndsLineIn, IsClear,
 
 use crate::delimiters::{Ending, delimiter_at_start};
 use memchr::memchr;
-use soc_raw::NoMemory;
+use soc_base::NoMemory;
 use soc_text::{CRLF, after, before, strip_back, strip_front};
 use std::alloc::Global;
 

@@ -4,7 +4,8 @@ ghost use Rattle.std.specs.Option.{option_map_or};
 ghost use Rattle.soc_schema.specs.Fields.{name_of};
 ghost use Rattle.soc_pages.specs.Escape.{escape, escaped, shown};
 
-use soc_raw::{CrashId, NoMemory};
+use soc_base::NoMemory;
+use soc_raw::CrashId;
 use soc_schema::{Field, Value};
 
 /// Adds a text, in which no character opens a tag, a reference or a quoted value.

@@ -5,7 +5,8 @@ ghost use Rattle.soc_schema.specs.Rows.{cell};
 ghost use Rattle.soc_pages.specs.Pages.{field_row, report_page};
 
 use crate::escape::{put, put_id, put_name, put_value};
-use soc_raw::{Bytes, CrashId, NoMemory};
+use soc_base::{Bytes, NoMemory};
+use soc_raw::CrashId;
 use soc_schema::{Field, Row, Value};
 use std::alloc::Global;
 

@@ -4,8 +4,8 @@ ghost use Rattle.std.specs.List.{flat_map};
 ghost use Rattle.soc_pages.specs.Pages.{column_cell, facet_lines, hit_row, search_page, term_item};
 
 use crate::escape::{put, put_name, put_number, put_value};
+use soc_base::{Bytes, NoMemory};
 use soc_query::{Answer, Facet, Term};
-use soc_raw::{Bytes, NoMemory};
 use soc_schema::{Field, Row};
 use std::alloc::Global;
 

@@ -4,7 +4,7 @@ ghost use Rattle.std.specs.List.{flat_map};
 ghost use Rattle.soc_pages.specs.Pages.{top_row, tops_page};
 
 use crate::escape::{put, put_number, put_text};
-use soc_raw::{Bytes, NoMemory};
+use soc_base::{Bytes, NoMemory};
 use soc_tops::{Top, Tops};
 use std::alloc::Global;
 

@@ -2,7 +2,8 @@ ghost use Rattle.std.specs.Prelude.{◌≡◌, ℕ, ◌+◌, ◌*◌, ◌<◌, �
 ghost use Rattle.soc_pool.specs.Passes.{passes_in, IsPassOf};
 
 use super::*;
-use soc_raw::{CrashId, Digit, FIRST_MOMENT, NoMemory};
+use soc_base::NoMemory;
+use soc_raw::{CrashId, Digit, FIRST_MOMENT};
 use std::alloc::Global;
 use std::sync::Wait;
 use std::test::*;

@@ -4,6 +4,7 @@ use Rattle.std.specs.Prelude.{if◌then◌else◌, codes}
 use Rattle.std.specs.List.{AllByRecursion, list_any}
 use Rattle.std.specs.Option.{ok_or, option_map_or}
 use Rattle.std.specs.Str.{bytes_eq}
+use Rattle.soc_base.proofs.Folk.{all_push}
 use Rattle.soc_schema.specs.declared.caller.Caller.{Caller}
 use Rattle.soc_schema.specs.declared.permission.Permission.TheVariants.{Public}
 use Rattle.soc_schema.specs.Fields.{field_entry, field_named, field_table, kind_of, permission_of}
@@ -94,10 +95,6 @@ part_granted caller name value said h =
     (λ h5. either (PartGranted caller said) (bytes_eq name (codes "_results_offset")) _ _ said h5
     (λ e. let step = then_ok (number_within name 65536 value) _ said e in subst (PartGranted caller) (same_ok step.2) tt)
     (λ e. meets_granted caller name value said e))))))
-
-all_push : {X : Type 0} (P : X → Type 0) (xs : List X) (x : X) → AllByRecursion P xs → P x → AllByRecursion P (xs ++ x ∷ [])
-all_push P [] x all here = (here, tt)
-all_push P (y ∷ ys) x all here = (all.0, all_push P ys x all.1 here)
 
 all_fields : (P : ℕ → Type 0) (f : ℕ) (gs : List ℕ) → AllByRecursion P gs → P f → AllByRecursion P (with_field f gs)
 all_fields P f [] all here = (here, tt)

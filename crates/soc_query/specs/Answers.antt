@@ -4,15 +4,12 @@ use Rattle.std.specs.List.{filter, list_any, list_all, starts_with, ends_with}
 use Rattle.std.specs.Ordering.{nat_cmp, is_lt, is_eq, is_gt, ordering_then, ordering_reverse}
 use Rattle.std.specs.declared.cmp.Ordering.{Ordering}
 use Rattle.std.specs.declared.cmp.Ordering.TheVariants.{Less, Equal, Greater}
-use Rattle.soc_schema.specs.declared.caller.Caller.{Caller}
 use Rattle.soc_schema.specs.declared.value.Value.{Value}
-use Rattle.soc_schema.specs.declared.value.Value.TheVariants.{Text, Number, Flag}
 use Rattle.soc_schema.specs.declared.value.Cell.{Cell}
 use Rattle.soc_schema.specs.Rows.{value_of}
 use Rattle.soc_schema.specs.Fields.{uuid_field}
-use Rattle.soc_schema.specs.Permits.{shows}
-use Rattle.soc_store.specs.Orders.{value_cmp}
-use Rattle.soc_store.specs.Stored.{product_of, rows_with, values_of}
+use Rattle.soc_schema.specs.Orders.{in_order, value_cmp}
+use Rattle.soc_schema.specs.Values.{rows_with, sees, text_in, values_of}
 use Rattle.soc_query.specs.declared.condition.Comparison.{Comparison}
 use Rattle.soc_query.specs.declared.condition.Comparison.TheVariants.{Equals, Below, AtMost, Above, AtLeast, Contains, Starts, Ends}
 use Rattle.soc_query.specs.declared.condition.Test.{Test}
@@ -28,12 +25,6 @@ use Rattle.soc_query.specs.Queries.{Asked}
 abbrev pub has_part : List ℕ → List ℕ → Bool
 has_part part [] = starts_with nat_eq [] part
 has_part part (c ∷ text) = starts_with nat_eq (c ∷ text) part || has_part part text
-
--- what operators look into
-abbrev pub text_in : Value → List ℕ
-text_in (Text t) = t
-text_in (Number n) = []
-text_in (Flag b) = []
 
 -- whether a value compares so with the operand
 abbrev pub compares : Comparison → Value → Value → Bool
@@ -72,10 +63,6 @@ abbrev pub meets : List Condition → List Cell → Bool
 meets conditions row =
     list_all (λ c. if is_exact c then meets_one conditions c.field row else meets_alone row c) conditions
 
--- the caller may see the row
-abbrev pub sees : Caller → List Cell → Bool
-sees caller row = shows caller.products (product_of row)
-
 -- values in order, no value last whichever way the order goes
 abbrev pub value_order : Bool → Option Value → Option Value → Ordering
 value_order falling None None = Equal
@@ -87,15 +74,6 @@ value_order falling (Some v) (Some w) = if falling then ordering_reverse (value_
 abbrev pub row_order : List Sort → List Cell → List Cell → Ordering
 row_order [] a b = value_order false (value_of a uuid_field) (value_of b uuid_field)
 row_order (s ∷ ss) a b = ordering_then (value_order s.falling (value_of a s.field) (value_of b s.field)) (row_order ss a b)
-
--- in order: what ties stays as it stands
-abbrev pub put_in_order : {X : Type 0} → (X → X → Ordering) → X → List X → List X
-put_in_order R x [] = x ∷ []
-put_in_order R x (y ∷ ys) = if is_gt (R x y) then y ∷ put_in_order R x ys else x ∷ y ∷ ys
-
-abbrev pub in_order : {X : Type 0} → (X → X → Ordering) → List X → List X
-in_order R [] = []
-in_order R (x ∷ xs) = put_in_order R x (in_order R xs)
 
 -- what a row has of these fields
 abbrev pub columns_of : List ℕ → List Cell → List Cell

@@ -1,27 +1,13 @@
 -- An answer as a JSON object (RFC 8259), compact, with names in byte order: this project's profile.
-use Rattle.std.specs.Prelude.{ℕ, List, [], ◌∷◌, ◌++◌, nat_lt, if◌then◌else◌, codes}
-use Rattle.std.specs.Prelude.{decimal}
+use Rattle.std.specs.Prelude.{ℕ, List, ◌++◌, codes, decimal}
 use Rattle.serde_json.specs.Written.{compact_text}
 use Rattle.soc_schema.specs.declared.value.Value.{Value}
+use Rattle.soc_schema.specs.Commas.{joined}
 use Rattle.soc_schema.specs.Fields.{name_of}
 use Rattle.soc_schema.specs.RowJson.{data_of, row_json}
 use Rattle.soc_query.specs.declared.answer.Term.{Term}
 use Rattle.soc_query.specs.declared.answer.Facet.{Facet}
 use Rattle.soc_query.specs.declared.answer.Answer.{Answer}
-
--- texts with a comma before each
-abbrev pub after_commas : {A : Type 0} → (A → List ℕ) → List A → List ℕ
-after_commas text [] = []
-after_commas text (x ∷ xs) = codes "," ++ text x ++ after_commas text xs
-
--- a comma, where something stands before
-abbrev pub comma_after : ℕ → List ℕ
-comma_after before = if nat_lt 0 before then codes "," else []
-
--- texts with commas between them
-abbrev pub joined : {A : Type 0} → (A → List ℕ) → List A → List ℕ
-joined text [] = []
-joined text (x ∷ xs) = text x ++ after_commas text xs
 
 abbrev pub value_json : Value → List ℕ
 value_json v = compact_text (data_of v)

@@ -1,5 +1,5 @@
 //! What the answer to a query has.
-use crate::items::Items;
+use soc_base::Items;
 use soc_schema::{Field, Row, Value};
 
 /// Fields in the order of the table.

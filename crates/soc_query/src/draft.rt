@@ -7,7 +7,7 @@ use crate::condition::Condition;
 use crate::error::QueryError;
 use crate::part::{Part, Sort};
 use crate::reading::read_part;
-use soc_raw::{NoMemory, Pairs};
+use soc_base::{NoMemory, Pairs};
 use soc_schema::{Caller, Field};
 use std::alloc::Global;
 use std::marker::Model;

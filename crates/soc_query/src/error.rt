@@ -1,5 +1,5 @@
 //! Why a query isn't read.
-use soc_raw::{NoMemory, Text};
+use soc_base::{NoMemory, Text};
 use soc_schema::Permission;
 use std::alloc::AllocError;
 use thiserror::Error;

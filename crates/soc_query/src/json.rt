@@ -1,13 +1,13 @@
 //! Answers as JSON (RFC 8259).
-ghost use Rattle.std.specs.Prelude.{◌≡◌, ◌++◌, IfOk, OnOk, string_bytes, codes, drop};
-ghost use Rattle.std.specs.Prelude.{decimal};
+ghost use Rattle.std.specs.Prelude.{◌≡◌, ◌++◌, IfOk, OnOk, string_bytes, codes, drop, decimal};
 ghost use Rattle.soc_schema.specs.RowJson.{data_of, row_json};
 ghost use Rattle.serde_json.specs.View.{view};
-ghost use Rattle.soc_query.specs.Json.{answer_json, comma_after, facet_json, joined, term_json, value_json};
+ghost use Rattle.soc_query.specs.Json.{answer_json, facet_json, term_json, value_json};
+ghost use Rattle.soc_schema.specs.Commas.{comma_after, joined};
 
 use crate::answer::{Answer, Facet, Term};
 use serde_json::Value as Json;
-use soc_raw::{Bytes, NoMemory};
+use soc_base::{Bytes, NoMemory};
 use soc_schema::{Row, Value, row_json};
 use std::alloc::Global;
 

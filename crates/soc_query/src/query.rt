@@ -6,7 +6,7 @@ use crate::condition::Condition;
 use crate::draft::Draft;
 use crate::error::QueryError;
 use crate::part::Sort;
-use soc_raw::Pairs;
+use soc_base::Pairs;
 use soc_schema::{Caller, Field};
 use std::alloc::Global;
 use std::marker::Model;

@@ -7,7 +7,7 @@ ghost use Rattle.soc_query.specs.Queries.{IsRefusal, compared_to, condition_of, 
 use crate::condition::{Comparison, Condition, Test};
 use crate::error::QueryError;
 use crate::part::{Part, Sort};
-use soc_raw::Text;
+use soc_base::Text;
 use soc_schema::{Caller, Field, FieldKind, Value, granted};
 use std::alloc::Global;
 
@@ -197,7 +197,7 @@ fn read_operand(
     ensures refused { IfErr result (IsRefusal (operand_of name.now kind how operand.now)) }
 {
     match kind {
-        FieldKind::Text => Ok(Value::Text(Text::of(alloc, operand)?)),
+        FieldKind::Text => Ok(Value::text(alloc, operand)?),
         FieldKind::Number => {
             if how.is_for_texts() {
                 return Err(bad_value(alloc, name)?);

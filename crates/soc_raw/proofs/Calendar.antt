@@ -1,13 +1,16 @@
 -- The days after 1 January 2000 are jiff's days of the same numbers.
-use Rattle.std.proofs.Common.{◌≡◌, ℕ, zero, suc, ◌+◌, ◌-◌, ◌/◌, ◌<◌, ◌≤◌, Bool, true, false, if◌then◌else◌, nat_lt, refl, sym, ◌∙◌, ap, subst, arith, pos, ◌+ℤ◌}
+use Rattle.std.proofs.Common.{◌≡◌, ℕ, zero, suc, ◌+◌, ◌-◌, ◌/◌, ◌<◌, ◌≤◌, Bool, true, false, if◌then◌else◌, nat_lt, refl, sym, ◌∙◌, ap, subst, arith, ℤ, pos, ◌+ℤ◌, ◌*ℤ◌, unsigned_abs}
 use Rattle.std.proofs.lemmas.Bool.Decides.{nat_tests}
 use Rattle.std.specs.Int.{IsInRange}
 use Rattle.jiff_core.specs.declared.civil.date.Date.{Date as JiffDate}
 use Rattle.jiff_core.specs.Calendar.{days_in_month, days_from_civil, day_count, days_of_years, days_of_months}
+use Rattle.jiff_core.specs.declared.civil.datetime.DateTime.{DateTime as JiffDateTime}
 use Rattle.jiff_core.specs.Date.{epoch_day}
+use Rattle.jiff_core.specs.DateTime.{civil_nanos}
 use Rattle.jiff_core.proofs.SignedLemmas.{signed_arith}
 use Rattle.jiff_core.proofs.CalendarLemmas.{days_in_month_bounds}
 use Rattle.jiff_core.proofs.DateLemmas.{epoch_day_injective, days_from_civil-day, days_from_civil-next_month, days_from_civil-next_year}
+use Rattle.jiff_core.proofs.DateTimeLemmas.{civil_nanos-parts, time_nanos_bound}
 use Rattle.soc_raw.specs.declared.day.Date.{Date}
 use Rattle.soc_raw.specs.Day.{next_day, days_after_2000, day_of, IsDay, IsMoment}
 
@@ -117,25 +120,20 @@ days_of moment = moment / 86_400 - 10_957
 pub few_days : (moment : ℕ) → IsMoment moment → days_of moment ≤ 36_524
 few_days moment h = omega arith
 
--- jiff's date of a moment's day
-pub is_day_of : (e : JiffDate) (moment : ℕ) → IsMoment moment → (epoch_day e +ℤ pos 4_371_587) ≡ pos (moment / 86_400 + 4_371_587) → (e.year ≡ pos (days_after_2000 (days_of moment)).year) × (e.month ≡ (days_after_2000 (days_of moment)).month) × (e.day ≡ (days_after_2000 (days_of moment)).day)
-is_day_of e moment h number =
-    let k : moment / 86_400 ≡ 10_957 + days_of moment = omega arith in
-    is_day_after e (days_of moment) (few_days moment h) (omega (arith, signed_arith))
-
-pub year_fits : (e : JiffDate) (moment : ℕ) → IsMoment moment → (epoch_day e +ℤ pos 4_371_587) ≡ pos (moment / 86_400 + 4_371_587) → (y : ℕ) × (e.year ≡ pos y) × (y ≤ 2099)
-year_fits e moment h number =
-    ((days_after_2000 (days_of moment)).year, (is_day_of e moment h number).0, (reached (days_of moment) (few_days moment h)).high)
+-- the day on which jiff has an instant
+epoch_day_at : (at : JiffDateTime) (moment : ℕ) → civil_nanos at ≡ (pos moment *ℤ pos 1_000_000_000 +ℤ pos 0) → epoch_day at.date ≡ pos (moment / 86_400)
+epoch_day_at at moment is = omega (arith, signed_arith, civil_nanos-parts at, time_nanos_bound at.time)
 
 same_date : (a : Date) (year month day : ℕ) → year ≡ a.year → month ≡ a.month → day ≡ a.day → (let b : Date = record { year = year; month = month; day = day } in b) ≡ a
 same_date a year month day y m d = rw (y, m, d) refl
 
-pub the_date : (e : JiffDate) (moment year : ℕ) → IsMoment moment → (epoch_day e +ℤ pos 4_371_587) ≡ pos (moment / 86_400 + 4_371_587) → pos year ≡ e.year → (let b : Date = record { year = year; month = e.month; day = e.day } in b) ≡ day_of moment
+-- jiff's date of an instant is the day of the moment
+pub the_date : (at : JiffDateTime) (date : JiffDate) (moment year month day : ℕ) → IsMoment moment → civil_nanos at ≡ (pos moment *ℤ pos 1_000_000_000 +ℤ pos 0) → date ≡ at.date → year ≡ unsigned_abs date.year → month ≡ date.month → day ≡ date.day → (let b : Date = record { year = year; month = month; day = day } in b) ≡ day_of moment
 unfolding day_of
-the_date e moment year h number is =
-    let parts = is_day_of e moment h number in
-    let y : year ≡ (days_after_2000 (days_of moment)).year = (let both = is ∙ parts.0 in omega (arith, signed_arith, both)) in
-    same_date (days_after_2000 (days_of moment)) year e.month e.day y parts.1 parts.2
+the_date at date moment year month day h is same y m d =
+    let number = ap epoch_day same ∙ epoch_day_at at moment is in
+    let parts = is_day_after date (days_of moment) (few_days moment h) (let k : moment / 86_400 ≡ 10_957 + days_of moment = omega arith in omega (arith, signed_arith, number)) in
+    same_date (days_after_2000 (days_of moment)) year month day (y ∙ ap unsigned_abs parts.0) (m ∙ parts.1) (d ∙ parts.2)
 
 pub real_day_of : (moment : ℕ) → IsMoment moment → IsDay (day_of moment)
 unfolding day_of
@@ -143,3 +141,10 @@ real_day_of moment h = real_day _ _ (reached (days_of moment) (few_days moment h
 
 pub real_date : (a b : Date) → a ≡ b → IsDay b → IsDay a
 real_date a b e h = subst IsDay (sym e) h
+
+-- a day's month and number have two digits at most
+pub two_digits_do : (d : Date) → IsDay d → (d.month < 100) × (d.day < 100)
+two_digits_do d h =
+    let civil = h.civil in
+    let long = days_in_month_bounds (pos d.year) d.month in
+    grind (arith, nat_tests)

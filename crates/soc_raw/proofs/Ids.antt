@@ -7,7 +7,6 @@ use Rattle.std.proofs.lemmas.Str.{IsUtf8-from_ascii}
 use Rattle.std.specs.Str.{IsAscii, IsUtf8}
 use Rattle.std.specs.List.{list_all, enumerate_from}
 use Rattle.std.specs.Char.{is_ascii_digit}
-use Rattle.jiff_core.proofs.CalendarLemmas.{days_in_month_bounds}
 use Rattle.std.proofs.Math.ListN.{drop_of_length-le}
 use borrow.Rule.Slice.PartMut.{put_mid}
 use Rattle.uuid.specs.Text.{hyphenated_text, is_hyphen_place, hyphen, hex_digit, nibble, digit_place, lower}
@@ -16,6 +15,7 @@ use Rattle.soc_text.specs.Digits.{is_lower_hex, two_digits, two_digits_value}
 use Rattle.soc_raw.specs.declared.day.Date.{Date}
 use Rattle.soc_raw.specs.declared.digit.Digit.{Digit}
 use Rattle.soc_raw.specs.declared.digit.Digit.TheVariants.{Accepted, Deferred}
+use Rattle.soc_raw.proofs.Calendar.{two_digits_do}
 use Rattle.soc_raw.specs.Day.{is_civil, IsDay}
 use Rattle.soc_raw.specs.Digit.{digit_code}
 use Rattle.soc_raw.specs.CrashId.{as_version_4, day_text, id_text, may_stand, pair_at, is_id, has_form}
@@ -132,12 +132,6 @@ tail_stands : (digit : Digit) (y m d : ℕ) → y < 100 → m < 100 → d < 100 
 tail_stands Accepted y m d fy fm fd = pairs_stand y m d fy fm fd
 tail_stands Deferred y m d fy fm fd = pairs_stand y m d fy fm fd
 
-pub civil_bounds : (d : Date) → IsDay d → (d.month < 100) × (d.day < 100)
-civil_bounds d h =
-    let civil = h.civil in
-    let long = days_in_month_bounds (pos d.year) d.month in
-    grind (arith, nat_tests)
-
 civil_same : (a b c x y z : ℕ) → a ≡ x → b ≡ y → c ≡ z → is_civil x y z ≡ true → is_civil a b c ≡ true
 civil_same a b c x y z p q r h = rw (p, q, r) h
 
@@ -151,7 +145,7 @@ pub stamped_is_id : (front : List ℕ) (digit : Digit) (d : Date) → length fro
 unfolding is_id
 stamped_is_id front digit d len stands day =
     let tail = digit_code digit ∷ day_text d in
-    let few = civil_bounds d day in
+    let few = two_digits_do d day in
     let low = day.year_low in
     let high = day.year_high in
     let y_few : d.year - 2000 < 100 = omega arith in

@@ -7,7 +7,8 @@ use Rattle.std.proofs.lemmas.List.{flat_map_more, drop_at}
 use Rattle.std.proofs.lemmas.List.Concat.{flat_map-append}
 use Rattle.soc_raw.specs.inner.Sizes.{pair_len}
 use Rattle.soc_raw.specs.inner.Writing.{Extends}
-use Rattle.soc_raw.specs.Record.{Crash, counted, pair_text, pairs_text, head_text, content_text, record_of, MAX_RECORD}
+use Rattle.soc_raw.specs.Record.{Crash, pair_text, pairs_text, head_text, content_text, record_of, MAX_RECORD}
+use Rattle.soc_base.specs.Cursor.{counted}
 
 pub head_length : (c : Crash) → length c.id + 8 + 8 + 4 + length c.rule ≡ length (head_text c)
 unfolding head_text

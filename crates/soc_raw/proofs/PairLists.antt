@@ -13,14 +13,10 @@ use Rattle.std.proofs.lemmas.Map.Iter.{rest_so_far}
 use Rattle.std.specs.Map.{keys_of}
 use Rattle.std.specs.Map.Iter.{TakesFirst, deref_pair}
 use Rattle.std.specs.BTreeMap.{insert_entry}
-use Rattle.std.specs.declared.cmp.Ordering.TheVariants.{Less, Equal, Greater}
+use Rattle.std.specs.declared.cmp.Ordering.TheVariants.{Less, Greater}
 use Rattle.std.proofs.Common.{Bor, map}
-use Rattle.std.specs.Prelude.{Result, Ok, Err, OnOk, OnErr}
-use Rattle.soc_raw.specs.Names.{IsRising, with_value}
-use Rattle.soc_raw.specs.Record.{IsText, HasTextName}
-
-pub some_same : {X : Type 0} (x y : X) → Some x ≡ Some y → x ≡ y
-some_same x y e = cc
+use Rattle.soc_base.proofs.Folk.{and_parts}
+use Rattle.soc_base.specs.Names.{IsRising, with_value}
 
 -- what holds of each key holds of one in the middle
 key_within : {V : Type 0} (P : List ℕ → Type 0) (front rest : List (List ℕ × V)) (e : List ℕ × V) → AllByRecursion P (keys_of (front ++ e ∷ rest)) → P e.0
@@ -79,13 +75,9 @@ module _ {A B : Type 0} (view : A → B) (eq : A → A → Bool) (same : (x y : 
 abbrev pub pair_eq : Bor (List ℕ) × Bor (List ℕ) → Bor (List ℕ) × Bor (List ℕ) → Bool
 pair_eq x y = bytes_eq x.0.now y.0.now && bytes_eq x.1.now y.1.now
 
-both : (a b : Bool) → (a && b) ≡ true → (a ≡ true) × (b ≡ true)
-both true b e = (refl, e)
-both false b e = cc
-
 pub pair_same : (x y : Bor (List ℕ) × Bor (List ℕ)) → pair_eq x y ≡ true → deref_pair x ≡ deref_pair y
 pair_same x y e =
-    let h = both (bytes_eq x.0.now y.0.now) (bytes_eq x.1.now y.1.now) e in
+    let h = and_parts (bytes_eq x.0.now y.0.now) (bytes_eq x.1.now y.1.now) e in
     let name : x.0.now ≡ y.0.now = (bytes_eq-Decides x.0.now y.0.now).0 h.0 in
     let value : x.1.now ≡ y.1.now = (bytes_eq-Decides x.1.now y.1.now).0 h.1 in
     ap (λ n. (n, x.1.now)) name ∙ ap (λ v. (y.0.now, v)) value
@@ -97,24 +89,3 @@ pair_differs x y e h =
     let yes : pair_eq x y ≡ true = ap (λ b. b && bytes_eq x.1.now y.1.now) name ∙ value in
     let no_way : true ≡ false = sym yes ∙ e in
     cc
-
--- what holds of each pair holds once a name has a value
-module _ (Is : List ℕ × List ℕ → Type 0) (keeps : (p : List ℕ × List ℕ) (n v : List ℕ) → Is p → Is (n, v) → Is (p.0, v)) where
-  all_with : (ps : List (List ℕ × List ℕ)) (n v : List ℕ) → AllByRecursion Is ps → Is (n, v) → AllByRecursion Is (with_value ps n v)
-  all_with [] n v all is = (is, tt)
-  all_with (p ∷ ps) n v all is =
-      elim (slice_cmp nat_cmp n p.0) as (λ o. AllByRecursion Is (match_ordering o ((n, v) ∷ p ∷ ps) ((p.0, v) ∷ ps) (p ∷ insert_entry (slice_cmp nat_cmp) ps n v))) [
-        | Less ↦ (is, all)
-        | Equal ↦ (keeps p n v all.0 is, all.1)
-        | Greater ↦ (all.0, all_with ps n v all.1 is)
-      ]
-
-  pub all_set : {T E : Type 0} (r : Result T E) (old new : List (List ℕ × List ℕ)) (n v : List ℕ) → OnOk r (new ≡ with_value old n v) → OnErr r (new ≡ old) → AllByRecursion Is old → Is (n, v) → AllByRecursion Is new
-  all_set (Ok _) old new n v done failed all is = subst (λ ps. AllByRecursion Is ps) (sym done) (all_with old n v all is)
-  all_set (Err _) old new n v done failed all is = subst (λ ps. AllByRecursion Is ps) (sym failed) all
-
-pub keeps_text : (p : List ℕ × List ℕ) (n v : List ℕ) → IsText p → IsText (n, v) → IsText (p.0, v)
-keeps_text p n v old new = (old.0, new.1)
-
-pub keeps_name : (p : List ℕ × List ℕ) (n v : List ℕ) → HasTextName p → HasTextName (n, v) → HasTextName (p.0, v)
-keeps_name p n v old new = old

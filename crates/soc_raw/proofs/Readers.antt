@@ -1,32 +1,20 @@
 -- Reading pairs one after the other, as a loop does.
-use Rattle.std.proofs.Common.{◌≡◌, ℕ, zero, suc, ◌+◌, ◌-◌, ◌<◌, ◌≤◌, List, [], ◌∷◌, ◌++◌, length, Option, Some, None, Bool, true, false, refl, sym, ap, ◌∙◌, append_assoc, arith}
+use Rattle.std.proofs.Common.{◌≡◌, ℕ, zero, suc, ◌+◌, ◌-◌, ◌<◌, ◌≤◌, List, [], ◌∷◌, ◌++◌, length, Option, Some, None, true, false, refl, sym, ap, ◌∙◌, append_assoc, arith}
 use Rattle.std.specs.Prelude.{slice_get}
 use Rattle.std.specs.Ordering.{nat_cmp, match_ordering, ordering_reverse, is_lt}
 use Rattle.std.specs.List.Sorted.{IsStrictlySortedBy}
 use Rattle.std.specs.Cmp.Lexicographic.{slice_cmp, nat_list_cmp_total}
 use Rattle.std.specs.BTreeMap.{insert_entry}
-use Rattle.std.specs.Str.{IsUtf8, is_utf8}
 use Rattle.std.specs.declared.cmp.Ordering.{Ordering}
 use Rattle.std.specs.declared.cmp.Ordering.TheVariants.{Less, Equal, Greater}
 use Rattle.std.proofs.lemmas.List.{append-nil}
-use Rattle.std.proofs.lemmas.Str.{IsUtf8-from_is_utf8, is_utf8-from_IsUtf8}
 use Rattle.soc_raw.specs.declared.record_error.RecordError.{RecordError}
 use Rattle.soc_raw.specs.declared.record_error.RecordError.TheVariants.{BadRecord, NoMemory}
-use Rattle.soc_raw.specs.Names.{IsRising, with_value}
-use Rattle.soc_raw.specs.Options.{◌>>=◌}
+use Rattle.soc_base.specs.Names.{IsRising, with_value}
+use Rattle.soc_base.specs.Options.{◌>>=◌}
 use Rattle.soc_raw.specs.inner.Reading.{is_above, last_name, pairs_at}
 use Rattle.soc_raw.specs.Refusals.{Refuses}
-use Rattle.soc_raw.proofs.PairLists.{some_same}
-
-not_true : (b : Bool) → (b ≡ true → ⊥) → b ≡ false
-not_true true h = absurd (h refl)
-not_true false h = refl
-
-pub no_text : (bytes : List ℕ) → (IsUtf8 bytes → ⊥) → is_utf8 bytes ≡ false
-no_text bytes h = not_true (is_utf8 bytes) (λ e. h (IsUtf8-from_is_utf8 bytes e))
-
-pub is_text : (bytes : List ℕ) → IsUtf8 bytes → is_utf8 bytes ≡ true
-is_text bytes h = is_utf8-from_IsUtf8 bytes h
+use Rattle.soc_base.proofs.Folk.{some_same}
 
 -- the last name, from the last pair
 pub last_none : {V : Type 0} (ps : List (List ℕ × V)) → length ps ≡ 0 → last_name ps ≡ None

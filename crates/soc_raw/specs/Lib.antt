@@ -1,10 +1,7 @@
 pub mod CrashId
-pub mod Cursor
 pub mod Day
 pub mod Digit
 pub mod inner
-pub mod Names
-pub mod Options
 pub mod RawCrash
 pub mod Record
 pub mod Refusals

@@ -3,7 +3,8 @@ use Rattle.std.specs.Prelude.{◌≡◌, ℕ, ◌^◌, ◌<◌, ◌≤◌, List,
 use Rattle.std.specs.Int.{to_le_bytes, w32, w64}
 use Rattle.std.specs.Str.{IsUtf8}
 use Rattle.std.specs.List.{AllByRecursion}
-use Rattle.soc_raw.specs.Names.{IsRising}
+use Rattle.soc_base.specs.Cursor.{counted}
+use Rattle.soc_base.specs.Names.{IsRising, IsText, HasTextName}
 use Rattle.soc_raw.specs.Day.{IsMoment}
 use Rattle.soc_raw.specs.CrashId.{IsId}
 
@@ -15,10 +16,6 @@ pub record Crash : Type 0 where
   pub rule : List ℕ
   pub annotations : List (List ℕ × List ℕ)
   pub dumps : List (List ℕ × List ℕ)
-
--- a text or a blob: its length in 4 bytes, and its bytes
-abbrev pub counted : List ℕ → List ℕ
-counted bytes = to_le_bytes w32 (length bytes) ++ bytes
 
 abbrev pub pair_text : List ℕ × List ℕ → List ℕ
 pair_text p = counted p.0 ++ counted p.1
@@ -46,12 +43,6 @@ MAX_ANNOTATIONS = 1024
 
 abbrev pub MAX_DUMPS : ℕ
 MAX_DUMPS = 512
-
-abbrev pub IsText : List ℕ × List ℕ → Type 0
-IsText p = IsUtf8 p.0 × IsUtf8 p.1
-
-abbrev pub HasTextName : List ℕ × List ℕ → Type 0
-HasTextName p = IsUtf8 p.0
 
 -- the raw crashes that there are
 pub record IsCrash (c : Crash) : Type 0 where

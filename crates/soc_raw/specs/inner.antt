@@ -1,5 +1,4 @@
 pub mod Parts
-pub mod Places
 pub mod Reading
 pub mod Sizes
 pub mod Writing

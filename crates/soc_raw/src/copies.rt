@@ -1,9 +1,7 @@
 //! Copies of maps, and maps that are the same.
 ghost use Rattle.std.specs.Prelude.{◌≡◌, ◌↔◌, IfOk, IsTrue};
 
-use crate::blobs::Blobs;
-use crate::no_memory::NoMemory;
-use crate::texts::Texts;
+use soc_base::{Blobs, NoMemory, Texts};
 use std::alloc::Global;
 
 /// The same texts by the same names.

@@ -1,13 +1,12 @@
 //! Crash ids.
-ghost use Rattle.std.specs.Prelude.{◌≡◌, ◌+◌, ◌-◌, ◌<◌, ◌≤◌, ◌++◌, ◌∷◌, List, length, take, slice_index, MatchOption, pos, true};
+ghost use Rattle.std.specs.Prelude.{◌≡◌, ◌+◌, ◌-◌, ◌<◌, ◌≤◌, ◌++◌, ◌∷◌, List, length, take, slice_index, MatchOption, true};
 ghost use Rattle.std.specs.Bool.{OnTrue};
 ghost use Rattle.std.specs.List.{list_all, enumerate_from};
-ghost use Rattle.jiff_core.specs.Calendar.{days_in_month};
 ghost use Rattle.soc_raw.specs.Day.{IsMoment, IsDay, is_civil, day_of};
 ghost use Rattle.soc_raw.specs.Digit.{digit_code, digit_of};
 ghost use Rattle.soc_raw.specs.CrashId.{IsId, is_id, id_text, day_number, day_text, may_stand, pair_at};
 
-use crate::day::{Date, day_of};
+use crate::day::{Date, day_of, is_civil};
 use crate::digit::Digit;
 use soc_text::{is_lower_hex, two_digits};
 use std::marker::Model;
@@ -92,10 +91,10 @@ impl CrashId {
     pub fn day(&self) -> u32
         ensures { result ≡ day_number self.now }
     {
-        let year = u32::from(pair_at(&self.text, YEAR_PLACE));
-        let month = u32::from(pair_at(&self.text, MONTH_PLACE));
-        let day = u32::from(pair_at(&self.text, DAY_PLACE));
-        year * 10_000 + month * 100 + day
+        let year = pair_at(&self.text, YEAR_PLACE);
+        let month = pair_at(&self.text, MONTH_PLACE);
+        let day = pair_at(&self.text, DAY_PLACE);
+        (year * 10_000 + month * 100 + day) as u32
     }
 
     /// The 36 characters.
@@ -192,34 +191,12 @@ fn has_day(text: &[u8]) -> bool
 }
 
 /// The number that two digits write; a byte below `0` counts as 0.
-fn pair_at(text: &[u8], place: usize) -> u16
+fn pair_at(text: &[u8], place: usize) -> u64
     requires { place + 1 < length text.now }
     ensures value { result ≡ pair_at text.now place }
     ensures small { result ≤ 2277 }
 {
     let tens = text[place].saturating_sub(b'0');
     let ones = text[place + 1].saturating_sub(b'0');
-    u16::from(tens) * 10 + u16::from(ones)
-}
-
-fn is_civil(year: u16, month: u16, day: u16) -> bool
-    ensures { result ≡ is_civil year month day }
-{
-    1 <= month && month <= 12 && 1 <= day && day <= days_in_month(year, month)
-}
-
-fn days_in_month(year: u16, month: u16) -> u16
-    ensures { result ≡ days_in_month (pos year) month }
-{
-    match month {
-        2 => {
-            if year % 4 == 0 && (year % 100 != 0 || year % 400 == 0) {
-                29
-            } else {
-                28
-            }
-        }
-        4 | 6 | 9 | 11 => 30,
-        _ => 31,
-    }
+    u64::from(tens) * 10 + u64::from(ones)
 }

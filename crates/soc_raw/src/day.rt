@@ -1,18 +1,14 @@
 //! Moments and the days on which they fall.
-ghost use Rattle.std.specs.Prelude.{◌≡◌, ◌≤ℤ◌, pos};
+ghost use Rattle.std.specs.Prelude.{◌≡◌, ◌≤◌};
 
-use jiff_core::civil;
+use jiff::tz::Offset;
+use jiff::{Timestamp, civil};
 
 /// The first moment of a clock, 1 January 2000, in seconds since 1970.
 pub const FIRST_MOMENT: u64 = 946_684_800;
 
 /// The last moment of a clock, the last second of 2099.
 pub const LAST_MOMENT: u64 = 4_102_444_799;
-
-const SECONDS_OF_A_DAY: u64 = 86_400;
-
-/// The days from the first one of jiff's calendar to 1 January 1970.
-const DAYS_TO_1970: u32 = 4_371_587;
 
 /// A day of the Gregorian calendar, in UTC.
 #[derive(Clone, Copy, Debug, PartialEq, Eq)]
@@ -25,7 +21,7 @@ pub struct Date {
     pub day: u8,
 }
 
-ghost use Rattle.soc_raw.specs.Day.{IsMoment, IsDay, day_of};
+ghost use Rattle.soc_raw.specs.Day.{IsMoment, IsDay, day_of, is_civil};
 
 /// The UTC date of a moment, a time of a clock in seconds since 1970.
 pub fn day_of(moment: u64) -> Date
@@ -33,18 +29,21 @@ pub fn day_of(moment: u64) -> Date
     ensures value { result ≡ day_of moment }
     ensures real { IsDay result }
 {
-    let days = (moment / SECONDS_OF_A_DAY) as u32;
-    let date = civil::Date::from_days_since_min(days + DAYS_TO_1970);
+    let Ok(timestamp) = Timestamp::from_second(moment as i64) else {
+        unreachable!()
+    };
+    let date = Offset::UTC.to_datetime(timestamp).date();
     Date {
-        year: year_number(date.year),
-        month: date.month,
-        day: date.day,
+        year: date.year().unsigned_abs(),
+        month: date.month().unsigned_abs(),
+        day: date.day().unsigned_abs(),
     }
 }
 
-fn year_number(year: i16) -> u16
-    requires { pos 0 ≤ℤ year }
-    ensures { pos result ≡ year }
+/// Whether the calendar has this day of a year up to 9999.
+pub fn is_civil(year: u64, month: u64, day: u64) -> bool
+    requires { year ≤ 9999 }
+    ensures { result ≡ is_civil year month day }
 {
-    year as u16
+    month <= 12 && day <= 31 && civil::Date::new(year as i16, month as i8, day as i8).is_ok()
 }

@@ -4,13 +4,10 @@ ghost use Rattle.soc_raw.specs.Refusals.{Refuses};
 ghost use Rattle.soc_raw.specs.inner.Reading.{Gives, content_at, crash_at, crash_with};
 ghost use Rattle.soc_raw.specs.inner.Parts.{crash_of_parts};
 
-use crate::blobs::Blobs;
 use crate::crash_id::CrashId;
-use crate::cursor::Cursor;
 use crate::reading::{blobs_at, id_at, moment_at, texts_at};
 use crate::record_error::RecordError;
-use crate::text::Text;
-use crate::texts::Texts;
+use soc_base::{Blobs, Cursor, Text, Texts};
 use std::alloc::Global;
 
 /// The parts of a record; whether they keep the limits of a raw crash isn't said here.

@@ -4,16 +4,12 @@ ghost use Rattle.soc_raw.specs.Day.{IsMoment};
 ghost use Rattle.soc_raw.specs.Record.{MAX_ANNOTATIONS as max_annotations, MAX_DUMPS as max_dumps, MAX_RECORD as max_record, Crash, IsCrash, record_of, head_text, content_text};
 ghost use Rattle.soc_raw.specs.inner.Writing.{Extends};
 
-use crate::blobs::Blobs;
-use crate::bytes::Bytes;
 use crate::copies::{are_same_blobs, are_same_texts, copy_of_blobs, copy_of_texts};
 use crate::crash_id::CrashId;
 use crate::decoding::parts_of;
-use crate::no_memory::NoMemory;
 use crate::record_error::RecordError;
-use crate::text::Text;
-use crate::texts::Texts;
 use crate::writing::{len_of_blobs, len_of_texts, put_blobs, put_bytes, put_counted, put_texts};
+use soc_base::{Blobs, Bytes, NoMemory, Text, Texts};
 use std::alloc::Global;
 
 /// The greatest length of a record, in bytes.

@@ -1,14 +1,13 @@
 //! The parts of a record, read from the front of the bytes.
 ghost use Rattle.std.specs.Prelude.{◌≡◌, None};
-ghost use Rattle.soc_raw.specs.Names.{IsRising};
-ghost use Rattle.soc_raw.specs.inner.Reading.{GivesFrom, ReadsAs, id_at, moment_at, text_pair_at, blob_pair_at, is_above, last_name, pairs_at, counted_pairs_at};
+ghost use Rattle.soc_base.specs.Names.{IsRising};
+ghost use Rattle.soc_raw.specs.inner.Reading.{GivesFrom, id_at, moment_at, text_pair_at, blob_pair_at, is_above, last_name, pairs_at, counted_pairs_at};
+ghost use Rattle.soc_base.specs.Cursor.{ReadsAs};
 
-use crate::blobs::Blobs;
 use crate::crash_id::CrashId;
-use crate::cursor::Cursor;
 use crate::day::{FIRST_MOMENT, LAST_MOMENT};
 use crate::record_error::RecordError;
-use crate::texts::Texts;
+use soc_base::{Blobs, Cursor, Texts};
 use std::alloc::Global;
 
 const ID_LENGTH: usize = 36;

@@ -1,6 +1,6 @@
 //! Why bytes give no raw crash.
 
-use crate::no_memory::NoMemory;
+use soc_base::NoMemory;
 use thiserror::Error;
 
 /// Why bytes give no raw crash.

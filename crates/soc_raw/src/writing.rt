@@ -1,11 +1,10 @@
 //! The parts of a record, written.
 ghost use Rattle.std.specs.Prelude.{◌≡◌, ◌<◌, ◌^◌, ◌++◌, length, flat_map, OnOk};
-ghost use Rattle.soc_raw.specs.Record.{counted, pair_text, pairs_text};
+ghost use Rattle.soc_base.specs.Cursor.{counted};
+ghost use Rattle.soc_raw.specs.Record.{pair_text, pairs_text};
 ghost use Rattle.soc_raw.specs.inner.Writing.{Extends};
 
-use crate::blobs::Blobs;
-use crate::no_memory::NoMemory;
-use crate::texts::Texts;
+use soc_base::{Blobs, NoMemory, Texts};
 
 /// Writes the bytes.
 pub fn put_bytes(out: &mut Vec<u8>, bytes: &[u8]) -> Result<(), NoMemory>

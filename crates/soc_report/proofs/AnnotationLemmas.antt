@@ -7,6 +7,7 @@ use Rattle.std.specs.Str.Parse.{AllDigits, digits_value}
 use Rattle.std.proofs.lemmas.Bool.{true≢false}
 use Rattle.std.proofs.lemmas.Bool.Decides.{nat_tests}
 use Rattle.std.proofs.lemmas.List.Splits.{slice_split_first}
+use Rattle.soc_base.proofs.Folk.{and_parts, from_lt, from_le}
 use Rattle.soc_text.specs.Digits.{IsNumber}
 use Rattle.soc_report.specs.Annotations.{is_number, number_of}
 
@@ -18,16 +19,6 @@ test_digit c test = grind (arith, nat_tests)
 
 and_true : (a b : Bool) → a ≡ true → b ≡ true → (a && b) ≡ true
 and_true a b e f = ap (λ x. x && b) e ∙ f
-
-and_parts : (a b : Bool) → (a && b) ≡ true → (a ≡ true) × (b ≡ true)
-and_parts true b e = (refl, e)
-and_parts false b e = absurd (true≢false (sym e))
-
-from_lt : (m n : ℕ) → nat_lt m n ≡ true → m < n
-from_lt m n test = grind (arith, nat_tests)
-
-from_le : (m n : ℕ) → nat_le m n ≡ true → m ≤ n
-from_le m n test = grind (arith, nat_tests)
 
 digits_pass : (ds : List ℕ) → AllDigits 10 ds → list_all is_ascii_digit ds ≡ true
 digits_pass [] all = refl

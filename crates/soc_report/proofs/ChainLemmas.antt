@@ -13,11 +13,9 @@ use Rattle.std.proofs.lemmas.List.{length-set, get_or-set_same, get_or-set_other
 use Rattle.std.proofs.lemmas.Map.Text.{is_eq-slice_cmp}
 use Rattle.std.proofs.lemmas.Option.{slice_get_within}
 use Rattle.std.proofs.lemmas.Slice.Eq.{bytes_eq-Decides}
-use Rattle.soc_raw.specs.Names.{value_of, with_value}
+use Rattle.soc_base.proofs.Folk.{some_same}
+use Rattle.soc_base.specs.Names.{value_of, with_value}
 use Rattle.soc_report.specs.inner.Index.{place_or, LeadsTo, IsChain}
-
-pub some_same : {A : Type 0} (x y : A) → Some x ≡ Some y → x ≡ y
-some_same {A = A} x y e = ap (λ (o : Option A). unwrap_or o x) e
 
 not_equal : (x y : List ℕ) (b : Bool) (r : Ordering) → slice_cmp nat_cmp x y ≡ r → is_eq r ≡ b → bytes_eq x y ≡ b
 not_equal x y b r is result = sym (is_eq-slice_cmp x y) ∙ (ap is_eq is ∙ result)

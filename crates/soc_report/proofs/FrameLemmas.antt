@@ -8,6 +8,7 @@ use Rattle.std.proofs.lemmas.Bool.{false_from_ne_true}
 use Rattle.std.proofs.lemmas.List.Folds.{list_any-append}
 use Rattle.std.proofs.lemmas.Slice.Eq.{bytes_eq-Decides}
 use Rattle.std.proofs.lemmas.List.{length-map}
+use Rattle.soc_base.proofs.Folk.{or_true}
 use Rattle.soc_dump.specs.Dump.{Contents}
 use Rattle.soc_frames.specs.declared.frame.Frame.{Frame}
 use Rattle.soc_frames.specs.declared.frame.Trust.TheVariants.{Context}
@@ -79,10 +80,6 @@ signed_is kit crash dump told lists input builder walked signature is_dump is_li
     first ∙ second ∙ ap (signed_of kit crash) is_dump
 
 -- ---- frames whose texts tell only where they lie
-
-or_true : (b : Bool) → (b || true) ≡ true
-or_true true = refl
-or_true false = refl
 
 -- the watchdog's name has no `@`
 has_at : (front rest : List ℕ) → bytes_eq (front ++ 64 ∷ rest) watchdog ≡ false

@@ -7,6 +7,7 @@ use Rattle.std.specs.Result.{result_ok, result_err}
 use Rattle.std.proofs.lemmas.Bool.Decides.{nat_tests}
 use Rattle.std.proofs.lemmas.Option.{none-some, slice_get-map, slice_get_past, slice_get_read}
 use Rattle.std.proofs.lemmas.Slice.Eq.{bytes_eq-Decides}
+use Rattle.soc_base.proofs.Folk.{some_same}
 use Rattle.soc_symfile.specs.Records.{Records, records_of}
 use Rattle.soc_report.specs.declared.error.KitError.{KitError}
 use Rattle.soc_report.specs.declared.error.KitError.TheVariants.{BadLine, BadPattern, MakerFault, TreeFault, Missing, NoMemory}
@@ -17,7 +18,6 @@ use Rattle.soc_report.specs.inner.Index.{LeadsTo}
 use Rattle.soc_report.specs.inner.Kits.{HaveRecords, OnlyBadLine, HasNoSlash, LeadsOn, IsFirst, IsNowhere, ids_of}
 use Rattle.soc_report.specs.inner.Parts.{middle_of}
 use Rattle.soc_report.specs.inner.Reading.{symbol_view}
-use Rattle.soc_report.proofs.ChainLemmas.{some_same}
 use Rattle.soc_report.proofs.PartLemmas.{middle_is}
 
 -- ---- records

@@ -5,9 +5,9 @@ use Rattle.std.specs.Fmt.{char_count, decimal, digits, format_spec, padded_integ
 use Rattle.std.proofs.lemmas.Bool.{agree_below, agree_below_at}
 use Rattle.std.proofs.lemmas.Bool.Decides.{nat_tests}
 use Rattle.std.proofs.lemmas.Slice.Eq.{bytes_eq-Decides}
-use Rattle.jiff_core.proofs.CalendarLemmas.{days_in_month_bounds}
 use Rattle.soc_raw.specs.declared.day.Date.{Date}
 use Rattle.soc_raw.specs.Day.{IsDay}
+use Rattle.soc_raw.proofs.Calendar.{two_digits_do}
 use Rattle.soc_text.specs.Digits.{two_digits}
 use Rattle.soc_report.specs.Annotations.{date_text, time_text}
 
@@ -23,18 +23,12 @@ two : (n : ℕ) → n < 100 → styled_decimal (format_spec 32 0 4 2 18446744073
 two n small =
     (bytes_eq-Decides (styled_decimal (format_spec 32 0 4 2 18446744073709551615) n) (two_digits n)).0 (agree_below_at is_two (λ _. true) 100 n all_two small)
 
-bounds : (date : Date) → IsDay date → (date.month < 100) × (date.day < 100)
-bounds date is =
-    let civil = is.civil in
-    let long = days_in_month_bounds (pos date.year) date.month in
-    grind (arith, nat_tests)
-
 abbrev two_of : ℕ → List ℕ
 two_of n = styled_decimal (format_spec 32 0 4 2 18446744073709551615) n
 
 pub date_is : (date : Date) → IsDay date → decimal date.year ++ (45 ∷ (two_of date.month ++ (45 ∷ two_of date.day))) ≡ date_text date
 date_is date is =
-    let small = bounds date is in
+    let small = two_digits_do date is in
     ap (λ (m : List ℕ). decimal date.year ++ (45 ∷ (m ++ (45 ∷ two_of date.day)))) (two date.month small.0)
     ∙ ap (λ (d : List ℕ). decimal date.year ++ (45 ∷ (two_digits date.month ++ (45 ∷ d)))) (two date.day small.1)
 

@@ -5,6 +5,7 @@ use Rattle.std.specs.List.{AllByRecursion}
 use Rattle.std.proofs.lemmas.Bool.{lt-ltb, cond_both}
 use Rattle.std.proofs.Math.ListN.{get_or-map}
 use Rattle.std.proofs.lemmas.List.{get_or-map as get_or-map_within}
+use Rattle.soc_base.proofs.Folk.{drop_past}
 use Rattle.soc_schema.specs.declared.field.FieldKind.{FieldKind}
 use Rattle.soc_schema.specs.declared.field.FieldKind.TheVariants as kind
 use Rattle.soc_schema.specs.declared.permission.Permission.TheVariants.{Public}
@@ -13,7 +14,7 @@ use Rattle.soc_schema.specs.declared.value.Value.TheVariants.{Text, Number, Flag
 use Rattle.soc_schema.specs.declared.value.Cell.{Cell}
 use Rattle.soc_schema.specs.Fields.{field_table, field_entry, kind_of, made}
 use Rattle.soc_schema.specs.Rows.{cell, kind_of_value, with_value}
-use Rattle.soc_report.specs.Report.{Known, Source, cells_from, sources, filled, value_from, values_of, text, number, flag, age, id, moment, rule, success, architecture, processors, platform, version, modules, address, reason, thread, frames, signature, proto, notes}
+use Rattle.soc_report.specs.Report.{Known, Source, cells_from, sources, filled, value_from, values_of, product, text, number, flag, age, id, moment, rule, success, architecture, processors, platform, version, modules, address, reason, thread, frames, signature, proto, notes}
 use Rattle.soc_report.specs.inner.Known.{kind_of_source, source_at, no_line}
 
 abbrev pub AllBelow : ℕ → List Cell → Type 0
@@ -56,7 +57,8 @@ filled_kind : (bytes : List ℕ) → IfSome (filled bytes) (λ v. kind_of_value 
 filled_kind bytes = cond_both (length bytes == 0) None (Some (Text bytes)) (λ (o : Option Value). IfSome o (λ v. kind_of_value v ≡ kind.Text)) (λ _. tt) (λ _. refl)
 
 pub kind_from : (known : Known) (source : Source) → IfSome (value_from known source) (λ v. kind_of_value v ≡ kind_of_source source)
-kind_from known (text name) = mapped Text kind.Text _ (λ _. refl)
+kind_from known product = mapped Text kind.Text _ (λ _. refl)
+kind_from known (text name) = mapped _ kind.Text _ (λ _. refl)
 kind_from known (number name) = mapped Number kind.Number _ (λ _. refl)
 kind_from known (flag name) = mapped Flag kind.Flag _ (λ _. refl)
 kind_from known (age name) = mapped Number kind.Number _ (λ _. refl)
@@ -126,12 +128,6 @@ further known source place field value row more within is is_source is_field is_
       below = subst (AllBelow (place + 1)) (sym added) (all_below row place value so_far.below);
       so_far = one_more (cells_from 0 (values_of known)) row more place (values_of known) value inside here so_far.so_far added;
     }
-
-drop_past : {A : Type 0} (xs : List A) (n : ℕ) → length xs ≤ n → drop n xs ≡ []
-drop_past [] zero past = refl
-drop_past [] (suc n) past = refl
-drop_past (x ∷ xs) zero past = absurd (omega arith)
-drop_past (x ∷ xs) (suc n) past = drop_past xs n (omega arith)
 
 pub end : (known : Known) (place : ℕ) (row : List Cell) → 36 ≤ place → SoFar known place row → row ≡ cells_from 0 (values_of known)
 end known place row past so_far =

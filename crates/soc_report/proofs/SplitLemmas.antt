@@ -5,6 +5,7 @@ use Rattle.std.specs.List.{after_first, before_first, position_or_len, list_any}
 use Rattle.std.specs.Str.{IsUtf8}
 use Rattle.std.proofs.lemmas.Bool.{true≢false}
 use Rattle.std.proofs.lemmas.Str.{IsUtf8-drop, IsCharBoundary-after_ascii}
+use Rattle.soc_base.proofs.Folk.{or_false}
 use Rattle.soc_report.specs.Annotations.{lists_browser}
 use Rattle.soc_report.specs.inner.Parts.{parts_of}
 use Rattle.soc_report.proofs.AnnotationLemmas.{IsMark, parts_more, parts_none}
@@ -60,19 +61,15 @@ part_last part rest left same none nowhere =
 
 -- ---- a list that commas part
 
-or_false : (a b : Bool) → a ≡ false → (a || b) ≡ b
-or_false true b is = absurd (true≢false is)
-or_false false b is = refl
-
-or_none : (a : Bool) → (a || false) ≡ a
-or_none true = refl
-or_none false = refl
+first_false : (a b : Bool) → a ≡ false → (a || b) ≡ b
+first_false true b is = absurd (true≢false is)
+first_false false b is = refl
 
 pub browser_later : (rest front others : List ℕ) → position_or_len (IsMark 44) rest < length rest → front ≡ before_first (IsMark 44) rest → others ≡ after_first (IsMark 44) rest
     → bytes_eq front (codes "browser") ≡ false → lists_browser rest ≡ lists_browser others
 browser_later rest front others within is_front is_others differs =
     ap (list_any (λ item. bytes_eq item (codes "browser"))) (parts_more 44 rest front others within is_front is_others)
-    ∙ or_false (bytes_eq front (codes "browser")) (lists_browser others) differs
+    ∙ first_false (bytes_eq front (codes "browser")) (lists_browser others) differs
 
 pub browser_last : (rest : List ℕ) → position_or_len (IsMark 44) rest ≡ length rest → lists_browser rest ≡ bytes_eq rest (codes "browser")
-browser_last rest none = ap (list_any (λ item. bytes_eq item (codes "browser"))) (parts_none 44 rest none) ∙ or_none (bytes_eq rest (codes "browser"))
+browser_last rest none = ap (list_any (λ item. bytes_eq item (codes "browser"))) (parts_none 44 rest none) ∙ or_false (bytes_eq rest (codes "browser"))

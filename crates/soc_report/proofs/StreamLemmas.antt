@@ -5,6 +5,7 @@ use Rattle.std.specs.List.{list_any}
 use Rattle.std.proofs.lemmas.Bool.{ne_eqb}
 use Rattle.std.proofs.lemmas.Bool.Decides.{nat_tests}
 use Rattle.std.proofs.lemmas.Option.{none-some}
+use Rattle.soc_base.proofs.Folk.{from_le}
 use Rattle.soc_dump.specs.declared.error.DumpError.{DumpError}
 use Rattle.soc_dump.specs.declared.error.DumpError.TheVariants.{NoMagic, BadVersion, OutOfFile}
 use Rattle.soc_dump.specs.Checks.{Check, check, first_refusal}
@@ -25,9 +26,6 @@ first_holds (Some refusal) checks none = absurd (none-some refusal (sym none))
 holds : (b : Bool) (refusal : DumpError) → check b refusal ≡ None → b ≡ true
 holds true refusal none = refl
 holds false refusal none = absurd (none-some refusal (sym none))
-
-from_le : (m n : ℕ) → nat_le m n ≡ true → m ≤ n
-from_le m n test = grind (arith, nat_tests)
 
 -- a dump that isn't refused has a header, and its directory lies in it
 fourth : (a b c d : Check) (more : List Check) → first_refusal ((a ∷ b ∷ c ∷ d ∷ []) ++ more) ≡ None → (a ≡ None) × (d ≡ None)

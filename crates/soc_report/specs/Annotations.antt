@@ -9,8 +9,8 @@ use Rattle.std.specs.Str.Parse.{digits_value}
 use Rattle.soc_text.specs.Digits.{two_digits}
 use Rattle.soc_raw.specs.declared.day.Date.{Date}
 use Rattle.soc_raw.specs.Day.{day_of, seconds_of_a_day}
-use Rattle.soc_raw.specs.Names.{value_of}
-use Rattle.soc_raw.specs.Options.{◌>>=◌}
+use Rattle.soc_base.specs.Names.{value_of}
+use Rattle.soc_base.specs.Options.{◌>>=◌}
 use Rattle.soc_raw.specs.Record.{Crash}
 
 abbrev pub text_at : Crash → List ℕ → Option (List ℕ)

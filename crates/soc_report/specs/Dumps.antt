@@ -5,7 +5,7 @@ use Rattle.std.specs.Option.{option_map_or}
 use Rattle.std.specs.Fmt.{decimal}
 use Rattle.std.specs.Int.{to_be_bytes, w64}
 use Rattle.hex.specs.Hex.{encode_lower}
-use Rattle.soc_raw.specs.Names.{value_of}
+use Rattle.soc_base.specs.Names.{value_of}
 use Rattle.soc_raw.specs.Record.{Crash}
 use Rattle.soc_dump.specs.declared.error.DumpError.{DumpError}
 use Rattle.soc_dump.specs.declared.error.DumpError.TheVariants.{NoMagic, BadVersion, OutOfFile, BadStream, TwoStreams, NoMemory}

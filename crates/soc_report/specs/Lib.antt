@@ -1,8 +1,10 @@
 pub mod Texts
 pub mod Kits
 pub mod Digests
+pub mod Cuts
 pub mod Annotations
 pub mod Dumps
 pub mod Stacks
 pub mod Report
+pub mod Tables
 pub mod inner

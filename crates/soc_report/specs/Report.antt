@@ -13,6 +13,7 @@ use Rattle.soc_sigrules.specs.Chars.{joined}
 use Rattle.soc_sigrules.specs.Signatures.{signature_of}
 use Rattle.soc_report.specs.declared.dump.Reading.{Reading}
 use Rattle.soc_report.specs.Annotations.{text_at, number_at, flag_at, age_since, moment_text}
+use Rattle.soc_report.specs.Cuts.{cut_text}
 use Rattle.soc_report.specs.Dumps.{reading_of, dump_in, is_read, dump_notes, module_count_of, reason_of, address_text, version_text}
 use Rattle.soc_report.specs.Kits.{KitEntry}
 use Rattle.soc_report.specs.Stacks.{stack_of, thread_of, input_of}
@@ -40,7 +41,9 @@ known_of kit crash =
 -- ---- where a field's value comes from
 
 pub data Source : Type 0 where
-  -- an annotation: as it is, as a number, as a flag, and the time from it to the crash
+  -- the name of the product
+  product : Source
+  -- an annotation: as a text that may be cut, as a number, as a flag, and the time from it to the crash
   text : List ℕ → Source
   number : List ℕ → Source
   flag : List ℕ → Source
@@ -82,7 +85,8 @@ system_in reading = option_and_then (λ d. d.system) (dump_in reading)
 
 -- the value that a source gives, if it gives one
 abbrev pub value_from : Known → Source → Option Value
-value_from known (text name) = option_map Text (text_at known.crash name)
+value_from known product = option_map Text (text_at known.crash (codes "ProductName"))
+value_from known (text name) = option_map (λ t. Text (cut_text t)) (text_at known.crash name)
 value_from known (number name) = option_map Number (number_at known.crash name)
 value_from known (flag name) = option_map Flag (flag_at known.crash name)
 value_from known (age name) = option_map Number (age_since known.crash name)
@@ -138,7 +142,7 @@ sources =
     ∷ line (codes "platform") platform
     ∷ line (codes "platform_version") version
     ∷ line (codes "process_type") (text (codes "ProcessType"))
-    ∷ line (codes "product") (text (codes "ProductName"))
+    ∷ line (codes "product") product
     ∷ line (codes "proto_signature") proto
     ∷ line (codes "reason") reason
     ∷ line (codes "release_channel") (text (codes "ReleaseChannel"))

@@ -5,8 +5,9 @@ ghost use Rattle.soc_raw.specs.RawCrash.{crash_of};
 ghost use Rattle.soc_report.specs.Dumps as spec;
 
 use crate::streams::lists_modules;
+use soc_base::{NoMemory, Text, TextList};
 use soc_dump::{Dump, DumpError, Exception, System, Thread, crash_reason};
-use soc_raw::{NoMemory, RawCrash, Text, TextList};
+use soc_raw::RawCrash;
 use std::alloc::Global;
 
 /// The name of the crashed process's dump.

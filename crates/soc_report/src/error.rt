@@ -2,7 +2,7 @@
 ghost use Rattle.std.specs.Prelude.{◌≡◌};
 ghost use Rattle.soc_report.specs.declared.error.KitError.TheVariants.{NoMemory as WantsMemory};
 
-use soc_raw::{NoMemory, Text};
+use soc_base::{NoMemory, Text};
 use soc_siglists::{ListError, ListName};
 use std::alloc::{AllocError, AllocFailed};
 use thiserror::Error;

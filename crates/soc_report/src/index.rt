@@ -1,13 +1,13 @@
 //! Which symbol files have an id.
 ghost use Rattle.std.specs.Prelude.{◌≡◌, ◌<◌, length, map, set, slice_index, IfOk, OnOk};
-ghost use Rattle.soc_raw.specs.Names.{with_value};
+ghost use Rattle.soc_base.specs.Names.{with_value};
 ghost use Rattle.soc_report.specs.inner.Index.{IsIndex, place_or};
 ghost use Rattle.soc_report.specs.inner.Kits.{ids_of};
 ghost use Rattle.soc_report.specs.inner.Reading.{symbol_view};
 
 use crate::parts::middle_part;
 use crate::texts::SymbolFile;
-use soc_raw::{NoMemory, Sorted, Text};
+use soc_base::{NoMemory, Sorted, Text};
 use std::alloc::Global;
 
 /// For each id the first symbol file that has it in its path, and for each symbol file the next one with the same id.

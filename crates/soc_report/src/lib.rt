@@ -22,4 +22,5 @@ mod value;
 pub use digest::one_kit;
 pub use error::KitError;
 pub use kit::Kit;
+pub use source::sources_are_of_fields;
 pub use texts::KitText;

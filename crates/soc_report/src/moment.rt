@@ -3,7 +3,8 @@ ghost use Rattle.std.specs.Prelude.{◌≡◌, ◌<◌, IfOk};
 ghost use Rattle.soc_raw.specs.Day.{IsMoment, IsDay};
 ghost use Rattle.soc_report.specs.Annotations.{date_text, time_text, moment_text};
 
-use soc_raw::{Date, NoMemory, Text, day_of};
+use soc_base::{NoMemory, Text};
+use soc_raw::{Date, day_of};
 use std::alloc::Global;
 
 const SECONDS_OF_A_DAY: u64 = 86_400;

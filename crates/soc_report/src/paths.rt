@@ -5,7 +5,7 @@ ghost use Rattle.soc_report.specs.Texts.{paths_in, name_of};
 ghost use Rattle.soc_report.specs.inner.Reading.{RefusesList, RefusesPaths};
 
 use crate::error::KitError;
-use soc_raw::{NoMemory, Text};
+use soc_base::{NoMemory, Text};
 use soc_siglists::entry_texts;
 use std::alloc::Global;
 

@@ -8,7 +8,7 @@ ghost use Rattle.soc_report.specs.inner.Known.{known_view};
 
 use crate::known::Known;
 use crate::source::Source;
-use soc_raw::NoMemory;
+use soc_base::NoMemory;
 use soc_schema::{Field, Row, Value};
 use std::alloc::Global;
 

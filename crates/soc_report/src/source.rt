@@ -1,12 +1,15 @@
 //! Where the value of each field comes from.
 ghost use Rattle.std.specs.Prelude.{◌≡◌, ◌<◌, length, map};
 ghost use Rattle.soc_report.specs.Report.{sources};
+ghost use Rattle.soc_report.specs.Tables.{AreOneTable};
 ghost use Rattle.soc_report.specs.inner.Known.{source_at, source_view};
 
 /// Where the value of a field comes from.
 #[derive(Clone, Copy, Debug)]
 pub enum Source {
-    /// An annotation, as it is.
+    /// The name of the product.
+    Product,
+    /// An annotation, as a text that may be cut.
     Text(&'static str),
     /// An annotation that writes a number.
     Number(&'static str),
@@ -73,7 +76,7 @@ static SOURCES: [Source; 36] = [
     Source::Platform,
     Source::Version,
     Source::Text("ProcessType"),
-    Source::Text("ProductName"),
+    Source::Product,
     Source::Proto,
     Source::Reason,
     Source::Text("ReleaseChannel"),
@@ -87,6 +90,11 @@ static SOURCES: [Source; 36] = [
     Source::Id,
     Source::Text("Version"),
 ];
+
+/// The sources are in the order of the table of fields, and each annotation is its field's.
+pub fn sources_are_of_fields()
+    ensures { AreOneTable }
+{}
 
 /// The table.
 fn table() -> &'static [Source]

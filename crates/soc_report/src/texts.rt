@@ -6,8 +6,8 @@ ghost use Rattle.soc_report.specs.inner.Reading.{symbol_view, IsFault, IsThere, 
 
 use crate::error::KitError;
 use crate::paths::{SYMBOLS_LIST, name_of, read_paths};
+use soc_base::{Bytes, NoMemory, Text};
 use soc_edge::{Tree, TreeError};
-use soc_raw::{Bytes, NoMemory, Text};
 use std::alloc::Global;
 use std::marker::Model;
 

@@ -4,6 +4,7 @@ ghost use Rattle.std.specs.Option.{option_copied};
 ghost use Rattle.soc_dump.specs.Names.{architecture_name_of, platform_name_of};
 ghost use Rattle.soc_dump.specs.Views.{exception_entry};
 ghost use Rattle.soc_schema.specs.declared.value.Value.TheVariants.{Text as TextValue, Number as NumberValue, Flag as FlagValue};
+ghost use Rattle.soc_report.specs.Cuts.{cut_text};
 ghost use Rattle.soc_report.specs.Dumps.{dump_in};
 ghost use Rattle.soc_report.specs.Report as report;
 ghost use Rattle.soc_report.specs.Report.{value_from, filled, notes_of, system_in, exception_in};
@@ -16,11 +17,14 @@ use crate::known::Known;
 use crate::moment::moment_text;
 use crate::source::Source;
 use crate::stack::thread_of;
+use soc_base::{NoMemory, SharedText, Text, TextList};
 use soc_dump::{Exception, System, architecture_name, platform_name};
-use soc_raw::{NoMemory, Text, TextList};
 use soc_schema::Value;
 use soc_sigrules::join;
 use std::alloc::Global;
+
+/// The most bytes of a text that is copied from an annotation.
+const TEXT_LIMIT: usize = 1024;
 
 /// What stands between notes.
 const SEPARATOR: &str = "; ";
@@ -29,7 +33,14 @@ const SEPARATOR: &str = "; ";
 fn text_value(alloc: Global, text: &str) -> Result<Option<Value>, NoMemory>
     ensures { IfOk result (λ value. value ≡ Some (TextValue text.now)) }
 {
-    Ok(Some(Value::Text(Text::of(alloc, text)?)))
+    Ok(Some(Value::text(alloc, text)?))
+}
+
+/// A text as a value.
+fn owned(alloc: Global, text: Text) -> Result<Option<Value>, NoMemory>
+    ensures { IfOk result (λ value. value ≡ Some (TextValue text)) }
+{
+    Ok(Some(Value::Text(SharedText::new(alloc, text)?)))
 }
 
 /// A text that is there, in memory of its own.
@@ -38,6 +49,23 @@ fn copied(alloc: Global, text: Option<&str>) -> Result<Option<Value>, NoMemory>
 {
     match text {
         Some(text) => text_value(alloc, text),
+        None => Ok(None),
+    }
+}
+
+/// A text's first bytes, up to the limit, less those of a character that the limit would cut.
+fn cut_text(text: &str) -> &str
+    ensures { result.now ≡ cut_text text.now }
+{
+    &text[..text.floor_char_boundary(TEXT_LIMIT)]
+}
+
+/// A text that is there, cut, in memory of its own.
+fn cut(alloc: Global, text: Option<&str>) -> Result<Option<Value>, NoMemory>
+    ensures { IfOk result (λ value. value ≡ option_map (λ t. TextValue (cut_text t)) (option_copied text.entry)) }
+{
+    match text {
+        Some(text) => text_value(alloc, cut_text(text)),
         None => Ok(None),
     }
 }
@@ -123,7 +151,7 @@ impl<'a> Known<'a> {
         ensures { IfOk result (λ value. value ≡ value_from (known_view self.now) report.version) }
     {
         match self.system() {
-            Some(system) => Ok(Some(Value::Text(version_text(alloc, system)?))),
+            Some(system) => owned(alloc, version_text(alloc, system)?),
             None => Ok(None),
         }
     }
@@ -133,7 +161,7 @@ impl<'a> Known<'a> {
         ensures { IfOk result (λ value. value ≡ value_from (known_view self.now) report.address) }
     {
         match self.exception() {
-            Some(exception) => Ok(Some(Value::Text(address_text(alloc, exception)?))),
+            Some(exception) => owned(alloc, address_text(alloc, exception)?),
             None => Ok(None),
         }
     }
@@ -146,7 +174,7 @@ impl<'a> Known<'a> {
             return Ok(None);
         };
         match reason_of(alloc, dump)? {
-            Some(reason) => Ok(Some(Value::Text(reason))),
+            Some(reason) => owned(alloc, reason),
             None => Ok(None),
         }
     }
@@ -167,15 +195,13 @@ impl<'a> Known<'a> {
         ensures { IfOk result (λ value. value ≡ value_from (known_view self.now) (source_view source)) }
     {
         match source {
-            Source::Text(name) => copied(alloc, text_at(self.raw, name)),
+            Source::Product => copied(alloc, text_at(self.raw, "ProductName")),
+            Source::Text(name) => cut(alloc, text_at(self.raw, name)),
             Source::Number(name) => Ok(number(number_at(self.raw, name))),
             Source::Flag(name) => Ok(flag(flag_at(self.raw, name))),
             Source::Age(name) => Ok(number(age_since(self.raw, name))),
             Source::Id => text_value(alloc, self.raw.id.as_str()),
-            Source::Moment => {
-                let text = moment_text(alloc, self.raw.moment)?;
-                Ok(Some(Value::Text(text)))
-            }
+            Source::Moment => owned(alloc, moment_text(alloc, self.raw.moment)?),
             Source::Rule => text_value(alloc, self.raw.rule.as_str()),
             Source::Success => Ok(Some(Value::Flag(self.reading.dump().is_some()))),
             Source::Architecture => copied(alloc, self.architecture()),

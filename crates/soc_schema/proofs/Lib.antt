@@ -1,4 +1,6 @@
+pub mod CommaLemmas
 pub mod FieldLemmas
+pub mod OrderLemmas
 pub mod RowJsonLemmas
 pub mod RowLemmas
 pub mod RowTextLemmas

@@ -13,6 +13,7 @@ use Rattle.serde_json.specs.Written.{compact_text}
 use Rattle.serde_json.specs.declared.value.Value.{Value as Value'}
 use Rattle.serde_json.specs.declared.value.Value.TheVariants.{Object}
 use Rattle.serde_json.proofs.Views.{view-Object}
+use Rattle.soc_base.proofs.Folk.{or_no_left, or_no_right}
 use Rattle.soc_schema.specs.Rows.{cell}
 use Rattle.soc_schema.specs.declared.value.Cell.{Cell}
 use Rattle.soc_schema.specs.declared.value.Value.{Value}
@@ -23,14 +24,6 @@ use Rattle.soc_schema.specs.inner.Members.{HasCells}
 
 both_false : (a b : Bool) → a ≡ false → b ≡ false → (a || b) ≡ false
 both_false a b p q = rw (p, q) refl
-
-first_false : (a b : Bool) → (a || b) ≡ false → a ≡ false
-first_false false b e = refl
-first_false true b e = cc
-
-second_false : (a b : Bool) → (a || b) ≡ false → b ≡ false
-second_false false b e = e
-second_false true b e = cc
 
 by_order : (o : Ordering) (k l : List ℕ) (d e : Data) (ms put_ms : Members) → has_float d ≡ false → has_float e ≡ false → members_have_float ms ≡ false
     → members_have_float put_ms ≡ false
@@ -43,8 +36,8 @@ by_order Greater k l d e ms put_ms p q r s = both_false _ _ q s
 pub put_exact : (k : List ℕ) (d : Data) (ms : Members) → has_float d ≡ false → members_have_float ms ≡ false → members_have_float (put k d ms) ≡ false
 put_exact k d no_members p q = both_false _ _ p refl
 put_exact k d (member l e ms) p q =
-    let here = first_false (has_float e) (members_have_float ms) q in
-    let rest = second_false (has_float e) (members_have_float ms) q in
+    let here = or_no_left (has_float e) (members_have_float ms) q in
+    let rest = or_no_right (has_float e) (members_have_float ms) q in
     by_order (slice_cmp nat_cmp k l) k l d e ms (put k d ms) p here rest (put_exact k d ms p rest)
 
 pub data_exact : (value : Value) → has_float (data_of value) ≡ false

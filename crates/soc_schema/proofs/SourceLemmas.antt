@@ -11,7 +11,7 @@ use Rattle.std.specs.Option.{option_map_or}
 use Rattle.std.specs.Ordering.{is_eq, is_lt, ordering_index}
 use Rattle.std.specs.declared.cmp.Ordering.{Ordering}
 use Rattle.std.specs.declared.cmp.Ordering.TheVariants.{Less, Equal, Greater}
-use Rattle.soc_raw.specs.Names.{byte_cmp}
+use Rattle.soc_base.specs.Names.{byte_cmp}
 use Rattle.soc_schema.specs.Fields.{IsField, field_table, field_entry, source_of, field_of_annotation}
 use Rattle.soc_schema.specs.inner.Sources.{annotation_of, by_annotation}
 use Rattle.soc_schema.proofs.FieldLemmas.{field_of_annotation-absent, is_at, is_at-true, is_text-same}

@@ -1,6 +1,6 @@
 -- What a report tells of its crash.
 use Rattle.std.specs.Prelude.{◌≡◌, List, [], ◌∷◌, ◌++◌, ℕ, Option, None, Some, codes, option_map, refl}
-use Rattle.soc_raw.specs.Names.{value_of as text_of}
+use Rattle.soc_base.specs.Names.{value_of as text_of}
 use Rattle.soc_raw.specs.Record.{Crash}
 use Rattle.soc_schema.specs.declared.value.Cell.{Cell}
 use Rattle.soc_schema.specs.declared.value.Value.TheVariants.{Text}

@@ -2,7 +2,7 @@
 ghost use Rattle.std.specs.Prelude.{◌≡◌, IfOk};
 
 use crate::permission::Permissions;
-use soc_raw::{NoMemory, TextList};
+use soc_base::{NoMemory, TextList};
 use std::alloc::Global;
 use std::marker::Model;
 use std::sync::Arc;

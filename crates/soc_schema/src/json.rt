@@ -11,7 +11,7 @@ use crate::field::Field;
 use crate::row::Row;
 use crate::value::Value;
 use serde_json::{Map, Value as Json};
-use soc_raw::{Bytes, NoMemory};
+use soc_base::{Bytes, NoMemory};
 use std::alloc::Global;
 
 /// An object of the row's names and values, in byte order of names.

@@ -4,7 +4,8 @@ ghost use Rattle.soc_raw.specs.RawCrash.{crash_of};
 
 use crate::reporter::Reporter;
 use crate::row::Row;
-use soc_raw::{NoMemory, RawCrash};
+use soc_base::NoMemory;
+use soc_raw::RawCrash;
 use std::alloc::Global;
 use std::marker::Model;
 

@@ -11,7 +11,8 @@ ghost use Rattle.soc_schema.specs.declared.field.FieldKind.TheVariants.{Text as 
 use crate::field::Field;
 use crate::row::Row;
 use crate::value::Value;
-use soc_raw::{NoMemory, RawCrash, Text};
+use soc_base::NoMemory;
+use soc_raw::RawCrash;
 use std::alloc::Global;
 
 /// What makes a row of a raw crash. Equal reporters make equal rows.
@@ -81,5 +82,5 @@ fn set_text(alloc: Global, row: &mut Row, field: Field, text: &str) -> Result<()
     requires { kind_of field ≡ Words }
     ensures { OnOk result (row.new ≡ with_value row.old field (Value.Text text.now)) }
 {
-    row.set(field, Value::Text(Text::of(alloc, text)?))
+    row.set(field, Value::text(alloc, text)?)
 }

@@ -9,7 +9,7 @@ use crate::caller::Caller;
 use crate::field::Field;
 use crate::sight::granted;
 use crate::value::{Cell, Value};
-use soc_raw::NoMemory;
+use soc_base::{NoMemory, SharedText};
 use std::alloc::Global;
 use std::marker::Model;
 
@@ -100,6 +100,25 @@ impl Row {
         }
     }
 
+    /// Shares the memory of a text from now on, where the field has the same text.
+    pub fn unite(&mut self, field: Field, text: &SharedText)
+        ensures { self.new ≡ self.old }
+    {
+        let Ok(place) = find(&self.cells, field) else {
+            return;
+        };
+        if let Value::Text(own) = &mut self.cells[place].value {
+            own.unite(text);
+        }
+    }
+
+    /// Gives back the memory that no cell needs.
+    pub fn shrink(&mut self)
+        ensures { self.new ≡ self.old }
+    {
+        self.cells.shrink_to_fit();
+    }
+
     /// The cells in order.
     pub(crate) fn cells(&self) -> &[Cell]
         ensures value { result.now ≡ self.now }
@@ -116,14 +135,14 @@ impl Row {
         Row { cells }
     }
 
-    /// The fields that the caller may see, in memory of their own.
+    /// The fields that the caller may see. Their texts are shared.
     pub fn shown(&self, alloc: Global, caller: &Caller) -> Result<Row, NoMemory>
         ensures { IfOk result (λ row. row ≡ granted_cells caller.now self.now) }
     {
         let mut cells = Vec::new(alloc);
         for cell in &self.cells {
             if granted(caller, cell.field) {
-                cells.push(cell.copy(alloc)?)?;
+                cells.push(cell.share()?)?;
             }
         }
         Ok(Row { cells })

@@ -2,7 +2,7 @@
 ghost use Rattle.std.specs.Prelude.{◌≡◌, ◌≢◌, ◌+◌, ◌^◌, ◌<◌, ◌≤◌, ◌↔◌, ◌++◌, ◌∷◌, if◌then◌else◌, ℕ, List, [], length, IsTrue, IfOk, IfErr, OnOk, MatchOption, MatchResult};
 ghost use Rattle.std.specs.Int.{to_le_bytes, w32, w64};
 ghost use Rattle.std.specs.List.{AllByRecursion};
-ghost use Rattle.soc_raw.specs.Record.{counted};
+ghost use Rattle.soc_base.specs.Cursor.{counted};
 ghost use Rattle.soc_raw.specs.Refusals.{Refuses};
 ghost use Rattle.soc_schema.specs.declared.value.Cell.{Cell};
 ghost use Rattle.soc_schema.specs.declared.value.Value.{Value};
@@ -12,7 +12,8 @@ ghost use Rattle.soc_schema.specs.inner.Reading.{ReadsCell, ReadsCells, ReadsVal
 use crate::field::Field;
 use crate::row::Row;
 use crate::value::{Cell, Value};
-use soc_raw::{Bytes, Cursor, NoMemory, RecordError, Text};
+use soc_base::{Bytes, Cursor, NoMemory};
+use soc_raw::RecordError;
 use std::alloc::Global;
 
 /// The tags of the three kinds.
@@ -135,7 +136,7 @@ fn text_value_at(alloc: Global, cursor: &mut Cursor<'_>) -> Result<Value, Record
     ensures { MatchResult result (λ v. ReadsValue (TEXT ∷ cursor.old) v cursor.new) (λ e. Refuses e ((v : Value) (s : List ℕ) → ¬ (ReadsValue (TEXT ∷ cursor.old) v s))) }
 {
     match cursor.text() {
-        Some(text) => Ok(Value::Text(Text::of(alloc, text)?)),
+        Some(text) => Ok(Value::text(alloc, text)?),
         None => Err(RecordError::BadRecord),
     }
 }

@@ -9,7 +9,7 @@ ghost use Rattle.soc_schema.specs.Permits.{public_alone};
 
 use crate::caller::{Caller, Products};
 use crate::permission::{Permission, Permissions};
-use soc_raw::{NoMemory, Text, TextList};
+use soc_base::{NoMemory, Text, TextList};
 use std::alloc::Global;
 use std::marker::Model;
 use thiserror::Error;

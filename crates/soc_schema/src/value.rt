@@ -2,14 +2,14 @@
 ghost use Rattle.std.specs.Prelude.{◌≡◌, IfOk};
 
 use crate::field::{Field, FieldKind};
-use soc_raw::{NoMemory, Text};
+use soc_base::{NoMemory, SharedText};
 use std::alloc::Global;
 
 /// The value of a field.
 #[derive(Debug, Drop)]
 pub enum Value {
     /// A text.
-    Text(Text),
+    Text(SharedText),
     /// A whole number below 2^64.
     Number(u64),
     /// True or false.
@@ -28,6 +28,7 @@ pub struct Cell {
 impl Value {
     ghost use Rattle.std.specs.Prelude.{◌≡◌, IfOk};
     ghost use Rattle.soc_schema.specs.Rows.{kind_of_value};
+    ghost use Rattle.soc_schema.specs.declared.value.Value.TheVariants.{Text as TextValue};
 
     /// The kind of the fields that have such values.
     pub fn kind(&self) -> FieldKind
@@ -40,12 +41,19 @@ impl Value {
         }
     }
 
-    /// The same value, in memory of its own.
-    pub fn copy(&self, alloc: Global) -> Result<Value, NoMemory>
+    /// The text as a value, in memory of its own.
+    pub fn text(alloc: Global, text: &str) -> Result<Value, NoMemory>
+        ensures { IfOk result (λ value. value ≡ TextValue text.now) }
+    {
+        Ok(Value::Text(SharedText::of(alloc, text)?))
+    }
+
+    /// The same value. A text is shared.
+    pub fn share(&self) -> Result<Value, NoMemory>
         ensures { IfOk result (λ value. value ≡ self.now) }
     {
         Ok(match self {
-            Value::Text(text) => Value::Text(Text::of(alloc, text.as_str())?),
+            Value::Text(text) => Value::Text(text.share()?),
             Value::Number(number) => Value::Number(*number),
             Value::Flag(flag) => Value::Flag(*flag),
         })
@@ -55,13 +63,13 @@ impl Value {
 impl Cell {
     ghost use Rattle.std.specs.Prelude.{◌≡◌, IfOk};
 
-    /// The same field and value, in memory of its own.
-    pub fn copy(&self, alloc: Global) -> Result<Cell, NoMemory>
+    /// The same field and value. A text is shared.
+    pub fn share(&self) -> Result<Cell, NoMemory>
         ensures { IfOk result (λ cell. cell ≡ self.now) }
     {
         Ok(Cell {
             field: self.field,
-            value: self.value.copy(alloc)?,
+            value: self.value.share()?,
         })
     }
 }

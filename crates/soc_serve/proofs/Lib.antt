@@ -1,10 +1,6 @@
-pub mod CheckLemmas
-pub mod DocumentLemmas
-pub mod SettingLemmas
-pub mod TextLemmas
-pub mod OpeningLemmas
-pub mod FileLemmas
-pub mod ReplayLemmas
-pub mod RunLemmas
-pub mod ServingLemmas
-pub mod TaskLemmas
+pub mod Hosted
+pub mod Hostings
+pub mod Pushed
+pub mod Signatures
+pub mod Storms
+pub mod Sweeps

@@ -1,39 +1,16 @@
--- The status that a run's end gives. This project's profile.
+-- The status that the service's end gives. This project's profile.
 use Rattle.std.specs.Prelude.{ℕ}
-use Rattle.soc_session.specs.declared.ending.SessionEnd.{SessionEnd}
-use Rattle.soc_session.specs.declared.ending.SessionEnd.TheVariants.{Ended, Closed, Stopped, Refused, ReadFault, WriteFault, TooLong, NoMemory}
-use Rattle.soc_serve.specs.declared.ending.Keeping.{Keeping}
-use Rattle.soc_serve.specs.declared.ending.Keeping.TheVariants as K
-use Rattle.soc_serve.specs.declared.ending.RunEnd.{RunEnd}
-use Rattle.soc_serve.specs.declared.ending.RunEnd.TheVariants as R
+use Rattle.soc_replay.specs.Ends as run
+use Rattle.soc_serve.specs.declared.ending.HostEnd.{HostEnd}
+use Rattle.soc_serve.specs.declared.ending.HostEnd.TheVariants as H
+use Rattle.soc_serve.specs.declared.lines.LinesFault.TheVariants as L
+use Rattle.soc_serve.specs.declared.sweep.SweepFault.TheVariants as S
 
--- the status that a session's end gives
-abbrev pub session_status : SessionEnd → ℕ
-session_status Ended = 0
-session_status Closed = 0
-session_status Stopped = 0
-session_status Refused = 1
-session_status ReadFault = 6
-session_status WriteFault = 7
-session_status TooLong = 9
-session_status NoMemory = 10
-
--- where reports couldn't be kept, that decides
-abbrev pub served_status : SessionEnd → Keeping → ℕ
-served_status end K.Nothing = session_status end
-served_status end (K.Done count) = session_status end
-served_status end K.Fault = 4
-served_status end K.NoMemory = 10
-
--- the status that a run's end gives
-abbrev pub status_of : RunEnd → ℕ
-status_of (R.Served end keeping) = served_status end keeping
-status_of R.Written = 0
-status_of R.Usage = 2
-status_of R.TextRefused = 3
-status_of R.JournalRefused = 5
-status_of R.LineFault = 7
-status_of R.TreeFault = 8
-status_of R.MakerFault = 11
-status_of R.OpenFault = 4
-status_of R.NoMemory = 10
+abbrev pub status_of : HostEnd → ℕ
+status_of (H.Before end) = run.status_of end
+status_of (H.Swept S.Disk) = 4
+status_of (H.Swept S.NoMemory) = 10
+status_of (H.Lines L.Cut) = 7
+status_of (H.Lines L.NoMemory) = 10
+status_of H.Failed = 6
+status_of H.Done = 0

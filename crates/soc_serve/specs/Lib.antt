@@ -1,16 +1,6 @@
-pub mod Check
-pub mod Documents
 pub mod Ends
-pub mod Files
-pub mod Opening
-pub mod Outside
-pub mod Refusals
-pub mod Replay
-pub mod Runs
-pub mod Serving
-pub mod Settings
-pub mod Setup
-pub mod Tasks
-pub mod TokenText
-mod SettingExamples
+pub mod Hosts
+pub mod Lines
+pub mod Storm
+pub mod Sweep
 pub mod inner

@@ -1,7 +1,4 @@
--- Words of private contracts: settings and texts while they are read, the lines that refuse them, and the desk that is run.
-pub mod Checking
-pub mod Drafts
-pub mod Refusals
-pub mod Replay
+pub mod Hosting
 pub mod Serving
-pub mod Texts
+pub mod Storm
+pub mod Sweeping

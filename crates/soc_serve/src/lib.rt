@@ -1,26 +1,18 @@
-//! The top call: what the program does with its words, its files, its journal, its input and its output.
+//! The two top calls: the service over a listener, by collectors and processors beside each other over one journal, and
+//! what the program does without one.
 #![tactic(auto)]
 
-mod check;
-mod documents;
 mod ending;
-mod opening;
-mod refusal;
-mod replay;
+mod files;
+mod hosting;
+mod lines;
 mod serving;
-mod settings;
-mod setup;
-mod texts;
-mod token_text;
-mod words;
+mod storm;
+mod summary;
+mod sweep;
 
-pub use check::push_line;
-pub use ending::{Keeping, RunEnd};
-pub use opening::open;
-pub use refusal::{FileRefusal, FilesFault};
-pub use replay::refuse_text;
-pub use settings::{Settings, SettingsError};
-pub use setup::{Setup, set_up};
-pub use texts::{Texts, read_texts};
-pub use token_text::{TokensError, read_tokens};
-pub use words::{run_words, tell_usage};
+pub use ending::HostEnd;
+pub use hosting::run_hall;
+pub use lines::LinesFault;
+pub use soc_replay::run_words;
+pub use sweep::SweepFault;

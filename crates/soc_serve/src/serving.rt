@@ -1,88 +1,159 @@
-//! One session over the desk that a disk's journal opens, and the reports after it.
-ghost use Rattle.std.specs.Prelude.{◌≡◌, is_some};
-ghost use Rattle.soc_edge.specs.Ahead.{outlook};
-ghost use Rattle.soc_edge.specs.Disk.{DiskFailed, GoesOn};
-ghost use Rattle.soc_edge.specs.Told.{HasCause, NeverFall};
+//! The service over the desk that a disk's journal opens.
+ghost use Rattle.std.specs.Prelude.{◌≡◌, ◌⊎◌, ◌+◌, ◌≤◌, IsOkAnd, false, true};
+ghost use Rattle.soc_collect.specs.Tallies.{nothing_served};
+ghost use Rattle.soc_edge.specs.Ahead.{Outlook, outlook};
+ghost use Rattle.soc_edge.specs.Faults.{Rose};
+ghost use Rattle.soc_edge.specs.Told.{OnlyWrites, WriteFailed};
 ghost use Rattle.soc_desk.specs.Basis.{Basis};
 ghost use Rattle.soc_desk.specs.State.{State};
 ghost use Rattle.soc_book.specs.inner.Stands.{Stands};
+ghost use Rattle.soc_edge.specs.World.{surroundings};
+ghost use Rattle.soc_replay.specs.Serving.{service};
 ghost use Rattle.soc_serve.specs.Ends.{status_of};
-ghost use Rattle.soc_serve.specs.Outside.{surroundings};
-ghost use Rattle.soc_serve.specs.Replay.{RunsDesk};
-ghost use Rattle.soc_serve.specs.Serving.{keep_reply, keeps_reports};
-ghost use Rattle.soc_serve.specs.inner.Serving.{KeepsDisk};
+ghost use Rattle.soc_serve.specs.inner.Hosting.{IsCrew};
+ghost use Rattle.soc_serve.specs.inner.Serving.{ClosesBook, ServesDesk};
 
-use crate::ending::{Keeping, RunEnd, keeps_reports};
-use crate::opening::open;
-use crate::setup::Setup;
+use crate::ending::HostEnd;
+use crate::lines::tell_counts;
+use crate::sweep::{SweepFault, sweep};
+use soc_base::NoMemory;
 use soc_book::Book;
-use soc_desk::{Refusal, Reply};
-use soc_edge::{Clock, Disk, Draws, Sink, Source};
-use soc_http::{Buffer, Routes};
+use soc_collect::Tally;
+use soc_crew::{Crew, CrewEnd, serve_together};
+use soc_edge::{Clock, Disk, Draws, Sink, Telling};
+use soc_http::Routes;
+use soc_listen::Listener;
+use soc_replay::{RunEnd, Setup, open};
 use soc_schema::Reporter;
-use soc_session::{SessionEnd, session};
+use soc_service::Gate;
+use soc_turns::SharedBook;
 use std::alloc::Global;
+use std::snapshot::Snapshot;
+use std::sync::Wait;
+use std::thread::Threads;
 
-/// Opens the desk whose log the disk's journal keeps, answers the messages of the streams' source on their sink, and then
-/// keeps the reports that were made.
-pub(crate) fn serve<R: Reporter, X: Source + Sink, D: Disk, C: Clock, W: Draws>(
-    alloc: Global,
-    setup: &Setup,
-    reporter: &R,
-    streams: &mut X,
+/// Who serves a listener.
+#[derive(Drop)]
+pub(crate) struct Site<'s, R, G> {
+    pub(crate) rt: &'s R,
+    pub(crate) alloc: Global,
+    pub(crate) crew: Crew,
+    pub(crate) gate: &'s G,
+}
+
+/// Who serves a listener, and by what.
+#[derive(Drop)]
+pub(crate) struct Purpose<'s, R, G, Q> {
+    pub(crate) site: &'s Site<'s, R, G>,
+    pub(crate) setup: &'s Setup,
+    pub(crate) reporter: &'s Q,
+}
+
+/// Opens the desk whose log the disk's journal keeps, has a crew answer the messages of the listener's connections, and then
+/// sweeps up and writes the lines.
+pub(crate) fn serve<
+    R: Threads + Wait + Sync,
+    Q: Reporter + Sync,
+    L: Listener,
+    K: Sink,
+    D: Telling + Send,
+    C: Clock + Send,
+    W: Draws + Send,
+    G: Gate + Sync,
+>(
+    purpose: &Purpose<'_, R, G, Q>,
+    listener: L,
+    output: &mut K,
     disk: &mut D,
     clock: &mut C,
     draws: &mut W,
-) -> RunEnd
-    ensures runs { RunsDesk (R.row_of reporter.now) (R.digest_of reporter.now) setup.now
-        (surroundings (X.told streams.old) (D.state disk.old) (outlook (C.told clock.old) (W.told draws.old)))
-        (surroundings (X.told streams.new) (D.state disk.new) (outlook (C.told clock.new) (W.told draws.new)))
-        result }
-    ensures goes_on { GoesOn (D.state disk.old) (D.state disk.new) }
-    ensures never_fall { NeverFall (X.told streams.old) (X.told streams.new) }
-    ensures cause { HasCause (status_of result ≡ 6) (status_of result ≡ 7) (X.told streams.old) (X.told streams.new) }
-    ensures disk_cause { status_of result ≡ 4 → DiskFailed (D.state disk.old) (D.state disk.new) }
+    served: &mut Tally<L::Conn>,
+) -> (HostEnd, L)
+    requires crew { IsCrew purpose.now.site.now.crew }
+    requires served { served.old ≡ nothing_served }
+    ensures serves { ServesDesk
+        (service (Q.row_of purpose.now.reporter.now) (Q.digest_of purpose.now.reporter.now)
+        purpose.now.setup.now) served.new.kept
+        (surroundings (K.told output.old) (D.state disk.old)
+        (outlook (C.told clock.old) (W.told draws.old)))
+        (surroundings (K.told output.new) (D.state disk.new)
+        (outlook (C.told clock.new) (W.told draws.new))) result.0 }
+    ensures handed { (L.told result.1).handed ≡ (L.told listener).handed + served.new.connections }
+    ensures over { status_of result.0 ≡ 0
+        → (served.new.stopped ≡ true) ⊎ ((L.told result.1).ended ≡ true) }
+    ensures only { OnlyWrites (K.told output.old) (K.told output.new) }
+    ensures no_fewer { (L.told listener).faults ≤ (L.told result.1).faults }
+    ensures listener_cause { status_of result.0 ≡ 6
+        → Rose (L.told listener).faults (L.told result.1).faults }
+    ensures cause { status_of result.0 ≡ 7 → WriteFailed (K.told output.old) (K.told output.new) }
 {
+    let alloc = purpose.site.alloc;
+    let reporter = purpose.reporter;
+    let setup = purpose.setup;
     let Ok(routes) = Routes::new(alloc) else {
-        return RunEnd::NoMemory;
+        return (HostEnd::Before(RunEnd::NoMemory), listener);
     };
-    let Ok(mut buffer) = Buffer::new(alloc) else {
-        return RunEnd::NoMemory;
-    };
-    let restored = match open(alloc, reporter, setup.limits, streams, disk) {
+    let opened = Snapshot::of(&*disk);
+    let restored = match open(alloc, reporter, setup.limits, output, disk) {
         Ok(restored) => restored,
-        Err(end) => return end,
+        Err(end) => return (HostEnd::Before(end), listener),
     };
-    let mut book = Book::over(alloc, disk, reporter, setup.limits, restored);
-    let end = session(
+    let book = Book::over(alloc, disk, reporter, setup.limits, restored);
+    let CrewEnd {
+        desk: book,
+        listener,
+        failed,
+    } = serve_together(
+        purpose.site.rt,
         alloc,
-        &mut book,
-        streams,
+        purpose.site.crew,
+        SharedBook::new(book, opened),
+        reporter,
         &setup.rules,
         &routes,
-        &mut buffer,
+        listener,
         clock,
         draws,
+        purpose.site.gate,
+        served,
     );
-    let keeping = keep_after(end, &mut book);
+    let mut book = book.into_book();
+    let end = close(alloc, &mut book, output, failed);
     let _disk = book.into_disk();
-    RunEnd::Served(end, keeping)
+    (end, listener)
 }
 
-/// Keeps the reports of a run for later ones, where the session's end is one after which they are kept.
-fn keep_after<D: Disk, R: Reporter>(end: SessionEnd, book: &mut Book<'_, D, R>) -> Keeping
+/// Sweeps up, and writes the lines. Where memory was wanting before anything was served, nothing is swept.
+fn close<R: Reporter, K: Sink, D: Disk>(
+    alloc: Global,
+    book: &mut Book<'_, D, R>,
+    output: &mut K,
+    failed: Result<bool, NoMemory>,
+) -> HostEnd
     ensures same_disk { book.new.vault.disk.ghost_name ≡ book.old.vault.disk.ghost_name }
-    ensures where_ended { is_some (keep_reply result) ≡ keeps_reports end }
-    ensures keeps { (basis : Basis) (state : State) → basis.row_of ≡ R.row_of book.old.reporter.now → basis.digest ≡ R.digest_of book.old.reporter.now
+    ensures closes { (basis : Basis) (state : State) → basis.row_of ≡ R.row_of book.old.reporter.now → basis.digest ≡ R.digest_of book.old.reporter.now
         → Stands basis book.old.limits book.old.ledger book.old.store book.old.doubt book.old.vault.journal (D.state book.old.vault.disk.now) state
-        → (kept : State) × KeepsDisk basis state (D.state book.old.vault.disk.now) (keep_reply result) kept (D.state book.new.vault.disk.now) }
+        → (after : State) × Stands basis book.new.limits book.new.ledger book.new.store book.new.doubt book.new.vault.journal (D.state book.new.vault.disk.now) after
+        × ((early late : Outlook) → ClosesBook
+        (surroundings (K.told output.old) (D.state book.old.vault.disk.now) early)
+        (surroundings (K.told output.new) (D.state book.new.vault.disk.now) late) result basis state after) }
+    ensures only { OnlyWrites (K.told output.old) (K.told output.new) }
+    ensures failed { status_of result ≡ 6 → IsOkAnd failed (λ failed. failed ≡ true) }
+    ensures done { status_of result ≡ 0 → IsOkAnd failed (λ failed. failed ≡ false) }
+    ensures cause { status_of result ≡ 7 → WriteFailed (K.told output.old) (K.told output.new) }
 {
-    if !keeps_reports(end) {
-        return Keeping::Nothing;
+    let Ok(failed) = failed else {
+        return HostEnd::Swept(SweepFault::NoMemory);
+    };
+    if let Err(fault) = sweep(book) {
+        return HostEnd::Swept(fault);
     }
-    match book.keep() {
-        Reply::Kept(count) => Keeping::Done(count),
-        Reply::Refused(Refusal::NoMemory) => Keeping::NoMemory,
-        _ => Keeping::Fault,
+    if let Err(fault) = tell_counts(alloc, output, book.crashes(), book.reports()) {
+        return HostEnd::Lines(fault);
+    }
+    if failed {
+        HostEnd::Failed
+    } else {
+        HostEnd::Done
     }
 }

@@ -10,16 +10,12 @@ use Rattle.soc_hall.proofs.Logs.{changes_tagged, whole_append}
 use Rattle.soc_desk.specs.declared.desk.Command.{Command}
 use Rattle.soc_desk.specs.declared.desk.Receipt.{Receipt}
 use Rattle.soc_desk.specs.Basis.{Basis}
-use Rattle.soc_turns.specs.declared.change.Change.{Change}
-use Rattle.soc_turns.specs.Turns.{Answers}
-use Rattle.soc_service.specs.Turns.{Knows, Turn}
+use Rattle.soc_service.specs.declared.change.Change.{Change}
+use Rattle.soc_service.specs.Answers.{Answers, TellsAnswers}
+use Rattle.soc_service.specs.Turns.{Knows, Shared, Turn}
 
-module _ {T B : Type 0} (log_of : T → List Change) (basis_of : T → B) (asks : T → Command → Receipt → T → Type 0) (desk : B → Basis) where
-  -- what a turn of a book gives its seat
-  abbrev pub Tells : B → List Change → Command → Receipt → List Change → Type 0
-  Tells basis log command receipt log' = ∥ Answers (desk basis) log command receipt log' ∥₁
-
-  module _ {v w : Knows B} {command : Command} {receipt : Receipt} (turn : Turn log_of basis_of asks Tells v command receipt w) where
+module _ {T A B : Type 0} (desk : Shared T A B) (command_of : A → Command) (desk_of : B → Basis) (tells : TellsAnswers command_of desk_of desk.answers) where
+  module _ {v w : Knows A B} {command : Command} {receipt : Receipt} (turn : Turn desk command_of v command receipt w) where
     abbrev pub log_before : List Change
     log_before = seen_of (sees turn.asked.between v)
 
@@ -33,12 +29,17 @@ module _ {T B : Type 0} (log_of : T → List Change) (basis_of : T → B) (asks 
         sym (drop-append_seam log_before piece)
         ∙ (ap (λ l. drop (length log_before) l) (sym is ∙ log_after) ∙ drop-append_seam log_before turn.asked.piece)
 
+    -- what the desk's answer is
+    answer : (basis : B) × (v.basis ≡ Some basis) × ∥ Answers (desk_of basis) log_before command receipt (seen_of w) ∥₁
+    answer =
+        let right = turn.asked.right in
+        (right.0, right.1, subst (λ c. ∥ Answers (desk_of right.0) log_before c receipt (seen_of w) ∥₁) turn.of_command (tells right.0 log_before turn.prepared receipt (seen_of w) right.2))
+
     -- what the answer tells of its piece
     pub told : (P : List Change → Type 0) → IsProp (P turn.asked.piece)
-        → ((basis : B) → v.basis ≡ Some basis → (a : Answers (desk basis) log_before command receipt (seen_of w)) → P a.piece) → P turn.asked.piece
-    told P prop tells =
-        let right = turn.asked.right in
-        ∥∥₁_elim right.2 prop (λ (a : Answers (desk right.0) log_before command receipt (seen_of w)). subst P (same_piece a.piece a.behind) (tells right.0 right.1 a))
+        → ((basis : B) → v.basis ≡ Some basis → (a : Answers (desk_of basis) log_before command receipt (seen_of w)) → P a.piece) → P turn.asked.piece
+    told P prop each =
+        ∥∥₁_elim answer.2 prop (λ (a : Answers (desk_of answer.0) log_before command receipt (seen_of w)). subst P (same_piece a.piece a.behind) (each answer.0 answer.1 a))
 
     pub log_grows : length log_before + length turn.asked.piece ≡ length (seen_of w)
     log_grows = sym (ap (λ l. length l) log_after ∙ length-append log_before turn.asked.piece)
@@ -50,4 +51,4 @@ module _ {T B : Type 0} (log_of : T → List Change) (basis_of : T → B) (asks 
         omega arith
 
     pub short : length (seen_of w) < 2 ^ 60
-    short = ∥∥₁_elim turn.asked.right.2 le_prop (λ (a : Answers (desk turn.asked.right.0) log_before command receipt (seen_of w)). a.short)
+    short = ∥∥₁_elim answer.2 le_prop (λ (a : Answers (desk_of answer.0) log_before command receipt (seen_of w)). a.short)

@@ -17,11 +17,12 @@ use Rattle.soc_desk.specs.declared.desk.Reply.{Reply}
 use Rattle.soc_desk.specs.declared.desk.Reply.TheVariants as R
 use Rattle.soc_desk.specs.Basis.{Basis}
 use Rattle.soc_desk.specs.Grows.{BehindDoubt, DrainFails, Drains, Finishes, Grows, Prioritises, Reprocesses, Stops, Submits, Turns, Withdraws, Writes}
-use Rattle.soc_turns.specs.declared.change.Change.{Change}
-use Rattle.soc_turns.specs.Changes.{counts, events_in, kept_in}
+use Rattle.soc_service.specs.declared.change.Change.{Change}
+use Rattle.soc_service.specs.Changes.{counts, events_in, kept_in}
 use Rattle.soc_service.specs.Due.{keeps_all}
-use Rattle.soc_service.specs.Turns.{Knows, Turn}
-use Rattle.soc_service.proofs.Answered.{Tells, log_grows, seen_before, short, told}
+use Rattle.soc_service.specs.Answers.{TellsAnswers}
+use Rattle.soc_service.specs.Turns.{Knows, Shared, Turn}
+use Rattle.soc_service.proofs.Answered.{log_grows, seen_before, short, told}
 
 -- each of these events is kept
 abbrev AreKept : List Event → Type 0
@@ -121,19 +122,19 @@ at_most : (b : Bool) (n : ℕ) → (if b then n else 0) ≤ n
 at_most true n = omega arith
 at_most false n = omega arith
 
-module _ {T B : Type 0} (log_of : T → List Change) (basis_of : T → B) (asks : T → Command → Receipt → T → Type 0) (desk : B → Basis) {v w : Knows B} {command : Command} {receipt : Receipt}
-    (turn : Turn log_of basis_of asks (Tells log_of basis_of asks desk) v command receipt w) where
+module _ {T A B : Type 0} (desk : Shared T A B) (command_of : A → Command) (desk_of : B → Basis) (tells : TellsAnswers command_of desk_of desk.answers) {v w : Knows A B} {command : Command} {receipt : Receipt}
+    (turn : Turn desk command_of v command receipt w) where
   pub kept_in_turn : kept_in (events_in turn.asked.piece) ≡ (if keeps_all command then length turn.asked.piece else 0)
   kept_in_turn =
-      told log_of basis_of asks desk turn (λ piece. kept_in (events_in piece) ≡ (if keeps_all command then length piece else 0)) (Coded-set coded_ℕ _ _)
-      (λ basis is a. kept_by (desk basis) _ a.doubt command receipt.reply (events_in a.piece) a.left a.of_journal a.grows
+      told desk command_of desk_of tells turn (λ piece. kept_in (events_in piece) ≡ (if keeps_all command then length piece else 0)) (Coded-set coded_ℕ _ _)
+      (λ basis is a. kept_by (desk_of basis) _ a.doubt command receipt.reply (events_in a.piece) a.left a.of_journal a.grows
       ∙ ap (λ n. if keeps_all command then n else 0) (length-map a.piece (λ change. change.event)))
 
   pub rises : turn.start ≤ turn.front
-  rises = let a = turn.asked.start_is in let b = turn.asked.front_is in let c = log_grows log_of basis_of asks desk turn in omega arith
+  rises = let a = turn.asked.start_is in let b = turn.asked.front_is in let c = log_grows desk command_of desk_of tells turn in omega arith
 
   grown : turn.front - turn.start ≡ length turn.asked.piece
-  grown = let a = turn.asked.start_is in let b = turn.asked.front_is in let c = log_grows log_of basis_of asks desk turn in omega arith
+  grown = let a = turn.asked.start_is in let b = turn.asked.front_is in let c = log_grows desk command_of desk_of tells turn in omega arith
 
   -- what a desk counts is how many changes of the piece are kept
   pub added_is : (added : ℕ) → added ≡ (if keeps_all command then turn.front - turn.start else 0) → added ≡ kept_in (events_in turn.asked.piece)
@@ -142,14 +143,14 @@ module _ {T B : Type 0} (log_of : T → List Change) (basis_of : T → B) (asks 
   -- the count stays below the length of the log
   pub stays_below : (kept added : ℕ) → kept ≤ length (seen_of v) → added ≡ (if keeps_all command then turn.front - turn.start else 0) → kept + added ≤ length (seen_of w)
   stays_below kept added few is =
-      let a = seen_before log_of basis_of asks desk turn in
-      let b = log_grows log_of basis_of asks desk turn in
+      let a = seen_before desk command_of desk_of tells turn in
+      let b = log_grows desk command_of desk_of tells turn in
       let c = at_most (keeps_all command) (turn.front - turn.start) in
       let d = grown in
       omega arith
 
   pub fits : (kept added : ℕ) → kept ≤ length (seen_of v) → added ≡ (if keeps_all command then turn.front - turn.start else 0) → kept + added < 2 ^ 64
-  fits kept added few is = let a = stays_below kept added few is in let b = short log_of basis_of asks desk turn in omega arith
+  fits kept added few is = let a = stays_below kept added few is in let b = short desk command_of desk_of tells turn in omega arith
 
 -- what was added, by the test of the command
 pub by_keeps : (keeps : Bool) (command : Command) (added n : ℕ) → keeps ≡ keeps_all command → added ≡ (if keeps then n else 0) → added ≡ (if keeps_all command then n else 0)

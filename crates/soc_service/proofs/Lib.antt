@@ -1,5 +1,6 @@
 pub mod Answered
-pub mod Booked
+pub mod Asked
+pub mod Codes
 mod Counted
 mod Options
 pub mod Turned

@@ -15,9 +15,6 @@ of_some Q o x is known = subst (λ p. IfSome p Q) is known
 pub is_some_and : {A : Type 0} (Q : A → Type 0) (o : Option A) (x : A) → o ≡ Some x → Q x → IsSomeAnd o Q
 is_some_and Q o x is known = subst (λ p. IsSomeAnd p Q) (sym is) known
 
-pub none_is_not_some : {A : Type 0} {x : A} → None ≡ Some x → ⊥
-none_is_not_some is = cc
-
 cons_is_not_nil : {A : Type 0} (x : A) (xs : List A) → x ∷ xs ≡ [] → ⊥
 cons_is_not_nil x xs is = cc
 

@@ -11,13 +11,13 @@ use Rattle.soc_desk.specs.declared.desk.Command.{Command}
 use Rattle.soc_desk.specs.declared.desk.Receipt.{Receipt}
 use Rattle.soc_desk.specs.declared.desk.Reply.{Reply}
 use Rattle.soc_desk.specs.Basis.{Basis}
-use Rattle.soc_turns.specs.declared.change.Change.{Change}
-use Rattle.soc_turns.specs.Changes.{counts, events_in, kept_in}
+use Rattle.soc_service.specs.declared.change.Change.{Change}
+use Rattle.soc_service.specs.Changes.{counts, events_in, kept_in}
 use Rattle.soc_service.specs.declared.processor.WorkerStop.{WorkerStop}
 use Rattle.soc_service.specs.Desks.{HasTurned}
-use Rattle.soc_service.specs.Turns.{Knows, Turn}
+use Rattle.soc_service.specs.Answers.{TellsAnswers}
+use Rattle.soc_service.specs.Turns.{Knows, Shared, Turn}
 use Rattle.soc_service.specs.Works.{Fetches, Finishes, LeavesLast, LeavesOff, Work, Worked, WorksOn, WorksOnAll}
-use Rattle.soc_service.proofs.Answered.{Tells}
 use Rattle.soc_service.proofs.Counted.{kept_in_turn}
 use Rattle.soc_service.proofs.Worked.{behind_fetch, fetch_adds_none}
 
@@ -35,18 +35,18 @@ kept_in-append (event ∷ events) more =
 pub kept_both : (log more : List Change) → kept_in (events_in (log ++ more)) ≡ kept_in (events_in log) + kept_in (events_in more)
 kept_both log more = ap kept_in (map-append (λ change. change.event) log more) ∙ kept_in-append (events_in log) (events_in more)
 
-pieces-append : (turns more : List (HallTurn Change Command Receipt)) → pieces (turns ++ more) ≡ pieces turns ++ pieces more
+pieces-append : {A : Type 0} (turns more : List (HallTurn Change A Receipt)) → pieces (turns ++ more) ≡ pieces turns ++ pieces more
 pieces-append [] more = refl
 pieces-append (turn ∷ turns) more = ap (λ l. turn.piece ++ l) (pieces-append turns more) ∙ sym (append_assoc turn.piece (pieces turns) (pieces more))
 
-module _ {B : Type 0} where
-  pub turned_none : (v : Knows B) → HasTurned v v 0
+module _ {A B : Type 0} where
+  pub turned_none : (v : Knows A B) → HasTurned v v 0
   turned_none v = record { number = refl; basis = refl; opening = refl; more = []; turns = sym (append-nil v.turns); kept_are = refl }
 
-  pub turned_same : (v w : Knows B) → v ≡ w → HasTurned v w 0
+  pub turned_same : (v w : Knows A B) → v ≡ w → HasTurned v w 0
   turned_same v w is = subst (λ u. HasTurned v u 0) is (turned_none v)
 
-  pub turned_more : (u v w : Knows B) (a b : ℕ) → HasTurned u v a → HasTurned v w b → HasTurned u w (a + b)
+  pub turned_more : (u v w : Knows A B) (a b : ℕ) → HasTurned u v a → HasTurned v w b → HasTurned u w (a + b)
   turned_more u v w a b first next = record {
     number = next.number ∙ first.number;
     basis = next.basis ∙ first.basis;
@@ -59,9 +59,9 @@ module _ {B : Type 0} where
         ∙ (ap (λ n. n + kept_in (events_in (pieces next.more))) first.kept_are ∙ ap (λ n. a + n) next.kept_are));
   }
 
-module _ {T B : Type 0} (log_of : T → List Change) (basis_of : T → B) (asks : T → Command → Receipt → T → Type 0) (answers : B → List Change → Command → Receipt → List Change → Type 0) where
+module _ {T A B : Type 0} (desk : Shared T A B) (command_of : A → Command) where
   -- one turn
-  pub by_turn : (v : Knows B) (command : Command) (receipt : Receipt) (w : Knows B) (turn : Turn log_of basis_of asks answers v command receipt w) (kept : ℕ)
+  pub by_turn : (v : Knows A B) (command : Command) (receipt : Receipt) (w : Knows A B) (turn : Turn desk command_of v command receipt w) (kept : ℕ)
       → kept_in (events_in turn.asked.piece) ≡ kept → HasTurned v w kept
   by_turn v command receipt w turn kept is =
       let knows = turn.asked.knows in
@@ -74,37 +74,34 @@ module _ {T B : Type 0} (log_of : T → List Change) (basis_of : T → B) (asks 
         kept_are = ap (λ l. kept_in (events_in l)) (append-nil turn.asked.piece) ∙ is;
       }
 
-module _ {T B : Type 0} (log_of : T → List Change) (basis_of : T → B) (asks : T → Command → Receipt → T → Type 0) (desk : B → Basis) where
-  abbrev Gives : B → List Change → Command → Receipt → List Change → Type 0
-  Gives = Tells log_of basis_of asks desk
-
-  by_fetch : (v : Knows B) (id : List ℕ) (reply : Reply) (w : Knows B) → Fetches log_of basis_of asks Gives v id reply w → HasTurned v w 0
+module _ {T A B : Type 0} (desk : Shared T A B) (command_of : A → Command) (desk_of : B → Basis) (tells : TellsAnswers command_of desk_of desk.answers) where
+  by_fetch : (v : Knows A B) (id : List ℕ) (reply : Reply) (w : Knows A B) → Fetches desk command_of v id reply w → HasTurned v w 0
   by_fetch v id reply w fetch =
-      by_turn log_of basis_of asks Gives v _ fetch.receipt w fetch.turn 0 (ap (λ l. kept_in (events_in l)) (fetch_adds_none log_of basis_of asks desk id fetch))
+      by_turn desk command_of v _ fetch.receipt w fetch.turn 0 (ap (λ l. kept_in (events_in l)) (fetch_adds_none desk command_of desk_of tells id fetch))
 
-  by_finish : (v : Knows B) (crash : Crash) (reply : Reply) (w : Knows B) → Finishes log_of basis_of asks Gives v crash reply w → HasTurned v w 0
-  by_finish v crash reply w finish = by_turn log_of basis_of asks Gives v _ finish.receipt w finish.turn 0 (kept_in_turn log_of basis_of asks desk finish.turn)
+  by_finish : (v : Knows A B) (crash : Crash) (reply : Reply) (w : Knows A B) → Finishes desk command_of v crash reply w → HasTurned v w 0
+  by_finish v crash reply w finish = by_turn desk command_of v _ finish.receipt w finish.turn 0 (kept_in_turn desk command_of desk_of tells finish.turn)
 
-  behind : (u w : Knows B) → (w ≡ u) ⊎ ((crash : Crash) × (reply : Reply) × Finishes log_of basis_of asks Gives u crash reply w) → HasTurned u w 0
+  behind : (u w : Knows A B) → (w ≡ u) ⊎ ((crash : Crash) × (reply : Reply) × Finishes desk command_of u crash reply w) → HasTurned u w 0
   behind u w (inl is) = subst (λ k. HasTurned u k 0) (sym is) (turned_none u)
   behind u w (inr (crash, reply, finish)) = by_finish u crash reply w finish
 
-  by_work : (v : Knows B) (work : Work) (w : Knows B) → WorksOn log_of basis_of asks Gives v work.id work.outcome w → HasTurned v w 0
+  by_work : (v : Knows A B) (work : Work) (w : Knows A B) → WorksOn desk command_of v work.id work.outcome w → HasTurned v w 0
   by_work v work w works =
       turned_more v works.between w 0 0 (by_fetch v work.id works.reply works.between works.fetch)
-      (behind works.between w (behind_fetch log_of basis_of asks desk work.id work.outcome works.reply works.between works.fetch w works.goes_on))
+      (behind works.between w (behind_fetch desk command_of desk_of tells work.id work.outcome works.reply works.between works.fetch w works.goes_on))
 
-  by_works : (v : Knows B) (works : List Work) (w : Knows B) → WorksOnAll log_of basis_of asks Gives v works w → HasTurned v w 0
+  by_works : (v : Knows A B) (works : List Work) (w : Knows A B) → WorksOnAll desk command_of v works w → HasTurned v w 0
   by_works v [] w is = subst (λ k. HasTurned v k 0) (sym is) (turned_none v)
   by_works v (work ∷ works) w (u, one, rest) = turned_more v u w 0 0 (by_work v work u one) (by_works u works w rest)
 
-  by_last : (v : Knows B) (left : Option (List ℕ)) (w : Knows B) → LeavesLast log_of basis_of asks Gives v left w → HasTurned v w 0
+  by_last : (v : Knows A B) (left : Option (List ℕ)) (w : Knows A B) → LeavesLast desk command_of v left w → HasTurned v w 0
   by_last v None w is = subst (λ k. HasTurned v k 0) (sym is) (turned_none v)
   by_last v (Some id) w leaves =
       turned_more v leaves.between w 0 0 (by_fetch v id leaves.reply leaves.between leaves.fetch) (behind leaves.between w leaves.goes_on)
 
   -- a processor's turns keep nothing: they say that crashes were processed
-  pub by_worker : (v : Knows B) (taken made stale missed : List (List ℕ)) (stop : WorkerStop) (w : Knows B)
-      → Worked log_of basis_of asks Gives v taken made stale missed stop w → HasTurned v w 0
+  pub by_worker : (v : Knows A B) (taken made stale missed : List (List ℕ)) (stop : WorkerStop) (w : Knows A B)
+      → Worked desk command_of v taken made stale missed stop w → HasTurned v w 0
   by_worker v taken made stale missed stop w worked =
       turned_more v worked.between w 0 0 (by_works v worked.works worked.between worked.each) (by_last worked.between worked.left w worked.last)

@@ -3,10 +3,10 @@ use Rattle.std.proofs.Common.{◌≡◌, ◌⊎◌, inl, inr, ℕ, Bool, true, f
 use Rattle.std.specs.Prelude.{if◌then◌else◌}
 use Rattle.std.specs.Coded.{Coded-set, coded_bool, coded_list, coded_option, coded_ℕ}
 use mathlib.Core.List.{append-nil}
+use Rattle.soc_base.proofs.Folk.{some-injective, none_is_not_some}
 use Rattle.soc_raw.specs.Record.{Crash, IsCrash, record_of}
 use Rattle.soc_raw.specs.RawCrash.{crash_of}
 use Rattle.soc_raw.specs.declared.raw_crash.RawCrash.{RawCrash}
-use Rattle.soc_schema.specs.declared.value.Cell.{Cell}
 use Rattle.soc_schema.specs.Reports.{Report}
 use Rattle.soc_hall.specs.Asked.{sees}
 use Rattle.soc_hall.specs.Seats.{seen_of}
@@ -26,22 +26,19 @@ use Rattle.soc_desk.specs.declared.desk.Reply.TheVariants as R
 use Rattle.soc_desk.specs.Basis.{Basis}
 use Rattle.soc_desk.specs.Grows.{Grows}
 use Rattle.soc_desk.specs.Kinds.{IsReplyTo}
-use Rattle.soc_turns.specs.declared.change.Change.{Change}
-use Rattle.soc_turns.specs.Changes.{events_in, text_in}
-use Rattle.soc_turns.specs.Turns.{FetchesText, MayAsk, TellsIdle}
-use Rattle.soc_turns.specs.inner.Stays.{text_stays}
-use Rattle.soc_turns.proofs.Codes.{one_events, one_log}
+use Rattle.soc_service.specs.declared.change.Change.{Change}
+use Rattle.soc_service.specs.Changes.{events_in, text_in}
+use Rattle.soc_service.specs.Answers.{FetchesText, TellsAnswers, TellsIdle}
+use Rattle.soc_service.specs.inner.Stays.{text_stays}
+use Rattle.soc_service.proofs.Codes.{one_events, one_log}
 use Rattle.soc_service.specs.declared.process.Outcome.{Outcome}
 use Rattle.soc_service.specs.declared.processor.WorkerStop.{WorkerStop}
 use Rattle.soc_service.specs.declared.processor.WorkerStop.TheVariants as S
-use Rattle.soc_service.specs.Turns.{Knows}
+use Rattle.soc_service.specs.Turns.{Knows, MayTurn, Shared}
 use Rattle.soc_service.specs.Works.{EndsBy, Fetches, Finishes, GaveNone, GoesOn, LeavesOff, WasIdle, Work, WorksOn, Worked, WorksOnAll, crash_jobs, ids_of, ids_with, is_made, is_missed, is_stale, last_job}
 use Rattle.soc_service.specs.inner.Outcomes.{fetched_as, finished_as}
-use Rattle.soc_service.proofs.Answered.{Tells, log_after, told}
-use Rattle.soc_service.proofs.Options.{map_nil, none_is_not_some}
-
-some-injective : {A : Type 0} {x y : A} → Some x ≡ Some y → x ≡ y
-some-injective is = cc
+use Rattle.soc_service.proofs.Answered.{log_after, told}
+use Rattle.soc_service.proofs.Options.{map_nil}
 
 -- ---- what replies tell
 
@@ -56,128 +53,127 @@ of_raw log id raw reply is tells = subst (λ r. FetchesText log (C.Fetch id) r) 
 id_of_raw : (id : List ℕ) (raw : RawCrash) (reply : Reply) → reply ≡ R.Fetched (Some raw) → IsReplyTo (C.Fetch id) reply → raw.id ≡ id
 id_of_raw id raw reply is kind = (subst (λ r. IsReplyTo (C.Fetch id) r) is kind).1
 
-module _ {T B : Type 0} (log_of : T → List Change) (basis_of : T → B) (asks : T → Command → Receipt → T → Type 0) (desk : B → Basis) where
-  abbrev Gives : B → List Change → Command → Receipt → List Change → Type 0
-  Gives = Tells log_of basis_of asks desk
-
-  module _ (id : List ℕ) {v w : Knows B} where
+module _ {T A B : Type 0} (desk : Shared T A B) (command_of : A → Command) (desk_of : B → Basis) (tells : TellsAnswers command_of desk_of desk.answers) where
+  module _ (id : List ℕ) {v w : Knows A B} where
     -- a fetch adds nothing
-    pub fetch_adds_none : {reply : Reply} (fetch : Fetches log_of basis_of asks Gives v id reply w) → fetch.turn.asked.piece ≡ []
-    fetch_adds_none fetch = told log_of basis_of asks desk fetch.turn (λ piece. piece ≡ []) (one_log _ []) (λ basis is a. map_nil (λ change. change.event) a.piece a.grows.1.0)
+    pub fetch_adds_none : {reply : Reply} (fetch : Fetches desk command_of v id reply w) → fetch.turn.asked.piece ≡ []
+    fetch_adds_none fetch = told desk command_of desk_of tells fetch.turn (λ piece. piece ≡ []) (one_log _ []) (λ basis is a. map_nil (λ change. change.event) a.piece a.grows.1.0)
 
-    fetch_idle : {reply : Reply} (fetch : Fetches log_of basis_of asks Gives v id reply w) → GaveNone reply → WasIdle log_of basis_of asks Gives id fetch.turn
+    fetch_idle : {reply : Reply} (fetch : Fetches desk command_of v id reply w) → GaveNone reply → WasIdle desk command_of id fetch.turn
     fetch_idle {reply} fetch none = (
       fetch_adds_none fetch,
-      told log_of basis_of asks desk fetch.turn (λ piece. is_due (events_in (seen_of (sees fetch.turn.asked.between v))) id ≡ false) (Coded-set coded_bool _ _)
+      told desk command_of desk_of tells fetch.turn (λ piece. is_due (events_in (seen_of (sees fetch.turn.asked.between v))) id ≡ false) (Coded-set coded_bool _ _)
           (λ basis is a. unread_idle (seen_of (sees fetch.turn.asked.between v)) id reply none (subst (λ r. TellsIdle (events_in (seen_of (sees fetch.turn.asked.between v))) (C.Fetch id) r) fetch.replied a.idle)),
     )
 
     -- what became of a crash that a fetch didn't give
-    pub unread : (reply : Reply) (fetch : Fetches log_of basis_of asks Gives v id reply w) (outcome : Outcome) → fetched_as reply ≡ Some outcome → GoesOn log_of basis_of asks Gives id outcome reply w fetch w
+    pub unread : (reply : Reply) (fetch : Fetches desk command_of v id reply w) (outcome : Outcome) → fetched_as reply ≡ Some outcome → GoesOn desk command_of id outcome reply w fetch w
     unread (R.Fetched (Some raw)) fetch outcome is = absurd (none_is_not_some is)
-    unread (R.Fetched None) fetch outcome is = subst (λ o. GoesOn log_of basis_of asks Gives id o (R.Fetched None) w fetch w) (some-injective is) (refl, (tt, fetch_idle fetch tt))
-    unread (R.Refused F.NoCrash) fetch outcome is = subst (λ o. GoesOn log_of basis_of asks Gives id o (R.Refused F.NoCrash) w fetch w) (some-injective is) (refl, (tt, fetch_idle fetch tt))
-    unread (R.Refused F.StoreFault) fetch outcome is = subst (λ o. GoesOn log_of basis_of asks Gives id o (R.Refused F.StoreFault) w fetch w) (some-injective is) (refl, tt)
-    unread (R.Refused (F.Altered other)) fetch outcome is = subst (λ o. GoesOn log_of basis_of asks Gives id o (R.Refused (F.Altered other)) w fetch w) (some-injective is) (refl, tt)
+    unread (R.Fetched None) fetch outcome is = subst (λ o. GoesOn desk command_of id o (R.Fetched None) w fetch w) (some-injective is) (refl, (tt, fetch_idle fetch tt))
+    unread (R.Refused F.NoCrash) fetch outcome is = subst (λ o. GoesOn desk command_of id o (R.Refused F.NoCrash) w fetch w) (some-injective is) (refl, (tt, fetch_idle fetch tt))
+    unread (R.Refused F.StoreFault) fetch outcome is = subst (λ o. GoesOn desk command_of id o (R.Refused F.StoreFault) w fetch w) (some-injective is) (refl, tt)
+    unread (R.Refused (F.Altered other)) fetch outcome is = subst (λ o. GoesOn desk command_of id o (R.Refused (F.Altered other)) w fetch w) (some-injective is) (refl, tt)
     unread (R.Refused _) fetch outcome is = absurd (none_is_not_some is)
     unread _ fetch outcome is = absurd (none_is_not_some is)
 
-  module _ (crash : Crash) {v w : Knows B} where
-    finish_grows : (changed : Bool) (finish : Finishes log_of basis_of asks Gives v crash (R.Finished changed) w) (P : List Change → Type 0) → IsProp (P finish.turn.asked.piece)
-        → ((basis : B) (piece : List Change) (doubt left : _) → Grows (desk basis) (events_in (seen_of (sees finish.turn.asked.between v))) doubt (C.Finish finish.processed) (R.Finished changed) (events_in piece) left → P piece) → P finish.turn.asked.piece
-    finish_grows changed finish P prop tells =
+  module _ (crash : Crash) {v w : Knows A B} where
+    finish_grows : (changed : Bool) (finish : Finishes desk command_of v crash (R.Finished changed) w) (P : List Change → Type 0) → IsProp (P finish.turn.asked.piece)
+        → ((basis : B) (piece : List Change) (doubt left : _) → Grows (desk_of basis) (events_in (seen_of (sees finish.turn.asked.between v))) doubt (C.Finish finish.processed) (R.Finished changed) (events_in piece) left → P piece) → P finish.turn.asked.piece
+    finish_grows changed finish P prop each =
         let log = events_in (seen_of (sees finish.turn.asked.between v)) in
-        told log_of basis_of asks desk finish.turn P prop
-        (λ basis is a. tells basis a.piece a.doubt a.left (subst (λ r. Grows (desk basis) log a.doubt (C.Finish finish.processed) r (events_in a.piece) a.left) finish.replied a.grows))
+        told desk command_of desk_of tells finish.turn P prop
+        (λ basis is a. each basis a.piece a.doubt a.left (subst (λ r. Grows (desk_of basis) log a.doubt (C.Finish finish.processed) r (events_in a.piece) a.left) finish.replied a.grows))
 
-    made_done : (finish : Finishes log_of basis_of asks Gives v crash (R.Finished true) w) → events_in finish.turn.asked.piece ≡ E.Done crash.id ∷ []
+    made_done : (finish : Finishes desk command_of v crash (R.Finished true) w) → events_in finish.turn.asked.piece ≡ E.Done crash.id ∷ []
     made_done finish =
         finish_grows true finish (λ piece. events_in piece ≡ E.Done crash.id ∷ []) (one_events _ _)
         (λ basis piece doubt left grows. grows.0.1 ∙ ap (λ c. E.Done c.id ∷ []) finish.same)
 
-    stale_idle : (finish : Finishes log_of basis_of asks Gives v crash (R.Finished false) w) → WasIdle log_of basis_of asks Gives crash.id finish.turn
+    stale_idle : (finish : Finishes desk command_of v crash (R.Finished false) w) → WasIdle desk command_of crash.id finish.turn
     stale_idle finish =
         let log = seen_of (sees finish.turn.asked.between v) in (
           finish_grows false finish (λ piece. piece ≡ []) (one_log _ []) (λ basis piece doubt left grows. map_nil (λ change. change.event) piece grows.0.1),
-          told log_of basis_of asks desk finish.turn (λ piece. is_due (events_in log) crash.id ≡ false) (Coded-set coded_bool _ _)
+          told desk command_of desk_of tells finish.turn (λ piece. is_due (events_in log) crash.id ≡ false) (Coded-set coded_bool _ _)
               (λ basis is a. subst (λ c. is_due (events_in log) c.id ≡ false) finish.same (subst (λ r. TellsIdle (events_in log) (C.Finish finish.processed) r) finish.replied a.idle refl)),
         )
 
     -- what became of a crash that was finished
-    pub finished : (reply : Reply) (finish : Finishes log_of basis_of asks Gives v crash reply w) (outcome : Outcome) → finished_as reply ≡ Some outcome → EndsBy log_of basis_of asks Gives crash outcome finish
-    finished (R.Finished true) finish outcome is = subst (λ o. EndsBy log_of basis_of asks Gives crash o finish) (some-injective is) (made_done finish)
-    finished (R.Finished false) finish outcome is = subst (λ o. EndsBy log_of basis_of asks Gives crash o finish) (some-injective is) (stale_idle finish)
+    pub finished : (reply : Reply) (finish : Finishes desk command_of v crash reply w) (outcome : Outcome) → finished_as reply ≡ Some outcome → EndsBy desk command_of crash outcome finish
+    finished (R.Finished true) finish outcome is = subst (λ o. EndsBy desk command_of crash o finish) (some-injective is) (made_done finish)
+    finished (R.Finished false) finish outcome is = subst (λ o. EndsBy desk command_of crash o finish) (some-injective is) (stale_idle finish)
     finished _ finish outcome is = absurd (none_is_not_some is)
 
   -- ---- one crash
 
-  abbrev Ends : Knows B → List ℕ → Option Outcome → Knows B → Type 0
-  Ends v id outcome w = MatchOption outcome (LeavesOff log_of basis_of asks Gives v id w) (λ o. WorksOn log_of basis_of asks Gives v id o w)
+  abbrev Ends : Knows A B → List ℕ → Option Outcome → Knows A B → Type 0
+  Ends v id outcome w = MatchOption outcome (LeavesOff desk command_of v id w) (λ o. WorksOn desk command_of v id o w)
 
   by_outcome : {P : Type 0} {Q : Outcome → Type 0} (outcome : Option Outcome) → P → ((o : Outcome) → outcome ≡ Some o → Q o) → MatchOption outcome P Q
   by_outcome None left ends = left
   by_outcome (Some o) left ends = ends o refl
 
   -- a crash that the fetch didn't give
-  pub ends_unread : (v w : Knows B) (id : List ℕ) (reply : Reply) (outcome : Option Outcome) → outcome ≡ fetched_as reply → Fetches log_of basis_of asks Gives v id reply w → Ends v id outcome w
+  pub ends_unread : (v w : Knows A B) (id : List ℕ) (reply : Reply) (outcome : Option Outcome) → outcome ≡ fetched_as reply → Fetches desk command_of v id reply w → Ends v id outcome w
   ends_unread v w id reply outcome is fetch =
       by_outcome outcome (record { between = w; reply = reply; fetch = fetch; goes_on = inl refl })
       (λ o there. record { between = w; reply = reply; fetch = fetch; goes_on = unread id reply fetch o (sym is ∙ there) })
 
   -- a crash that was fetched, and of which memory was wanting for the row
-  pub ends_unmade : (v w : Knows B) (id : List ℕ) (reply : Reply) → Fetches log_of basis_of asks Gives v id reply w → Ends v id None w
+  pub ends_unmade : (v w : Knows A B) (id : List ℕ) (reply : Reply) → Fetches desk command_of v id reply w → Ends v id None w
   ends_unmade v w id reply fetch = record { between = w; reply = reply; fetch = fetch; goes_on = inl refl }
 
   -- a crash that was fetched and finished
-  pub ends_finished : (v u w : Knows B) (id : List ℕ) (raw : RawCrash) (fetched : Reply) (reply : Reply) (crash : Crash) (outcome : Option Outcome) → fetched ≡ R.Fetched (Some raw) → crash ≡ crash_of raw → outcome ≡ finished_as reply
-      → Fetches log_of basis_of asks Gives v id fetched u → Finishes log_of basis_of asks Gives u crash reply w → Ends v id outcome w
+  pub ends_finished : (v u w : Knows A B) (id : List ℕ) (raw : RawCrash) (fetched : Reply) (reply : Reply) (crash : Crash) (outcome : Option Outcome) → fetched ≡ R.Fetched (Some raw) → crash ≡ crash_of raw → outcome ≡ finished_as reply
+      → Fetches desk command_of v id fetched u → Finishes desk command_of u crash reply w → Ends v id outcome w
   ends_finished v u w id raw fetched reply crash outcome is same ended fetch finish =
-      let fetch' : Fetches log_of basis_of asks Gives v id (R.Fetched (Some raw)) u = subst (λ r. Fetches log_of basis_of asks Gives v id r u) is fetch in
-      let finish' : Finishes log_of basis_of asks Gives u (crash_of raw) reply w = subst (λ c. Finishes log_of basis_of asks Gives u c reply w) same finish in
+      let fetch' : Fetches desk command_of v id (R.Fetched (Some raw)) u = subst (λ r. Fetches desk command_of v id r u) is fetch in
+      let finish' : Finishes desk command_of u (crash_of raw) reply w = subst (λ c. Finishes desk command_of u c reply w) same finish in
       by_outcome outcome (record { between = u; reply = R.Fetched (Some raw); fetch = fetch'; goes_on = inr (crash_of raw, reply, finish') })
       (λ o there. record { between = u; reply = R.Fetched (Some raw); fetch = fetch'; goes_on = (reply, finish', finished (crash_of raw) reply finish' o (sym ended ∙ there)) })
 
-  pub behind_fetch : (id : List ℕ) (outcome : Outcome) {v : Knows B} (reply : Reply) (u : Knows B) (fetch : Fetches log_of basis_of asks Gives v id reply u) (w : Knows B) → GoesOn log_of basis_of asks Gives id outcome reply u fetch w
-      → (w ≡ u) ⊎ ((crash : Crash) × (answer : Reply) × Finishes log_of basis_of asks Gives u crash answer w)
+  pub behind_fetch : (id : List ℕ) (outcome : Outcome) {v : Knows A B} (reply : Reply) (u : Knows A B) (fetch : Fetches desk command_of v id reply u) (w : Knows A B) → GoesOn desk command_of id outcome reply u fetch w
+      → (w ≡ u) ⊎ ((crash : Crash) × (answer : Reply) × Finishes desk command_of u crash answer w)
   behind_fetch id outcome (R.Fetched (Some raw)) u fetch w goes = inr (crash_of raw, goes.0, goes.1)
   behind_fetch id outcome (R.Fetched None) u fetch w goes = inl goes.0
   behind_fetch id outcome _ u fetch w goes = inl goes.0
 
   -- a crash whose end couldn't be noted
-  pub ends_unnoted : (v w : Knows B) (id : List ℕ) (outcome : Outcome) → WorksOn log_of basis_of asks Gives v id outcome w → LeavesOff log_of basis_of asks Gives v id w
+  pub ends_unnoted : (v w : Knows A B) (id : List ℕ) (outcome : Outcome) → WorksOn desk command_of v id outcome w → LeavesOff desk command_of v id w
   ends_unnoted v w id outcome works = record { between = works.between; reply = works.reply; fetch = works.fetch; goes_on = behind_fetch id outcome works.reply works.between works.fetch w works.goes_on }
 
   -- ---- what may be finished
 
   -- the seat that was given a raw crash may finish it
-  pub may_finish : (row_of : B → Crash → List Cell) (tells : Bool) → ((basis : B) → (desk basis).is_told ≡ tells) → (v u : Knows B) (id : List ℕ) (raw : RawCrash) (reply : Reply) (processed : Report)
-      → reply ≡ R.Fetched (Some raw) → Fetches log_of basis_of asks Gives v id reply u → IsCrash (crash_of raw) → processed.crash ≡ crash_of raw
-      → ((basis : B) → u.basis ≡ Some basis → processed.row ≡ row_of basis processed.crash)
-      → (basis : B) → u.basis ≡ Some basis → MayAsk (row_of basis) tells (seen_of u) (C.Finish processed)
-  may_finish row_of tells is_told v u id raw reply processed is fetch whole same row basis known = (
+  pub may_finish : (v u : Knows A B) (id : List ℕ) (raw : RawCrash) (reply : Reply) (processed : Report)
+      → reply ≡ R.Fetched (Some raw) → Fetches desk command_of v id reply u → IsCrash (crash_of raw) → processed.crash ≡ crash_of raw
+      → ((basis : B) → u.basis ≡ Some basis → processed.row ≡ (desk_of basis).row_of processed.crash)
+      → MayTurn desk_of u (C.Finish processed)
+  may_finish v u id raw reply processed is fetch whole same row basis known = (
     row basis known,
     λ told_now.
         let log = seen_of (sees fetch.turn.asked.between v) in
         let reply_is : fetch.receipt.reply ≡ R.Fetched (Some raw) = fetch.replied ∙ is in
+        let as_before = λ (b : B) (there : v.basis ≡ Some b). some-injective (sym there ∙ (sym (ap (λ k. k.basis) fetch.turn.asked.knows) ∙ known)) in
         let text : text_in log id ≡ Some (record_of (crash_of raw)) =
-        told log_of basis_of asks desk fetch.turn (λ piece. text_in log id ≡ Some (record_of (crash_of raw))) (Coded-set (coded_option (coded_list coded_ℕ)) _ _)
-        (λ b there a. of_raw log id raw fetch.receipt.reply reply_is (a.fetched (is_told b ∙ told_now))) in
+        told desk command_of desk_of tells fetch.turn (λ piece. text_in log id ≡ Some (record_of (crash_of raw))) (Coded-set (coded_option (coded_list coded_ℕ)) _ _)
+        (λ b there a. of_raw log id raw fetch.receipt.reply reply_is (a.fetched (ap (λ k. (desk_of k).is_told) (as_before b there) ∙ told_now))) in
         let own : raw.id ≡ id =
-        told log_of basis_of asks desk fetch.turn (λ piece. raw.id ≡ id) (Coded-set (coded_list coded_ℕ) _ _)
+        told desk command_of desk_of tells fetch.turn (λ piece. raw.id ≡ id) (Coded-set (coded_list coded_ℕ) _ _)
         (λ b there a. id_of_raw id raw fetch.receipt.reply reply_is a.kind) in
         let here : text_in (seen_of u) id ≡ Some (record_of (crash_of raw)) =
-        ap (λ l. text_in l id) (log_after log_of basis_of asks desk fetch.turn) ∙ text_stays log fetch.turn.asked.piece id (record_of (crash_of raw)) text in (
+        ap (λ l. text_in l id) (log_after desk command_of desk_of tells fetch.turn) ∙ text_stays log fetch.turn.asked.piece id (record_of (crash_of raw)) text in (
           subst IsCrash (sym same) whole,
           subst (λ (c : Crash). text_in (seen_of u) c.id ≡ Some (record_of c)) (sym same) (ap (λ i. text_in (seen_of u) i) own ∙ here),
         ),
   )
 
-  -- ---- all crashes
+-- ---- all crashes
 
+module _ {T A B : Type 0} (desk : Shared T A B) (command_of : A → Command) where
   -- one crash more
-  pub more_works : (v u w : Knows B) (works : List Work) (id : List ℕ) (outcome : Outcome) → WorksOnAll log_of basis_of asks Gives v works u → WorksOn log_of basis_of asks Gives u id outcome w
-      → WorksOnAll log_of basis_of asks Gives v (works ++ record { id = id; outcome = outcome } ∷ []) w
-  more_works v u w [] id outcome all last = (w, subst (λ k. WorksOn log_of basis_of asks Gives k id outcome w) all last, refl)
+  pub more_works : (v u w : Knows A B) (works : List Work) (id : List ℕ) (outcome : Outcome) → WorksOnAll desk command_of v works u → WorksOn desk command_of u id outcome w
+      → WorksOnAll desk command_of v (works ++ record { id = id; outcome = outcome } ∷ []) w
+  more_works v u w [] id outcome all last = (w, subst (λ k. WorksOn desk command_of k id outcome w) all last, refl)
   more_works v u w (work ∷ works) id outcome all last = (all.0, all.1, more_works all.0 u w works id outcome all.2 last)
 
 pub more_ids : (works : List Work) (work : Work) → ids_of (works ++ work ∷ []) ≡ ids_of works ++ work.id ∷ []
@@ -202,22 +198,22 @@ noted false ids ids' id is = is ∙ sym (append-nil ids)
 
 -- ---- the lists of a processor
 
-module _ {T B : Type 0} (log_of : T → List Change) (basis_of : T → B) (asks : T → Command → Receipt → T → Type 0) (desk : B → Basis) where
+module _ {T A B : Type 0} (desk : Shared T A B) (command_of : A → Command) where
   -- what a processor has done so far: each crash that it took is in one of the other lists
-  pub record HasWorked (v : Knows B) (taken made stale missed : List (List ℕ)) (w : Knows B) : Type 0 where
+  pub record HasWorked (v : Knows A B) (taken made stale missed : List (List ℕ)) (w : Knows A B) : Type 0 where
     pub works : List Work
-    pub each : WorksOnAll log_of basis_of asks (Tells log_of basis_of asks desk) v works w
+    pub each : WorksOnAll desk command_of v works w
     pub taken_are : taken ≡ ids_of works
     pub made_are : made ≡ ids_with is_made works
     pub stale_are : stale ≡ ids_with is_stale works
     pub missed_are : missed ≡ ids_with is_missed works
 
-  pub has_worked_none : (v : Knows B) (taken made stale missed : List (List ℕ)) → taken ≡ [] → made ≡ [] → stale ≡ [] → missed ≡ [] → HasWorked v taken made stale missed v
+  pub has_worked_none : (v : Knows A B) (taken made stale missed : List (List ℕ)) → taken ≡ [] → made ≡ [] → stale ≡ [] → missed ≡ [] → HasWorked v taken made stale missed v
   has_worked_none v taken made stale missed no_taken no_made no_stale no_missed =
       record { works = []; each = refl; taken_are = no_taken; made_are = no_made; stale_are = no_stale; missed_are = no_missed }
 
-  pub has_worked_more : (v u w : Knows B) (taken made stale missed taken' made' stale' missed' : List (List ℕ)) (id : List ℕ) (outcome : Outcome) → HasWorked v taken made stale missed u
-      → WorksOn log_of basis_of asks (Tells log_of basis_of asks desk) u id outcome w → taken' ≡ taken ++ id ∷ []
+  pub has_worked_more : (v u w : Knows A B) (taken made stale missed taken' made' stale' missed' : List (List ℕ)) (id : List ℕ) (outcome : Outcome) → HasWorked v taken made stale missed u
+      → WorksOn desk command_of u id outcome w → taken' ≡ taken ++ id ∷ []
       → made' ≡ (if is_made outcome then made ++ id ∷ [] else made) → stale' ≡ (if is_stale outcome then stale ++ id ∷ [] else stale) → missed' ≡ (if is_missed outcome then missed ++ id ∷ [] else missed)
       → HasWorked v taken' made' stale' missed' w
   has_worked_more v u w taken made stale missed taken' made' stale' missed' id outcome has last taken_is made_is stale_is missed_is =
@@ -226,15 +222,15 @@ module _ {T B : Type 0} (log_of : T → List Change) (basis_of : T → B) (asks 
       noted (test outcome) ids ids' id is ∙ (ap (λ l. l ++ (if test outcome then id ∷ [] else [])) are ∙ sym (more_with test has.works work)) in
       record {
         works = has.works ++ work ∷ [];
-        each = more_works log_of basis_of asks desk v u w has.works id outcome has.each last;
+        each = more_works desk command_of v u w has.works id outcome has.each last;
         taken_are = taken_is ∙ (ap (λ l. l ++ id ∷ []) has.taken_are ∙ sym (more_ids has.works work));
         made_are = more is_made made made' has.made_are made_is;
         stale_are = more is_stale stale stale' has.stale_are stale_is;
         missed_are = more is_missed missed missed' has.missed_are missed_is;
       }
 
-  pub worked_whole : (v w : Knows B) (taken made stale missed : List (List ℕ)) (stop : WorkerStop) → HasWorked v taken made stale missed w
-      → Worked log_of basis_of asks (Tells log_of basis_of asks desk) v taken made stale missed stop w
+  pub worked_whole : (v w : Knows A B) (taken made stale missed : List (List ℕ)) (stop : WorkerStop) → HasWorked v taken made stale missed w
+      → Worked desk command_of v taken made stale missed stop w
   worked_whole v w taken made stale missed stop has = record {
     works = has.works;
     between = w;
@@ -251,9 +247,9 @@ module _ {T B : Type 0} (log_of : T → List Change) (basis_of : T → B) (asks 
   not_ended : S.NoMemory ≡ S.Ended → ⊥
   not_ended is = cc
 
-  pub worked_part : (v u w : Knows B) (taken made stale missed taken' : List (List ℕ)) (id : List ℕ) → HasWorked v taken made stale missed u
-      → LeavesOff log_of basis_of asks (Tells log_of basis_of asks desk) u id w → taken' ≡ taken ++ id ∷ []
-      → Worked log_of basis_of asks (Tells log_of basis_of asks desk) v taken' made stale missed S.NoMemory w
+  pub worked_part : (v u w : Knows A B) (taken made stale missed taken' : List (List ℕ)) (id : List ℕ) → HasWorked v taken made stale missed u
+      → LeavesOff desk command_of u id w → taken' ≡ taken ++ id ∷ []
+      → Worked desk command_of v taken' made stale missed S.NoMemory w
   worked_part v u w taken made stale missed taken' id has last taken_is = record {
     works = has.works;
     between = u;
@@ -289,17 +285,17 @@ takes_end before now now' ids is more = more ∙ (ap (λ l. l ++ J.End ∷ []) i
 
 -- ---- what a processor gives back
 
-module _ {T B : Type 0} (log_of : T → List Change) (basis_of : T → B) (asks : T → Command → Receipt → T → Type 0) (answers : B → List Change → Command → Receipt → List Change → Type 0) where
-  pub worked_given : (v w w' : Knows B) (taken made stale missed taken' made' stale' missed' : List (List ℕ)) (stop stop' : WorkerStop)
+module _ {T A B : Type 0} (desk : Shared T A B) (command_of : A → Command) where
+  pub worked_given : (v w w' : Knows A B) (taken made stale missed taken' made' stale' missed' : List (List ℕ)) (stop stop' : WorkerStop)
       → taken' ≡ taken → made' ≡ made → stale' ≡ stale → missed' ≡ missed → stop' ≡ stop → w' ≡ w
-      → Worked log_of basis_of asks answers v taken made stale missed stop w → Worked log_of basis_of asks answers v taken' made' stale' missed' stop' w'
+      → Worked desk command_of v taken made stale missed stop w → Worked desk command_of v taken' made' stale' missed' stop' w'
   worked_given v w w' taken made stale missed taken' made' stale' missed' stop stop' a b c d e f worked =
-      subst (λ x. Worked log_of basis_of asks answers v x made' stale' missed' stop' w') (sym a)
-      (subst (λ x. Worked log_of basis_of asks answers v taken x stale' missed' stop' w') (sym b)
-      (subst (λ x. Worked log_of basis_of asks answers v taken made x missed' stop' w') (sym c)
-      (subst (λ x. Worked log_of basis_of asks answers v taken made stale x stop' w') (sym d)
-      (subst (λ x. Worked log_of basis_of asks answers v taken made stale missed x w') (sym e)
-      (subst (λ x. Worked log_of basis_of asks answers v taken made stale missed stop x) (sym f) worked)))))
+      subst (λ x. Worked desk command_of v x made' stale' missed' stop' w') (sym a)
+      (subst (λ x. Worked desk command_of v taken x stale' missed' stop' w') (sym b)
+      (subst (λ x. Worked desk command_of v taken made x missed' stop' w') (sym c)
+      (subst (λ x. Worked desk command_of v taken made stale x stop' w') (sym d)
+      (subst (λ x. Worked desk command_of v taken made stale missed x w') (sym e)
+      (subst (λ x. Worked desk command_of v taken made stale missed stop x) (sym f) worked)))))
 
 pub takes_given : (given pass : Pass) (before : List Job) (taken taken' : List (List ℕ)) (stop stop' : WorkerStop) → given ≡ pass → taken' ≡ taken → stop' ≡ stop
     → (pass_seen pass).takes ≡ before ++ (crash_jobs taken ++ last_job stop) → (pass_seen given).takes ≡ before ++ (crash_jobs taken' ++ last_job stop')

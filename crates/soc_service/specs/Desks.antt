@@ -1,6 +1,5 @@
 -- What a desk in a hall does with its seat and its pass.
 use Rattle.std.specs.Prelude.{◌≡◌, ◌⊎◌, ℕ, ◌+◌, List, ◌++◌, Option, None, Some, IsSomeAnd}
-use Rattle.soc_hall.specs.declared.seats.HallSeat.{HallSeat}
 use Rattle.soc_hall.specs.declared.view.Turn.{Turn as HallTurn}
 use Rattle.soc_hall.specs.Log.{pieces}
 use Rattle.soc_hall.specs.Seats.{known_of}
@@ -11,9 +10,9 @@ use Rattle.soc_pool.specs.Passes.{seen_of, fulls_of, empties_of, once_more}
 use Rattle.soc_pool.specs.Ring.{Puts, WasHolding}
 use Rattle.soc_desk.specs.declared.desk.Command.{Command}
 use Rattle.soc_desk.specs.declared.desk.Receipt.{Receipt}
-use Rattle.soc_turns.specs.declared.change.Change.{Change}
-use Rattle.soc_turns.specs.Changes.{events_in, kept_in}
-use Rattle.soc_service.specs.Turns.{Knows, Turn}
+use Rattle.soc_service.specs.declared.change.Change.{Change}
+use Rattle.soc_service.specs.Changes.{events_in, kept_in}
+use Rattle.soc_service.specs.Turns.{Knows, SeatOf, Shared, Turn}
 
 -- the job of the crash was put, or the ring was full, which the pass has counted
 abbrev pub PutsOrMissed : List ℕ → Pass → Pass → Type 0
@@ -26,17 +25,17 @@ abbrev pub PutsJob : Option (List ℕ) → Pass → Pass → Type 0
 PutsJob None before after = after ≡ before
 PutsJob (Some id) before after = PutsOrMissed id before after × (empties_of after ≡ empties_of before)
 
-module _ {T B S : Type 0} (log_of : T → List Change) (basis_of : T → B) (asks : T → Command → Receipt → T → Type 0) (answers : B → List Change → Command → Receipt → List Change → Type 0) where
+module _ {T A B S : Type 0} (desk : Shared T A B) (command_of : A → Command) where
   -- The seat made one turn of the command. What the turn's piece keeps is counted.
-  abbrev pub TakesTurn : Option (HallSeat S B Change Command Receipt) → ℕ → Command → Receipt → Option (HallSeat S B Change Command Receipt) → ℕ → Type 0
+  abbrev pub TakesTurn : Option (SeatOf S A B) → ℕ → Command → Receipt → Option (SeatOf S A B) → ℕ → Type 0
   TakesTurn before kept command receipt after kept' = IsSomeAnd before (λ s. IsSomeAnd after (λ t.
-      (turn : Turn log_of basis_of asks answers (known_of s) command receipt (known_of t)) × (kept' ≡ kept + kept_in (events_in turn.asked.piece))))
+      (turn : Turn desk command_of (known_of s) command receipt (known_of t)) × (kept' ≡ kept + kept_in (events_in turn.asked.piece))))
 
 -- the seat has had more turns, whose pieces keep so many changes and stops
-pub record HasTurned {B : Type 0} (before after : Knows B) (kept : ℕ) : Type 0 where
+pub record HasTurned {A B : Type 0} (before after : Knows A B) (kept : ℕ) : Type 0 where
   pub number : after.number ≡ before.number
   pub basis : after.basis ≡ before.basis
   pub opening : after.opening ≡ before.opening
-  pub more : List (HallTurn Change Command Receipt)
+  pub more : List (HallTurn Change A Receipt)
   pub turns : after.turns ≡ before.turns ++ more
   pub kept_are : kept_in (events_in (pieces more)) ≡ kept

@@ -1,3 +1,5 @@
+pub mod Answers
+pub mod Changes
 pub mod Due
 pub mod Turns
 pub mod Desks

@@ -15,13 +15,13 @@ use Rattle.soc_desk.specs.declared.desk.Receipt.{Receipt}
 use Rattle.soc_desk.specs.declared.desk.Refusal.TheVariants as F
 use Rattle.soc_desk.specs.declared.desk.Reply.{Reply}
 use Rattle.soc_desk.specs.declared.desk.Reply.TheVariants as R
-use Rattle.soc_turns.specs.declared.change.Change.{Change}
-use Rattle.soc_turns.specs.Changes.{events_in}
+use Rattle.soc_service.specs.declared.change.Change.{Change}
+use Rattle.soc_service.specs.Changes.{events_in}
 use Rattle.soc_service.specs.declared.process.Outcome.{Outcome}
 use Rattle.soc_service.specs.declared.process.Outcome.TheVariants as O
 use Rattle.soc_service.specs.declared.processor.WorkerStop.{WorkerStop}
 use Rattle.soc_service.specs.declared.processor.WorkerStop.TheVariants as S
-use Rattle.soc_service.specs.Turns.{Knows, Turn}
+use Rattle.soc_service.specs.Turns.{Knows, Shared, Turn}
 
 -- ---- one crash
 
@@ -37,52 +37,52 @@ CouldNotRead (R.Refused F.StoreFault) = ⊤
 CouldNotRead (R.Refused (F.Altered id)) = ⊤
 CouldNotRead _ = ⊥
 
-module _ {T B : Type 0} (log_of : T → List Change) (basis_of : T → B) (asks : T → Command → Receipt → T → Type 0) (answers : B → List Change → Command → Receipt → List Change → Type 0) where
+module _ {T A B : Type 0} (desk : Shared T A B) (command_of : A → Command) where
   -- one turn fetched the crash of the id, and had this reply
-  pub record Fetches (v : Knows B) (id : List ℕ) (reply : Reply) (w : Knows B) : Type 0 where
+  pub record Fetches (v : Knows A B) (id : List ℕ) (reply : Reply) (w : Knows A B) : Type 0 where
     pub receipt : Receipt
     pub replied : receipt.reply ≡ reply
-    pub turn : Turn log_of basis_of asks answers v (C.Fetch id) receipt w
+    pub turn : Turn desk command_of v (C.Fetch id) receipt w
 
   -- one turn gave the crash a row, and had this reply
-  pub record Finishes (v : Knows B) (crash : Crash) (reply : Reply) (w : Knows B) : Type 0 where
+  pub record Finishes (v : Knows A B) (crash : Crash) (reply : Reply) (w : Knows A B) : Type 0 where
     pub processed : Report
     pub same : processed.crash ≡ crash
     pub receipt : Receipt
     pub replied : receipt.reply ≡ reply
-    pub turn : Turn log_of basis_of asks answers v (C.Finish processed) receipt w
+    pub turn : Turn desk command_of v (C.Finish processed) receipt w
 
   -- the turn changed nothing, and at its start the crash wasn't due
-  abbrev pub WasIdle : List ℕ → {v : Knows B} {command : Command} {receipt : Receipt} {w : Knows B} → Turn log_of basis_of asks answers v command receipt w → Type 0
+  abbrev pub WasIdle : List ℕ → {v : Knows A B} {command : Command} {receipt : Receipt} {w : Knows A B} → Turn desk command_of v command receipt w → Type 0
   WasIdle id {v} turn = (turn.asked.piece ≡ []) × (is_due (events_in (seen_of (sees turn.asked.between v))) id ≡ false)
 
   -- what became of a crash that was finished: it is made where the turn's piece is its `Done`
-  abbrev pub EndsBy : (crash : Crash) (outcome : Outcome) {v : Knows B} {reply : Reply} {w : Knows B} → Finishes v crash reply w → Type 0
+  abbrev pub EndsBy : (crash : Crash) (outcome : Outcome) {v : Knows A B} {reply : Reply} {w : Knows A B} → Finishes v crash reply w → Type 0
   EndsBy crash O.Made finish = events_in finish.turn.asked.piece ≡ E.Done crash.id ∷ []
   EndsBy crash O.Stale finish = WasIdle crash.id finish.turn
   EndsBy crash O.Missed finish = ⊥
 
   -- what became of a crash of which the fetch gave none
-  abbrev pub EndsUnread : (id : List ℕ) (outcome : Outcome) {v : Knows B} {reply : Reply} {w : Knows B} → Fetches v id reply w → Type 0
+  abbrev pub EndsUnread : (id : List ℕ) (outcome : Outcome) {v : Knows A B} {reply : Reply} {w : Knows A B} → Fetches v id reply w → Type 0
   EndsUnread id O.Made fetch = ⊥
   EndsUnread id O.Stale {v} {reply} fetch = GaveNone reply × WasIdle id fetch.turn
   EndsUnread id O.Missed {v} {reply} fetch = CouldNotRead reply
 
   -- behind the fetch: one finish where it gave a raw crash, and else no turn
-  abbrev pub GoesOn : (id : List ℕ) (outcome : Outcome) {v : Knows B} (reply : Reply) (u : Knows B) → Fetches v id reply u → Knows B → Type 0
+  abbrev pub GoesOn : (id : List ℕ) (outcome : Outcome) {v : Knows A B} (reply : Reply) (u : Knows A B) → Fetches v id reply u → Knows A B → Type 0
   GoesOn id outcome (R.Fetched (Some raw)) u fetch w = (reply : Reply) × (finish : Finishes u (crash_of raw) reply w) × EndsBy (crash_of raw) outcome finish
   GoesOn id outcome reply u fetch w = (w ≡ u) × EndsUnread id outcome fetch
 
   -- the turns for a crash that was taken, and what became of it
-  pub record WorksOn (v : Knows B) (id : List ℕ) (outcome : Outcome) (w : Knows B) : Type 0 where
-    pub between : Knows B
+  pub record WorksOn (v : Knows A B) (id : List ℕ) (outcome : Outcome) (w : Knows A B) : Type 0 where
+    pub between : Knows A B
     pub reply : Reply
     pub fetch : Fetches v id reply between
     pub goes_on : GoesOn id outcome reply between fetch w
 
   -- the turns for a crash where memory was wanting: the fetch, and maybe a finish
-  pub record LeavesOff (v : Knows B) (id : List ℕ) (w : Knows B) : Type 0 where
-    pub between : Knows B
+  pub record LeavesOff (v : Knows A B) (id : List ℕ) (w : Knows A B) : Type 0 where
+    pub between : Knows A B
     pub reply : Reply
     pub fetch : Fetches v id reply between
     pub goes_on : (w ≡ between) ⊎ ((crash : Crash) × (reply : Reply) × Finishes between crash reply w)
@@ -130,21 +130,21 @@ abbrev pub last_job : WorkerStop → List Job
 last_job S.Ended = J.End ∷ []
 last_job S.NoMemory = []
 
-module _ {T B : Type 0} (log_of : T → List Change) (basis_of : T → B) (asks : T → Command → Receipt → T → Type 0) (answers : B → List Change → Command → Receipt → List Change → Type 0) where
+module _ {T A B : Type 0} (desk : Shared T A B) (command_of : A → Command) where
   -- the turns for these crashes, in order, and no others
-  abbrev pub WorksOnAll : Knows B → List Work → Knows B → Type 0
+  abbrev pub WorksOnAll : Knows A B → List Work → Knows A B → Type 0
   WorksOnAll v [] w = w ≡ v
-  WorksOnAll v (work ∷ works) w = (u : Knows B) × WorksOn log_of basis_of asks answers v work.id work.outcome u × WorksOnAll u works w
+  WorksOnAll v (work ∷ works) w = (u : Knows A B) × WorksOn desk command_of v work.id work.outcome u × WorksOnAll u works w
 
   -- where memory was wanting, the turns for the last crash
-  abbrev pub LeavesLast : Knows B → Option (List ℕ) → Knows B → Type 0
+  abbrev pub LeavesLast : Knows A B → Option (List ℕ) → Knows A B → Type 0
   LeavesLast v None w = w ≡ v
-  LeavesLast v (Some id) w = LeavesOff log_of basis_of asks answers v id w
+  LeavesLast v (Some id) w = LeavesOff desk command_of v id w
 
   -- Each crash that was taken is in exactly one of the other lists, but for the last one where memory was wanting.
-  pub record Worked (v : Knows B) (taken made stale missed : List (List ℕ)) (stop : WorkerStop) (w : Knows B) : Type 0 where
+  pub record Worked (v : Knows A B) (taken made stale missed : List (List ℕ)) (stop : WorkerStop) (w : Knows A B) : Type 0 where
     pub works : List Work
-    pub between : Knows B
+    pub between : Knows A B
     pub each : WorksOnAll v works between
     pub left : Option (List ℕ)
     pub last : LeavesLast between left w

@@ -1,2 +1,4 @@
+pub mod Halls
 pub mod Options
 pub mod Outcomes
+pub mod Stays

@@ -1,63 +1,60 @@
 //! A desk that asks its commands in a hall.
 ghost use Rattle.std.specs.Prelude.{◌≡◌, ◌≤◌, Some, false, IfSome, IsSomeAnd, length};
-ghost use Rattle.soc_hall.specs.Seats.{IsSeatOf, MayAsk, known_of, seen_of};
+ghost use Rattle.soc_hall.specs.Seats.{IsSeatOf, known_of, seen_of};
 ghost use Rattle.soc_pool.specs.Passes.{IsPassOf};
 ghost use Rattle.soc_service.specs.Desks.{HasTurned, PutsJob, TakesTurn};
+ghost use Rattle.soc_service.specs.Turns.{MayTurn};
 
 use crate::due::{asked_id, due_after, is_either, keeps_all, kept_between};
 use crate::gate::{Gate, Point};
+use crate::sharing::SharedDesk;
 use crate::turn::take_turn;
-use soc_desk::{Command, Desk, Receipt};
-use soc_hall::{Hall, Logged, Seat};
+use soc_desk::{Command, Desk, KeepingDesk, Receipt};
+use soc_hall::{Hall, Seat};
 use soc_pool::{Job, Jobs, Pass};
 use soc_raw::CrashId;
-use soc_schema::Reporter;
-use soc_turns::{SharedBook, Telling};
 use std::alloc::Global;
-use std::marker::PhantomData;
 use std::snapshot::Snapshot;
 use std::sync::Wait;
 
 /// A desk that asks each command in a turn of its seat in a hall, and puts the job of a crash that becomes due into a ring.
 #[derive(Drop)]
-pub struct HallDesk<'h, 'a, D: Telling, R: Reporter, G: Gate, W: Wait> {
+pub struct HallDesk<'h, T: SharedDesk, G: Gate, W: Wait> {
     rt: &'h W,
     alloc: Global,
-    hall: &'h Hall<SharedBook<'a, D, R>>,
+    hall: &'h Hall<T>,
     jobs: &'h Jobs,
     gate: &'h G,
     // There, but for the middle of a turn.
-    seat: Option<Seat<SharedBook<'a, D, R>>>,
+    seat: Option<Seat<T>>,
     pass: Option<Pass>,
     // The seat as it was when the desk was made.
-    began: Snapshot<Seat<SharedBook<'a, D, R>>>,
+    began: Snapshot<Seat<T>>,
     stopped: bool,
     kept: u64,
-    // The book in the hall has them lent, which its type in the hall doesn't tell of this one.
-    lent: PhantomData<(&'a mut D, &'a R)>,
     ghost sits: { ∥ IsSomeAnd seat (λ s. IsSeatOf hall.now s × (kept ≤ length (seen_of (known_of s)))) ∥₁ },
     ghost turned: { ∥ IsSomeAnd seat (λ s. HasTurned (known_of began.value) (known_of s) kept) ∥₁ },
     ghost passes: { ∥ IsSomeAnd pass (λ p. IsPassOf jobs.now p) ∥₁ },
 }
 
-impl<'h, 'a, D: Telling, R: Reporter, G: Gate, W: Wait> HallDesk<'h, 'a, D, R, G, W> {
+impl<'h, T: SharedDesk, G: Gate, W: Wait> HallDesk<'h, T, G, W> {
     /// A desk that takes its turns by this seat, and puts jobs by this pass.
     pub fn new(
         rt: &'h W,
         alloc: Global,
-        hall: &'h Hall<SharedBook<'a, D, R>>,
-        seat: Seat<SharedBook<'a, D, R>>,
+        hall: &'h Hall<T>,
+        seat: Seat<T>,
         jobs: &'h Jobs,
         pass: Pass,
         gate: &'h G,
-    ) -> HallDesk<'h, 'a, D, R, G, W>
+    ) -> HallDesk<'h, T, G, W>
         requires seat { IsSeatOf hall.now seat }
         requires pass { IsPassOf jobs.now pass }
         ensures hall { result.hall.now ≡ hall.now }
         ensures jobs { result.jobs.now ≡ jobs.now }
-        ensures seat { result.seat ≡ Some seat.entry }
+        ensures seat { result.seat ≡ Some seat }
         ensures pass { result.pass ≡ Some pass }
-        ensures began { result.began.value ≡ seat.entry }
+        ensures began { result.began.value ≡ seat }
         ensures stopped { result.stopped ≡ false }
         ensures kept { result.kept ≡ 0 }
     {
@@ -73,7 +70,6 @@ impl<'h, 'a, D: Telling, R: Reporter, G: Gate, W: Wait> HallDesk<'h, 'a, D, R, G
             began,
             stopped: false,
             kept: 0,
-            lent: PhantomData,
         }
     }
 
@@ -92,7 +88,7 @@ impl<'h, 'a, D: Telling, R: Reporter, G: Gate, W: Wait> HallDesk<'h, 'a, D, R, G
     }
 
     /// Its seat and its pass.
-    pub fn end(self) -> (Seat<SharedBook<'a, D, R>>, Pass)
+    pub fn end(self) -> (Seat<T>, Pass)
         ensures seat { (self.entry.seat ≡ Some result.0) × IsSeatOf self.entry.hall.now result.0 }
         ensures turned { ∥ HasTurned (known_of self.entry.began.value) (known_of result.0) self.entry.kept ∥₁ }
         ensures pass { (self.entry.pass ≡ Some result.1) × IsPassOf self.entry.jobs.now result.1 }
@@ -105,9 +101,9 @@ impl<'h, 'a, D: Telling, R: Reporter, G: Gate, W: Wait> HallDesk<'h, 'a, D, R, G
 
     // Asks the command in one turn.
     fn turn(&mut self, command: Command) -> Receipt
-        requires { IfSome self.old.seat (λ s. MayAsk ⟦<SharedBook<'a, D, R> as Logged>⟧.may_ask (known_of s) command) }
+        requires { IfSome self.old.seat (λ s. MayTurn T.desk_of (known_of s) command) }
         ensures same { (self.new.hall ≡ self.old.hall) × (self.new.jobs ≡ self.old.jobs) × (self.new.pass ≡ self.old.pass) × (self.new.stopped ≡ self.old.stopped) × (self.new.began ≡ self.old.began) }
-        ensures turn { TakesTurn ⟦<SharedBook<'a, D, R> as Logged>⟧.log_of ⟦<SharedBook<'a, D, R> as Logged>⟧.basis_of ⟦<SharedBook<'a, D, R> as Logged>⟧.asks ⟦<SharedBook<'a, D, R> as Logged>⟧.answers
+        ensures turn { TakesTurn T.Logged T.command_of
             self.old.seat self.old.kept command result self.new.seat self.new.kept }
     {
         let Some(seat) = self.seat.take() else {
@@ -140,18 +136,19 @@ impl<'h, 'a, D: Telling, R: Reporter, G: Gate, W: Wait> HallDesk<'h, 'a, D, R, G
     }
 }
 
-impl<'h, 'a, D: Telling, R: Reporter, G: Gate, W: Wait> Desk for HallDesk<'h, 'a, D, R, G, W> {
+impl<'h, T: SharedDesk, G: Gate, W: Wait> Desk for HallDesk<'h, T, G, W> {
     ghost use Rattle.std.specs.Prelude.{◌≡◌, IsSomeAnd, IfSome, ◌||◌};
-    ghost use Rattle.soc_hall.specs.Seats.{MayAsk, known_of, seen_of};
-    ghost use Rattle.soc_turns.specs.inner.Stays.{may_others};
+    ghost use Rattle.soc_hall.specs.Seats.{known_of, seen_of};
+    ghost use Rattle.soc_service.specs.Turns.{MayTurn};
+    ghost use Rattle.soc_service.specs.inner.Stays.{may_others};
     ghost use Rattle.soc_service.specs.Desks.{PutsJob, TakesTurn};
     ghost use Rattle.soc_service.specs.Due.{asked_id, due_after};
     ghost use Rattle.soc_service.specs.inner.Options.{for_some};
 
-    ghost Allows = { λ desk command. IfSome desk.seat (λ s. MayAsk ⟦<SharedBook<'a, D, R> as Logged>⟧.may_ask (known_of s) command) };
+    ghost Allows = { λ desk command. IfSome desk.seat (λ s. MayTurn T.desk_of (known_of s) command) };
 
     ghost Asks = { λ before command receipt after. (after.hall ≡ before.hall) × (after.jobs ≡ before.jobs)
-        × TakesTurn ⟦<SharedBook<'a, D, R> as Logged>⟧.log_of ⟦<SharedBook<'a, D, R> as Logged>⟧.basis_of ⟦<SharedBook<'a, D, R> as Logged>⟧.asks ⟦<SharedBook<'a, D, R> as Logged>⟧.answers
+        × TakesTurn T.Logged T.command_of
         before.seat before.kept command receipt after.seat after.kept
         × IsSomeAnd before.pass (λ p. IsSomeAnd after.pass (λ q. PutsJob (due_after (asked_id command) receipt.reply) p q))
         × (after.stopped ≡ (before.stopped || receipt.stopped))
@@ -166,5 +163,19 @@ impl<'h, 'a, D: Telling, R: Reporter, G: Gate, W: Wait> Desk for HallDesk<'h, 'a
         receipt
     }
 
-    ghost allows_others = { λ desk command needs_nothing. for_some desk.seat (λ s basis is. may_others (R.row_of basis.reporter) D.tells (seen_of (known_of s)) command needs_nothing) };
+    ghost allows_others = { λ desk command needs_nothing. for_some desk.seat (λ s basis is. may_others (T.desk_of basis) (seen_of (known_of s)) command needs_nothing) };
+}
+
+impl<'h, T: SharedDesk, G: Gate, W: Wait> KeepingDesk for HallDesk<'h, T, G, W> {
+    ghost use Rattle.soc_hall.specs.Seats.{IsSeatOf};
+    ghost use Rattle.soc_service.specs.inner.Halls.{counted_grows};
+
+    ghost added = { λ desk. desk.kept };
+
+    fn kept(&self) -> u64 {
+        HallDesk::kept(self)
+    }
+
+    ghost added_grows = { λ before command receipt after asked.
+        counted_grows _ T.command_of T.desk_of T.tells before.seat after.seat before.kept after.kept command receipt (λ s. IsSeatOf after.hall.now s) asked.2 after.sits };
 }

@@ -3,7 +3,8 @@ ghost use Rattle.std.specs.Prelude.{◌≡◌, ◌++◌, [], ◌∷◌, if◌the
 ghost use Rattle.soc_service.specs.Works.{is_made, is_missed, is_stale};
 
 use crate::process::Outcome;
-use soc_raw::{CrashId, NoMemory};
+use soc_base::NoMemory;
+use soc_raw::CrashId;
 use std::alloc::Global;
 
 /// The crashes that a processor took, in order, and those of each outcome.

@@ -1,17 +1,18 @@
 //! What a processor does with one crash.
 ghost use Rattle.std.specs.Prelude.{◌≡◌, IfSome, MatchOption, MatchResult};
-ghost use Rattle.soc_hall.specs.Seats.{IsSeatOf, MayAsk, known_of};
+ghost use Rattle.soc_hall.specs.Seats.{IsSeatOf, known_of};
 ghost use Rattle.soc_desk.specs.declared.desk.Command.TheVariants.{Finish as asks_finish};
+ghost use Rattle.soc_service.specs.Turns.{MayTurn};
 ghost use Rattle.soc_service.specs.Works.{Fetches, Finishes, LeavesOff, WorksOn};
 ghost use Rattle.soc_service.specs.inner.Outcomes.{fetched_as, finished_as, gives};
 
 use crate::gate::{Gate, Point};
+use crate::sharing::SharedDesk;
 use crate::turn::take_turn;
 use soc_desk::{Command, Refusal, Reply};
-use soc_hall::{Hall, Logged, Seat};
+use soc_hall::{Hall, Seat};
 use soc_raw::{CrashId, RawCrash};
 use soc_schema::{Processed, Reporter};
-use soc_turns::{SharedBook, Telling};
 use std::alloc::Global;
 use std::sync::Wait;
 
@@ -50,59 +51,55 @@ fn finished_as(reply: &Reply) -> Option<Outcome>
 }
 
 // Asks for a crash.
-fn fetch<'a, D: Telling, R: Reporter, W: Wait>(
+fn fetch<T: SharedDesk, W: Wait>(
     rt: &W,
     alloc: Global,
-    hall: &Hall<SharedBook<'a, D, R>>,
-    seat: Seat<SharedBook<'a, D, R>>,
+    hall: &Hall<T>,
+    seat: Seat<T>,
     id: CrashId,
-) -> (Seat<SharedBook<'a, D, R>>, Reply)
+) -> (Seat<T>, Reply)
     requires { IsSeatOf hall.now seat }
     ensures seat { IsSeatOf hall.now result.0 }
-    ensures fetch { Fetches ⟦<SharedBook<'a, D, R> as Logged>⟧.log_of ⟦<SharedBook<'a, D, R> as Logged>⟧.basis_of ⟦<SharedBook<'a, D, R> as Logged>⟧.asks ⟦<SharedBook<'a, D, R> as Logged>⟧.answers
-        (known_of seat.entry) id result.1 (known_of result.0) }
+    ensures fetch { Fetches T.Logged T.command_of (known_of seat) id result.1 (known_of result.0) }
 {
     let (seat, answer) = take_turn(rt, alloc, hall, seat, Command::Fetch { id });
     (seat, answer.reply.reply)
 }
 
 // Gives a crash its row.
-fn finish<'a, D: Telling, R: Reporter, W: Wait>(
+fn finish<T: SharedDesk, W: Wait>(
     rt: &W,
     alloc: Global,
-    hall: &Hall<SharedBook<'a, D, R>>,
-    seat: Seat<SharedBook<'a, D, R>>,
+    hall: &Hall<T>,
+    seat: Seat<T>,
     processed: Processed,
-) -> (Seat<SharedBook<'a, D, R>>, Reply)
+) -> (Seat<T>, Reply)
     requires seat { IsSeatOf hall.now seat }
-    requires may { MayAsk ⟦<SharedBook<'a, D, R> as Logged>⟧.may_ask (known_of seat) (asks_finish processed) }
+    requires may { MayTurn T.desk_of (known_of seat) (asks_finish processed) }
     ensures seat { IsSeatOf hall.now result.0 }
-    ensures finish { Finishes ⟦<SharedBook<'a, D, R> as Logged>⟧.log_of ⟦<SharedBook<'a, D, R> as Logged>⟧.basis_of ⟦<SharedBook<'a, D, R> as Logged>⟧.asks ⟦<SharedBook<'a, D, R> as Logged>⟧.answers
-        (known_of seat.entry) processed.crash result.1 (known_of result.0) }
+    ensures finish { Finishes T.Logged T.command_of (known_of seat) processed.crash result.1 (known_of result.0) }
 {
     let (seat, answer) = take_turn(rt, alloc, hall, seat, Command::Finish { processed });
     (seat, answer.reply.reply)
 }
 
-/// Makes the report of a crash by the book's own reporter. `None` where memory was wanting.
-pub(crate) fn process<'a, D: Telling, R: Reporter, G: Gate, W: Wait>(
+/// Makes the report of a crash by the desk's own reporter. `None` where memory was wanting.
+pub(crate) fn process<T: SharedDesk, R: Reporter, G: Gate, W: Wait>(
     rt: &W,
     alloc: Global,
-    hall: &Hall<SharedBook<'a, D, R>>,
-    seat: Seat<SharedBook<'a, D, R>>,
+    hall: &Hall<T>,
+    seat: Seat<T>,
     reporter: &R,
     gate: &G,
     id: CrashId,
-) -> (Seat<SharedBook<'a, D, R>>, Option<Outcome>)
+) -> (Seat<T>, Option<Outcome>)
     requires seat { IsSeatOf hall.now seat }
-    requires reporter { IfSome (known_of seat).basis (λ basis. basis.reporter ≡ reporter.now) }
+    requires reporter { IfSome (known_of seat).basis (λ basis. (T.desk_of basis).row_of ≡ R.row_of reporter.now) }
     ensures seat { IsSeatOf hall.now result.0 }
-    ensures basis { (known_of result.0).basis ≡ (known_of seat.entry).basis }
+    ensures basis { (known_of result.0).basis ≡ (known_of seat).basis }
     ensures works { MatchOption result.1
-        (LeavesOff ⟦<SharedBook<'a, D, R> as Logged>⟧.log_of ⟦<SharedBook<'a, D, R> as Logged>⟧.basis_of ⟦<SharedBook<'a, D, R> as Logged>⟧.asks ⟦<SharedBook<'a, D, R> as Logged>⟧.answers
-        (known_of seat.entry) id (known_of result.0))
-        (λ outcome. WorksOn ⟦<SharedBook<'a, D, R> as Logged>⟧.log_of ⟦<SharedBook<'a, D, R> as Logged>⟧.basis_of ⟦<SharedBook<'a, D, R> as Logged>⟧.asks ⟦<SharedBook<'a, D, R> as Logged>⟧.answers
-        (known_of seat.entry) id outcome (known_of result.0)) }
+        (LeavesOff T.Logged T.command_of (known_of seat) id (known_of result.0))
+        (λ outcome. WorksOn T.Logged T.command_of (known_of seat) id outcome (known_of result.0)) }
 {
     let (seat, reply) = fetch(rt, alloc, hall, seat, id);
     let raw = match given(reply) {

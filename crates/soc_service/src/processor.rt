@@ -7,11 +7,11 @@ ghost use Rattle.soc_service.specs.Works.{Worked, crash_jobs, last_job};
 use crate::gate::{Gate, Point};
 use crate::lists::Lists;
 use crate::process::process;
-use soc_hall::{Hall, Logged, Seat};
+use crate::sharing::SharedDesk;
+use soc_hall::{Hall, Seat};
 use soc_pool::{Job, Jobs, Pass};
 use soc_raw::CrashId;
 use soc_schema::Reporter;
-use soc_turns::{SharedBook, Telling};
 use std::alloc::Global;
 use std::sync::Wait;
 
@@ -62,27 +62,26 @@ fn end_of<S>(lists: Lists, seat: S, pass: Pass, stop: WorkerStop) -> WorkerEnd<S
     }
 }
 
-/// Makes the reports of the crashes whose jobs it takes, by the book's own reporter, until it takes an `End`. Where the
+/// Makes the reports of the crashes whose jobs it takes, by the desk's own reporter, until it takes an `End`. Where the
 /// ring is empty it sleeps. Where memory is wanting, it stops.
-pub fn worker<'a, D: Telling, R: Reporter, G: Gate, W: Wait>(
+pub fn worker<T: SharedDesk, R: Reporter, G: Gate, W: Wait>(
     rt: &W,
     alloc: Global,
-    hall: &Hall<SharedBook<'a, D, R>>,
-    mut seat: Seat<SharedBook<'a, D, R>>,
+    hall: &Hall<T>,
+    mut seat: Seat<T>,
     jobs: &Jobs,
     mut pass: Pass,
     reporter: &R,
     gate: &G,
-) -> WorkerEnd<Seat<SharedBook<'a, D, R>>>
+) -> WorkerEnd<Seat<T>>
     requires seat { IsSeatOf hall.now seat }
     requires pass { IsPassOf jobs.now pass }
-    requires reporter { IfSome (known_of seat).basis (λ basis. basis.reporter ≡ reporter.now) }
+    requires reporter { IfSome (known_of seat).basis (λ basis. (T.desk_of basis).row_of ≡ R.row_of reporter.now) }
     ensures seat { IsSeatOf hall.now result.seat }
     ensures pass { IsPassOf jobs.now result.pass }
     ensures taken { (seen_of result.pass).takes ≡ (seen_of pass).takes ++ (crash_jobs result.taken.items ++ last_job result.stop) }
     ensures puts_none { ((seen_of result.pass).number ≡ (seen_of pass).number) × ((seen_of result.pass).puts ≡ (seen_of pass).puts) × (fulls_of result.pass ≡ fulls_of pass) }
-    ensures worked { Worked ⟦<SharedBook<'a, D, R> as Logged>⟧.log_of ⟦<SharedBook<'a, D, R> as Logged>⟧.basis_of ⟦<SharedBook<'a, D, R> as Logged>⟧.asks ⟦<SharedBook<'a, D, R> as Logged>⟧.answers
-        (known_of seat.entry) result.taken.items result.made.items result.stale.items result.missed.items result.stop (known_of result.seat) }
+    ensures worked { Worked T.Logged T.command_of (known_of seat) result.taken.items result.made.items result.stale.items result.missed.items result.stop (known_of result.seat) }
 {
     let mut lists = Lists::new(alloc);
     for _ in rt.forever() {

@@ -1,29 +1,28 @@
 //! One turn in a hall.
+ghost use Rattle.std.specs.Prelude.{◌≡◌};
 ghost use Rattle.soc_hall.specs.Asked.{Asks};
-ghost use Rattle.soc_hall.specs.Seats.{IsSeatOf, MayAsk, known_of};
+ghost use Rattle.soc_hall.specs.Seats.{IsSeatOf, known_of};
+ghost use Rattle.soc_service.specs.Turns.{MayTurn};
 
-use soc_book::Prepared;
+use crate::sharing::SharedDesk;
 use soc_desk::{Command, Receipt};
-use soc_hall::{Hall, HallReceipt, Logged, Seat};
-use soc_schema::Reporter;
-use soc_turns::{SharedBook, Telling};
+use soc_hall::{Hall, HallReceipt, Seat};
 use std::alloc::Global;
 use std::sync::Wait;
 
 /// Asks a command in one turn. What it writes is prepared before.
-pub(crate) fn take_turn<'a, D: Telling, R: Reporter, W: Wait>(
+pub(crate) fn take_turn<T: SharedDesk, W: Wait>(
     rt: &W,
     alloc: Global,
-    hall: &Hall<SharedBook<'a, D, R>>,
-    seat: Seat<SharedBook<'a, D, R>>,
+    hall: &Hall<T>,
+    seat: Seat<T>,
     command: Command,
-) -> (Seat<SharedBook<'a, D, R>>, HallReceipt<Receipt>)
+) -> (Seat<T>, HallReceipt<Receipt>)
     requires seat { IsSeatOf hall.now seat }
-    requires may { MayAsk ⟦<SharedBook<'a, D, R> as Logged>⟧.may_ask (known_of seat) command }
+    requires may { MayTurn T.desk_of (known_of seat) command }
     ensures seat { IsSeatOf hall.now result.0 }
-    ensures turn { Asks ⟦<SharedBook<'a, D, R> as Logged>⟧.log_of ⟦<SharedBook<'a, D, R> as Logged>⟧.basis_of ⟦<SharedBook<'a, D, R> as Logged>⟧.asks ⟦<SharedBook<'a, D, R> as Logged>⟧.answers
-        (known_of seat.entry) command result.1 (known_of result.0) }
+    ensures turn { (prepared : _) × (T.command_of prepared ≡ command) × Asks T.log_of T.basis_of T.asks T.answers (known_of seat) prepared result.1 (known_of result.0) }
 {
-    let prepared = Prepared::new(alloc, command);
+    let prepared = T::prepare(alloc, command);
     hall.ask(rt, seat, prepared)
 }

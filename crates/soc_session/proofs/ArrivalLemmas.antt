@@ -1,6 +1,6 @@
 -- A message from its head and what was had of its body.
 use Rattle.std.proofs.Common.{◌≡◌, ℕ, ◌<◌, List, [], ◌∷◌, ◌++◌, length, None, Some, Result, Ok, Err, refl, subst, append_assoc, inl, inr, arith}
-use Rattle.soc_raw.specs.declared.no_memory.NoMemory.{NoMemory}
+use Rattle.soc_base.specs.declared.no_memory.NoMemory.{NoMemory}
 use Rattle.soc_edge.specs.Told.{Told}
 use Rattle.soc_edge.proofs.Told.{Reads-append}
 use Rattle.soc_http.specs.declared.body.BodyError.TheVariants as B

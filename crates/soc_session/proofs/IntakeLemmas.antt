@@ -1,7 +1,7 @@
 -- What a head asks for, and what is had of the body behind it.
 use Rattle.std.proofs.Common.{◌≡◌, ℕ, List, [], Option, Some, Result, Ok, Err, refl, sym, ap, subst, ◌∙◌, inl, inr}
 use Rattle.std.specs.Prelude.{IfOk}
-use Rattle.soc_raw.specs.declared.no_memory.NoMemory.{NoMemory}
+use Rattle.soc_base.specs.declared.no_memory.NoMemory.{NoMemory}
 use Rattle.soc_forms.specs.declared.form_error.FormError.TheVariants.{Malformed}
 use Rattle.soc_forms.specs.declared.reasons.Reason.{Reason}
 use Rattle.soc_forms.specs.FormErrors.{LinesRefusal}
@@ -15,7 +15,7 @@ use Rattle.soc_http.specs.declared.route.Route.TheVariants as R
 use Rattle.soc_http.specs.Route.{route_of}
 use Rattle.soc_schema.specs.declared.caller.Caller.{Caller}
 use Rattle.soc_session.specs.declared.intake.Content.{Content}
-use Rattle.soc_session.specs.declared.intake.Content.TheVariants.{Planned, Submitted}
+use Rattle.soc_session.specs.declared.intake.Content.TheVariants.{Decided, Submitted}
 use Rattle.soc_session.specs.declared.intake.Intake.{Intake}
 use Rattle.soc_session.specs.declared.intake.Intake.TheVariants.{Passes, Feeds, Collects}
 use Rattle.soc_session.specs.declared.plans.Plan.{Plan as Planning}
@@ -113,8 +113,8 @@ submission-of encoding kinds boundary body said lines (parts, cut, content) = re
 pub says-of : (rules : Rules) (head : Head) (body : List ℕ) (intake : Result Intake NoMemory) (content : Content) → Awaits rules head intake → IsOfBody intake body content
     → Says rules (message_of head body) content
 says-of rules head body (Ok (Passes plan)) content awaits is = subst (Says rules (message_of head body)) (sym is) (awaits body)
-says-of rules head body (Ok (Feeds fresh)) (Planned plan) (submitted, (lines, fed)) (reason, fault, is) = submitted body [] (plan_text plan) (reason, inr (fresh.boundary, lines, fault), is)
+says-of rules head body (Ok (Feeds fresh)) (Decided plan) (submitted, (lines, fed)) (reason, fault, is) = submitted body [] (plan_text plan) (reason, inr (fresh.boundary, lines, fault), is)
 says-of rules head body (Ok (Feeds fresh)) (Submitted said) (submitted, (lines, fed)) (found, fits) = (submitted, submission-of _ _ fresh.boundary body (submission_text said) lines found)
-says-of rules head body (Ok (Collects action caller)) (Planned plan) awaits is = subst (Plans rules (message_of head body) []) (sym is) (awaits body)
+says-of rules head body (Ok (Collects action caller)) (Decided plan) awaits is = subst (Plans rules (message_of head body) []) (sym is) (awaits body)
 says-of rules head body (Ok (Collects action caller)) (Submitted said) awaits is = absurd is
 says-of rules head body (Err error) content awaits is = absurd is

@@ -7,7 +7,7 @@ use Rattle.std.proofs.lemmas.List.Elements.{filter-append}
 use Rattle.soc_schema.specs.Fields.{FieldEntry, field_entry, field_table, kind_of, name_of, permission_of}
 use Rattle.soc_schema.specs.Permits.{is_granted, permission_name, holds}
 use Rattle.soc_schema.specs.declared.caller.Caller.{Caller}
-use Rattle.soc_query.specs.Json.{after_commas, comma_after, joined}
+use Rattle.soc_schema.specs.Commas.{after_commas, comma_after, joined}
 use Rattle.soc_session.specs.Json.{field_json, kind_name}
 
 -- one piece more

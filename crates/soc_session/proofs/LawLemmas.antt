@@ -8,7 +8,8 @@ use Rattle.soc_http.specs.declared.route.RouteError.{RouteError}
 use Rattle.soc_http.specs.declared.route.RouteError.TheVariants.{NoRoute, WrongVerb, NoMemory}
 use Rattle.soc_http.specs.declared.verb.Verb.{Verb}
 use Rattle.soc_http.specs.Message.{Message}
-use Rattle.soc_http.specs.Route.{Target, is_verb, route_of, taken_with, target_of}
+use Rattle.soc_http.specs.declared.route.Target.{Target}
+use Rattle.soc_http.specs.Route.{is_verb, route_of, taken_with, target_of}
 use Rattle.soc_forms.proofs.LawLemmas.{one_submission}
 use Rattle.soc_session.specs.declared.rules.Rules.{Rules}
 use Rattle.soc_session.specs.Laws.{IsOnePlan}

@@ -1,7 +1,7 @@
 -- Who asks, by the keys that were brought.
 use Rattle.std.proofs.Common.{◌≡◌, ℕ, ◌≤◌, List, [], ◌∷◌, length, Option, ap, ◌∙◌, arith, slice_get}
 use Rattle.std.specs.Prelude.{IfOk, Result, Ok, Err}
-use Rattle.soc_raw.specs.declared.no_memory.NoMemory.{NoMemory}
+use Rattle.soc_base.specs.declared.no_memory.NoMemory.{NoMemory}
 use Rattle.soc_schema.specs.declared.caller.Caller.{Caller}
 use Rattle.soc_schema.specs.declared.caller.Products.{Products}
 use Rattle.soc_schema.specs.declared.token.Token.{Token}

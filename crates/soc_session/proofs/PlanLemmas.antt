@@ -1,7 +1,7 @@
 -- What messages come to.
 use Rattle.std.proofs.Common.{◌≡◌, ℕ, List, [], ◌∷◌, Option, None, Some, Result, Ok, Err, refl, sym, ap, subst, ◌∙◌}
 use Rattle.std.specs.Prelude.{IfOk}
-use Rattle.soc_raw.specs.declared.no_memory.NoMemory.{NoMemory}
+use Rattle.soc_base.specs.declared.no_memory.NoMemory.{NoMemory}
 use Rattle.soc_edge.specs.Ahead.{Outlook}
 use Rattle.soc_edge.proofs.Ahead.{Hands-none}
 use Rattle.soc_forms.specs.Submissions.{SubmissionText}
@@ -18,7 +18,7 @@ use Rattle.soc_http.specs.declared.route.RouteError.{RouteError}
 use Rattle.soc_http.specs.Message.{Message}
 use Rattle.soc_http.specs.Route.{route_of}
 use Rattle.soc_desk.specs.Commands.{CommandText}
-use Rattle.soc_session.specs.declared.forms.Form.{Form}
+use Rattle.soc_session.specs.declared.forms.ReplyForm.{ReplyForm}
 use Rattle.soc_session.specs.declared.plans.Plan.{Plan as Planned}
 use Rattle.soc_session.specs.declared.rules.Rules.{Rules}
 use Rattle.soc_session.specs.Plan.{Drawn, IsDrawn, Plan, says, asks, about, search_by, tops_by, MayDrawFor, Plans, PlansAt, PlansFor, PlansSubmission, HoldsSubmission, asker_of, plan_of}
@@ -71,18 +71,18 @@ Plans-for rules message drawn plan route asker is who plans =
 
 -- ---- what is asked of one crash
 
-pub about-missing : (found : Option (List ℕ)) (command : List ℕ → CommandText) (form : Form) (result : Result Planned NoMemory) → None ≡ found
+pub about-missing : (found : Option (List ℕ)) (command : List ℕ → CommandText) (form : ReplyForm) (result : Result Planned NoMemory) → None ≡ found
     → IfOk result (λ p. plan_text p ≡ says not_found) → IfOk result (λ p. plan_text p ≡ about found command form)
 about-missing found command form (Ok p) is said = said ∙ ap (λ f. about f command form) is
 about-missing found command form (Err error) is said = tt
 
-pub about-found : (found : Option (List ℕ)) (id : List ℕ) (command : List ℕ → CommandText) (form : Form) (plan : Plan) → Some id ≡ found
+pub about-found : (found : Option (List ℕ)) (id : List ℕ) (command : List ℕ → CommandText) (form : ReplyForm) (plan : Plan) → Some id ≡ found
     → plan ≡ asks (command id) form → plan ≡ about found command form
 about-found found id command form plan is asked = asked ∙ ap (λ f. about f command form) is
 
 -- ---- searches
 
-pub search-refused : (asked : Result Asked QueryError) (form : Form) (error : QueryError) (plan : Plan) → IsRefusal asked error → (error ≡ Q.NoMemory → ⊥)
+pub search-refused : (asked : Result Asked QueryError) (form : ReplyForm) (error : QueryError) (plan : Plan) → IsRefusal asked error → (error ≡ Q.NoMemory → ⊥)
     → plan ≡ says (query_refusal error) → plan ≡ search_by asked form
 search-refused asked form (Q.UnknownField name) plan is other said = said ∙ ap (λ a. search_by a form) (sym is)
 search-refused asked form (Q.NotGranted name permission) plan is other said = said ∙ ap (λ a. search_by a form) (sym is)
@@ -90,7 +90,7 @@ search-refused asked form (Q.BadValue name) plan is other said = said ∙ ap (λ
 search-refused asked form (Q.BadNumber name) plan is other said = said ∙ ap (λ a. search_by a form) (sym is)
 search-refused asked form Q.NoMemory plan is other said = absurd (other refl)
 
-pub tops-refused : (asked : Result TopsQuery TopsError) (form : Form) (error : TopsError) (plan : Plan) → IsTopsRefusal asked error → (error ≡ T.NoMemory → ⊥)
+pub tops-refused : (asked : Result TopsQuery TopsError) (form : ReplyForm) (error : TopsError) (plan : Plan) → IsTopsRefusal asked error → (error ≡ T.NoMemory → ⊥)
     → plan ≡ says (tops_refusal error) → plan ≡ tops_by asked form
 tops-refused asked form (T.BadParameter name) plan is other said = said ∙ ap (λ a. tops_by a form) (sym is)
 tops-refused asked form T.NoMemory plan is other said = absurd (other refl)

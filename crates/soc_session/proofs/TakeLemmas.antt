@@ -3,7 +3,7 @@ use Rattle.std.proofs.Common.{◌≡◌, ℕ, ◌+◌, ◌<◌, ◌≤◌, List,
 use Rattle.std.specs.Prelude.{IfErr, IfOk, OnOk}
 use Rattle.std.specs.Borrow.{Bor}
 use Rattle.soc_edge.specs.Told.{Told}
-use Rattle.soc_raw.specs.declared.no_memory.NoMemory.{NoMemory}
+use Rattle.soc_base.specs.declared.no_memory.NoMemory.{NoMemory}
 use Rattle.soc_edge.proofs.Told.{Reads-append, Reads-none}
 use Rattle.soc_multipart.specs.Readers.{ReaderText, WasFed}
 use Rattle.soc_forms.specs.declared.form_error.FormError.{FormError}

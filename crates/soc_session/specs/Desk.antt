@@ -7,7 +7,7 @@ use Rattle.soc_desk.specs.declared.desk.Command.{Command}
 use Rattle.soc_desk.specs.declared.desk.Receipt.{Receipt}
 use Rattle.soc_desk.specs.Commands.{CommandText, command_text}
 use Rattle.soc_desk.specs.Kinds.{IsReplyTo}
-use Rattle.soc_session.specs.declared.forms.Form.{Form}
+use Rattle.soc_session.specs.declared.forms.ReplyForm.{ReplyForm}
 use Rattle.soc_session.specs.declared.rules.Rules.{Rules}
 use Rattle.soc_session.specs.Plan.{Drawn, Plan, says, asks, Plans, MayDraw}
 use Rattle.soc_session.specs.Replies.{BuildsText, desk_reply, no_memory}
@@ -25,7 +25,7 @@ pub record Exchange : Type 0 where
   pub reply : Answered
 
 -- the desk's reply is answered as it is; a text that is built of it alone, which no change stands behind, memory may want for
-abbrev pub AnswersAsking : CommandText → Form → Asking → Answered → Type 0
+abbrev pub AnswersAsking : CommandText → ReplyForm → Asking → Answered → Type 0
 AnswersAsking command form asking reply =
     (command_text asking.command ≡ command)
     × IsReplyTo asking.command asking.receipt.reply

@@ -7,7 +7,7 @@ use Rattle.soc_query.specs.declared.error.QueryError.TheVariants.{NotGranted}
 use Rattle.soc_http.specs.declared.reply.Kind.TheVariants.{Json, Html}
 use Rattle.soc_desk.specs.declared.desk.Refusal.TheVariants as F
 use Rattle.soc_desk.specs.declared.desk.Reply.TheVariants as D
-use Rattle.soc_session.specs.declared.forms.Form.TheVariants as form
+use Rattle.soc_session.specs.declared.forms.ReplyForm.TheVariants as form
 use Rattle.soc_session.specs.Parameters.{crash_named, dump_named, id_in}
 use Rattle.soc_session.specs.Plan.{about, says}
 use Rattle.soc_session.specs.Replies.{desk_reply, good, not_found, plain, query_refusal}

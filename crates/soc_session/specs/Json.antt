@@ -8,7 +8,7 @@ use Rattle.soc_schema.specs.declared.field.FieldKind.{FieldKind}
 use Rattle.soc_schema.specs.declared.field.FieldKind.TheVariants.{Text, Number, Flag}
 use Rattle.soc_schema.specs.Fields.{FieldEntry, field_table}
 use Rattle.soc_schema.specs.Permits.{holds, permission_name}
-use Rattle.soc_query.specs.Json.{joined}
+use Rattle.soc_schema.specs.Commas.{joined}
 
 -- ---- annotations
 

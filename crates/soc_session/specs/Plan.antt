@@ -30,8 +30,8 @@ use Rattle.soc_http.specs.Query.{query_pairs}
 use Rattle.soc_http.specs.Request.{values_of}
 use Rattle.soc_http.specs.Route.{route_of}
 use Rattle.soc_desk.specs.Commands.{CommandText, to_submit, to_prioritise, to_reprocess, to_withdraw, to_show_raw, to_show_report, to_show_dump, to_search, to_show_tops, to_turn, to_drain, to_stop}
-use Rattle.soc_session.specs.declared.forms.Form.{Form}
-use Rattle.soc_session.specs.declared.forms.Form.TheVariants as form
+use Rattle.soc_session.specs.declared.forms.ReplyForm.{ReplyForm}
+use Rattle.soc_session.specs.declared.forms.ReplyForm.TheVariants as form
 use Rattle.soc_session.specs.declared.rules.Rules.{Rules}
 use Rattle.soc_session.specs.Json.{fields_json}
 use Rattle.soc_session.specs.Lines.{caller_by_keys}
@@ -59,7 +59,7 @@ pub data Plan : Type 0 where
   -- a reply without the desk
   says : Answered → Plan
   -- what the desk is asked, and how its reply is written
-  asks : CommandText → Form → Plan
+  asks : CommandText → ReplyForm → Plan
 
 -- ---- submissions
 
@@ -115,7 +115,7 @@ PlansSubmission rules message (_ ∷ _ ∷ _) plan = ⊥
 -- ---- the other routes, which draw nothing
 
 -- what is asked of the crash that a parameter names; without an id there is nothing to ask
-abbrev pub about : Option (List ℕ) → (List ℕ → CommandText) → Form → Plan
+abbrev pub about : Option (List ℕ) → (List ℕ → CommandText) → ReplyForm → Plan
 about None command written = says not_found
 about (Some id) command written = asks (command id) written
 
@@ -137,11 +137,11 @@ abbrev pub page_of : Caller → Option (List ℕ) → Plan
 page_of caller None = says not_found
 page_of caller (Some id) = asks (to_show_report caller id) (form.Report id)
 
-abbrev pub search_by : Result Asked QueryError → Form → Plan
+abbrev pub search_by : Result Asked QueryError → ReplyForm → Plan
 search_by (Ok query) written = asks (to_search query) written
 search_by (Err error) written = says (query_refusal error)
 
-abbrev pub tops_by : Result TopsQuery TopsError → Form → Plan
+abbrev pub tops_by : Result TopsQuery TopsError → ReplyForm → Plan
 tops_by (Ok query) written = asks (to_show_tops query) written
 tops_by (Err error) written = says (tops_refusal error)
 

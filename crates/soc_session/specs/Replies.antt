@@ -25,8 +25,8 @@ use Rattle.soc_desk.specs.declared.desk.Refusal.{Refusal}
 use Rattle.soc_desk.specs.declared.desk.Refusal.TheVariants as R
 use Rattle.soc_desk.specs.declared.desk.Reply.{Reply}
 use Rattle.soc_desk.specs.declared.desk.Reply.TheVariants as D
-use Rattle.soc_session.specs.declared.forms.Form.{Form}
-use Rattle.soc_session.specs.declared.forms.Form.TheVariants as form
+use Rattle.soc_session.specs.declared.forms.ReplyForm.{ReplyForm}
+use Rattle.soc_session.specs.declared.forms.ReplyForm.TheVariants as form
 use Rattle.soc_session.specs.Json.{annotations_json, asked_json, drained_json, turned_json, withdrawn_json}
 
 -- ---- their forms
@@ -95,11 +95,11 @@ tops_refusal T.NoMemory = no_memory
 -- ---- the desk's
 
 -- a journal that has no room: a submission isn't kept
-abbrev pub journal_full : Form → Answered
+abbrev pub journal_full : ReplyForm → Answered
 journal_full form.Submission = discarded 507 (codes "journal_full")
 journal_full _ = plain 507 (codes "journal_full")
 
-abbrev pub desk_refusal : Form → Refusal → Answered
+abbrev pub desk_refusal : ReplyForm → Refusal → Answered
 desk_refusal written R.StoreFault = plain 503 (codes "store_fault")
 desk_refusal written R.JournalFull = journal_full written
 desk_refusal written (R.OtherContent id) = discarded 409 (codes "other_crash_has_this_id")
@@ -115,20 +115,20 @@ desk_refusal written R.NoMemory = no_memory
 abbrev pub kept : List ℕ → Answered
 kept id = plain 200 (codes "CrashID=bp-" ++ id)
 
-abbrev pub row_reply : Form → List Cell → Answered
+abbrev pub row_reply : ReplyForm → List Cell → Answered
 row_reply (form.Report id) row = good Html (report_page id row)
 row_reply _ row = good Json (row_json row)
 
-abbrev pub found_reply : Form → Answer → Answered
+abbrev pub found_reply : ReplyForm → Answer → Answered
 found_reply form.Page answer = good Html (search_page answer)
 found_reply _ answer = good Json (answer_json answer)
 
-abbrev pub tops_reply : Form → Tops → Answered
+abbrev pub tops_reply : ReplyForm → Tops → Answered
 tops_reply form.Page tops = good Html (tops_page tops)
 tops_reply _ tops = good Json (tops_json tops)
 
 -- what the desk's reply is answered as; no message asks for what the last three answer
-abbrev pub desk_reply : Form → Reply → Answered
+abbrev pub desk_reply : ReplyForm → Reply → Answered
 desk_reply written (D.Stored id due) = kept id
 desk_reply written (D.Repeated id) = kept id
 desk_reply written (D.Asked asked due) = good Json (asked_json asked)

@@ -9,12 +9,12 @@ use crate::intake::Content;
 use crate::plans::Plan;
 use crate::question::Question;
 use crate::replies::Room;
-use crate::routes::plan_of;
+use crate::routes::finish_plan;
 use crate::rules::Rules;
+use soc_base::NoMemory;
 use soc_desk::Desk;
 use soc_edge::{Clock, Draws};
 use soc_http::Answered;
-use soc_raw::NoMemory;
 use std::alloc::Global;
 
 /// What came of a message.
@@ -43,7 +43,7 @@ pub(crate) fn answer<K: Desk, C: Clock, W: Draws>(
     let Some(content) = content else {
         return Handled::wanting();
     };
-    match plan_of(alloc, rules, content, clock, draws) {
+    match finish_plan(alloc, rules, content, clock, draws) {
         Ok(plan) => carry_out(alloc, desk, plan),
         Err(NoMemory) => Handled::wanting(),
     }

@@ -5,7 +5,7 @@ ghost use Rattle.soc_session.specs.inner.Arrivals.{Arrives, IsSized};
 
 use crate::bodies::take_in;
 use crate::intake::Content;
-use crate::routes::intake_of;
+use crate::routes::look_at_head;
 use crate::rules::Rules;
 use soc_edge::Source;
 use soc_http::{BodyError, Buffer, Head, HeadError, Routes, read_head};
@@ -35,7 +35,7 @@ pub(crate) fn next_message<X: Source>(
     let Some(head) = read_head(alloc, link, buffer)? else {
         return Ok(None);
     };
-    let intake = intake_of(alloc, rules, routes, &head);
+    let intake = look_at_head(alloc, rules, routes, &head);
     match take_in(alloc, link, buffer, &head, intake) {
         Ok(content) => Ok(Some(Incoming {
             head,

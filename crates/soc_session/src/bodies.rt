@@ -8,10 +8,10 @@ use crate::intake::{Content, Intake};
 use crate::plans::Plan;
 use crate::routes::asks::{self, Action};
 use crate::routes::submit;
+use soc_base::NoMemory;
 use soc_edge::Source;
 use soc_forms::{Form, FormError, Submission};
 use soc_http::{BodyError, Buffer, Head, body_piece, pass_over, read_body};
-use soc_raw::NoMemory;
 use soc_schema::Caller;
 use std::alloc::Global;
 
@@ -31,7 +31,7 @@ pub(crate) fn take_in<X: Source>(
     match intake {
         Ok(Intake::Passes(plan)) => {
             pass_over(link, buffer, head.length)?;
-            Ok(Content::Planned(plan))
+            Ok(Content::Decided(plan))
         }
         Ok(Intake::Feeds(form)) => {
             let said = feed(link, buffer, form, head.length)?;
@@ -56,7 +56,7 @@ fn content_of(alloc: Global, said: Result<Submission, FormError>) -> Result<Cont
     match said {
         Ok(said) => Ok(Content::Submitted(said)),
         Err(FormError::Malformed(reason)) => match submit::refuse(alloc, reason) {
-            Ok(plan) => Ok(Content::Planned(plan)),
+            Ok(plan) => Ok(Content::Decided(plan)),
             Err(NoMemory) => Err(BodyError::NoMemory),
         },
         Err(FormError::NoMemory) => Err(BodyError::NoMemory),
@@ -74,7 +74,7 @@ fn collected(
     ensures wanting { IfErr result IsWanting }
 {
     match asks::plan(alloc, action, caller, body) {
-        Ok(plan) => Ok(Content::Planned(plan)),
+        Ok(plan) => Ok(Content::Decided(plan)),
         Err(NoMemory) => Err(BodyError::NoMemory),
     }
 }

@@ -3,7 +3,7 @@ use soc_raw::CrashId;
 
 /// How a desk's reply is written. A refusal is a line of text in each of them.
 #[derive(Clone, Copy, Debug)]
-pub(crate) enum Form {
+pub(crate) enum ReplyForm {
     /// As a line of text, which says of a submission that isn't kept that it is discarded.
     Submission,
     /// As JSON, or as the bytes of a dump.

@@ -3,8 +3,8 @@ ghost use Rattle.soc_session.specs.inner.Passing.{IsPassing};
 
 use crate::plans::Plan;
 use crate::routes::asks::Action;
+use soc_base::NoMemory;
 use soc_forms::{Form, Submission};
-use soc_raw::NoMemory;
 use soc_schema::Caller;
 
 /// How the body behind a head is taken in.
@@ -22,7 +22,7 @@ pub(crate) enum Intake {
 #[derive(Drop)]
 pub(crate) enum Content {
     /// What the message comes to.
-    Planned(Plan),
+    Decided(Plan),
     /// A submission.
     Submitted(Submission),
 }

@@ -2,13 +2,13 @@
 ghost use Rattle.std.specs.Prelude.{◌≡◌, ◌++◌, filter, IfOk, OnOk};
 ghost use Rattle.serde_json.specs.Data.{string};
 ghost use Rattle.serde_json.specs.Written.{compact_text};
-ghost use Rattle.soc_query.specs.Json.{comma_after, joined};
+ghost use Rattle.soc_schema.specs.Commas.{comma_after, joined};
 ghost use Rattle.soc_schema.specs.Fields.{field_entry, field_table};
 ghost use Rattle.soc_schema.specs.Permits.{holds};
 ghost use Rattle.soc_session.specs.Json.{annotation_json, annotations_json, field_json, fields_json, kind_name};
 
 use serde_json::Value as Json;
-use soc_raw::{Bytes, NoMemory, Texts};
+use soc_base::{Bytes, NoMemory, Texts};
 use soc_schema::{Caller, Field, FieldKind, granted};
 use std::alloc::Global;
 

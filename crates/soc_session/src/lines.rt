@@ -4,8 +4,8 @@ ghost use Rattle.soc_http.specs.Request.{values_of};
 ghost use Rattle.soc_session.specs.Lines.{caller_by_keys};
 
 use crate::rules::Rules;
+use soc_base::{NoMemory, Pairs};
 use soc_http::{first_named, is_repeated};
-use soc_raw::{NoMemory, Pairs};
 use soc_schema::Caller;
 use std::alloc::Global;
 

@@ -3,8 +3,9 @@ ghost use Rattle.std.specs.Prelude.{◌≡◌, IfOk, codes};
 ghost use Rattle.soc_http.specs.Query.{query_pairs};
 ghost use Rattle.soc_session.specs.Parameters.{crash_named, dump_named, id_in};
 
+use soc_base::{NoMemory, Pairs};
 use soc_http::{Head, first_value, first_value_in, pairs_of};
-use soc_raw::{CrashId, NoMemory, Pairs};
+use soc_raw::CrashId;
 use std::alloc::Global;
 
 /// The pairs of a target's query.

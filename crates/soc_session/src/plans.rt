@@ -1,10 +1,10 @@
 //! What a message comes to: a reply that needs no desk, or a question for the desk.
-use crate::forms::Form;
+use crate::forms::ReplyForm;
 use crate::question::Question;
 use crate::replies::Room;
+use soc_base::NoMemory;
 use soc_desk::Command;
 use soc_http::Answered;
-use soc_raw::NoMemory;
 use std::alloc::Global;
 
 /// What a message comes to.
@@ -25,7 +25,7 @@ impl Plan {
     ghost use Rattle.soc_session.specs.inner.Plans.{plan_text};
 
     /// Asks the desk.
-    pub(crate) fn asking(command: Command, form: Form) -> Plan
+    pub(crate) fn asking(command: Command, form: ReplyForm) -> Plan
         requires { is_askable command ≡ true }
         ensures { plan_text result ≡ asks (command_text command) form }
     {

@@ -3,14 +3,15 @@ ghost use Rattle.std.specs.Prelude.{◌≡◌, ◌≢◌, ◌+◌, ◌<◌, ◌�
 ghost use Rattle.soc_session.specs.Json.{asked_json, drained_json, turned_json};
 ghost use Rattle.soc_session.specs.Replies.{BuildsText, desk_refusal, desk_reply, found_reply, good, head_refusal, journal_full, kept, malformed, no_memory, plain, query_refusal, rejected, row_reply, tops_refusal, tops_reply, wrong_method};
 
-use crate::forms::Form;
+use crate::forms::ReplyForm;
 use crate::json::annotations_json;
+use soc_base::{Bytes, NoMemory};
 use soc_desk::{Refusal, Reply};
 use soc_forms::Reason;
 use soc_http::{Answered, HeadError, Kind, Verb};
 use soc_pages::{report_page, search_page, tops_page};
 use soc_query::{Answer, QueryError};
-use soc_raw::{Bytes, CrashId, NoMemory};
+use soc_raw::CrashId;
 use soc_schema::{Permission, Row, row_json};
 use soc_tops::{Tops, TopsError};
 use std::alloc::Global;
@@ -146,16 +147,19 @@ impl Room {
         good(Kind::Json, self.of("{\"processed\":", digits, "}"))
     }
 
-    fn journal_full(self, form: Form) -> Answered
+    fn journal_full(self, form: ReplyForm) -> Answered
         ensures { result ≡ journal_full form }
     {
         match form {
-            Form::Submission => self.line(507, "Discarded=journal_full"),
-            Form::Data | Form::Page | Form::Report(_) => self.line(507, "journal_full"),
+            ReplyForm::Submission => self.line(507, "Discarded=journal_full"),
+            ReplyForm::Data | ReplyForm::Page | ReplyForm::Report(_) => self.line(
+                507,
+                "journal_full",
+            ),
         }
     }
 
-    fn desk_refusal(self, form: Form, refusal: Refusal) -> Answered
+    fn desk_refusal(self, form: ReplyForm, refusal: Refusal) -> Answered
         ensures { result ≡ desk_refusal form refusal }
     {
         match refusal {
@@ -176,7 +180,7 @@ impl Room {
     pub(crate) fn desk_reply(
         self,
         alloc: Global,
-        form: Form,
+        form: ReplyForm,
         reply: Reply,
     ) -> Result<Answered, NoMemory>
         ensures ok { IfOk result (λ answered. answered ≡ desk_reply form reply) }
@@ -215,34 +219,40 @@ pub(crate) fn good(kind: Kind, body: Bytes) -> Answered
 }
 
 /// A report, as a page or as JSON.
-fn row_reply(alloc: Global, form: Form, row: &Row) -> Result<Answered, NoMemory>
+fn row_reply(alloc: Global, form: ReplyForm, row: &Row) -> Result<Answered, NoMemory>
     ensures { IfOk result (λ answered. answered ≡ row_reply form row.now) }
 {
     match form {
-        Form::Report(id) => Ok(good(Kind::Html, report_page(alloc, id, row)?)),
-        Form::Submission | Form::Data | Form::Page => Ok(good(Kind::Json, row_json(alloc, row)?)),
+        ReplyForm::Report(id) => Ok(good(Kind::Html, report_page(alloc, id, row)?)),
+        ReplyForm::Submission | ReplyForm::Data | ReplyForm::Page => Ok(good(
+            Kind::Json,
+            row_json(alloc, row)?,
+        )),
     }
 }
 
 /// What a search found, as a page or as JSON.
-fn found_reply(alloc: Global, form: Form, answer: &Answer) -> Result<Answered, NoMemory>
+fn found_reply(alloc: Global, form: ReplyForm, answer: &Answer) -> Result<Answered, NoMemory>
     ensures { IfOk result (λ answered. answered ≡ found_reply form answer.now) }
 {
     match form {
-        Form::Page => Ok(good(Kind::Html, search_page(alloc, answer)?)),
-        Form::Submission | Form::Data | Form::Report(_) => {
+        ReplyForm::Page => Ok(good(Kind::Html, search_page(alloc, answer)?)),
+        ReplyForm::Submission | ReplyForm::Data | ReplyForm::Report(_) => {
             Ok(good(Kind::Json, answer.json(alloc)?))
         }
     }
 }
 
 /// Top crashers, as a page or as JSON.
-fn tops_reply(alloc: Global, form: Form, tops: &Tops) -> Result<Answered, NoMemory>
+fn tops_reply(alloc: Global, form: ReplyForm, tops: &Tops) -> Result<Answered, NoMemory>
     ensures { IfOk result (λ answered. answered ≡ tops_reply form tops.now) }
 {
     match form {
-        Form::Page => Ok(good(Kind::Html, tops_page(alloc, tops)?)),
-        Form::Submission | Form::Data | Form::Report(_) => Ok(good(Kind::Json, tops.json(alloc)?)),
+        ReplyForm::Page => Ok(good(Kind::Html, tops_page(alloc, tops)?)),
+        ReplyForm::Submission | ReplyForm::Data | ReplyForm::Report(_) => Ok(good(
+            Kind::Json,
+            tops.json(alloc)?,
+        )),
     }
 }
 

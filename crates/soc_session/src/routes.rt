@@ -15,20 +15,20 @@ mod search;
 pub(crate) mod submit;
 
 use self::asks::Action;
-use crate::forms::Form;
+use crate::forms::ReplyForm;
 use crate::intake::{Content, Intake, passing};
 use crate::lines::asker;
 use crate::plans::Plan;
 use crate::replies::Room;
 use crate::rules::Rules;
+use soc_base::NoMemory;
 use soc_edge::{Clock, Draws};
 use soc_http::{Head, Route, RouteError, Routes};
-use soc_raw::NoMemory;
 use soc_schema::Caller;
 use std::alloc::Global;
 
 /// How the body behind a head is taken in.
-pub(crate) fn intake_of(
+pub(crate) fn look_at_head(
     alloc: Global,
     rules: &Rules,
     routes: &Routes,
@@ -47,11 +47,16 @@ pub(crate) fn intake_of(
     let Some(caller) = asker(alloc, rules, &head.lines)? else {
         return passing(Plan::line(alloc, 403, "unknown token"));
     };
-    intake_at(alloc, route, caller, head)
+    look_at_route(alloc, route, caller, head)
 }
 
 /// How the body behind a known caller's head is taken in at its route.
-fn intake_at(alloc: Global, route: Route, caller: Caller, head: &Head) -> Result<Intake, NoMemory>
+fn look_at_route(
+    alloc: Global,
+    route: Route,
+    caller: Caller,
+    head: &Head,
+) -> Result<Intake, NoMemory>
     ensures { AwaitsAt route caller head.now result }
 {
     match route {
@@ -59,7 +64,7 @@ fn intake_at(alloc: Global, route: Route, caller: Caller, head: &Head) -> Result
         Route::RawCrash => passing(crashes::annotations(alloc, head, caller)),
         Route::RawDump => passing(crashes::dump(alloc, head, caller)),
         Route::ProcessedCrash => passing(crashes::report(alloc, head, caller)),
-        Route::SuperSearch => passing(search::reports(alloc, head, caller, Form::Data)),
+        Route::SuperSearch => passing(search::reports(alloc, head, caller, ReplyForm::Data)),
         Route::SuperSearchFields => passing(search::fields(alloc, &caller)),
         Route::Reprocessing => Ok(Intake::Collects {
             action: Action::Reprocess,
@@ -73,18 +78,18 @@ fn intake_at(alloc: Global, route: Route, caller: Caller, head: &Head) -> Result
             action: Action::Withdraw,
             caller,
         }),
-        Route::Tops => passing(search::tops(alloc, head, caller, Form::Data)),
+        Route::Tops => passing(search::tops(alloc, head, caller, ReplyForm::Data)),
         Route::Turn => Ok(Intake::Passes(control::turn(caller))),
         Route::Drain => Ok(Intake::Passes(control::drain(caller))),
         Route::Stop => Ok(Intake::Passes(control::stop(caller))),
         Route::Report(id) => passing(pages::report(alloc, id.as_str(), caller)),
-        Route::Search => passing(search::reports(alloc, head, caller, Form::Page)),
-        Route::TopsPage => passing(search::tops(alloc, head, caller, Form::Page)),
+        Route::Search => passing(search::reports(alloc, head, caller, ReplyForm::Page)),
+        Route::TopsPage => passing(search::tops(alloc, head, caller, ReplyForm::Page)),
     }
 }
 
 /// What a message comes to. A submission takes its draws even where memory wants for its plan.
-pub(crate) fn plan_of<C: Clock, W: Draws>(
+pub(crate) fn finish_plan<C: Clock, W: Draws>(
     alloc: Global,
     rules: &Rules,
     content: Content,
@@ -97,7 +102,7 @@ pub(crate) fn plan_of<C: Clock, W: Draws>(
         (outlook (C.told clock.new) (W.told draws.new)) result }
 {
     match content {
-        Content::Planned(plan) => Ok(plan),
+        Content::Decided(plan) => Ok(plan),
         Content::Submitted(said) => submit::plan(alloc, rules, said, clock, draws),
     }
 }

@@ -5,14 +5,13 @@ mod booth;
 
 use self::booth::Booth;
 use crate::expect::{holds, same};
+use soc_base::Bytes;
 use soc_collect::*;
 use soc_edge::{BytesList, Ids16, MemClock, MemDraws, Numbers};
 use soc_http::{Buffer, Routes};
 use soc_listen::{Listener, MemConn, MemListener};
-use soc_raw::Bytes;
 use soc_schema::{Products, Tokens};
 use soc_session::{Rules, SessionEnd};
-use soc_shared::{Door, Naming, Ticket};
 use soc_throttle::RuleSet;
 use std::alloc::Global;
 use std::marker::Brand;

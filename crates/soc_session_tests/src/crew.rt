@@ -2,13 +2,13 @@
 ghost use Rattle.std.specs.Prelude.{◌<◌, ◌≤◌};
 
 use crate::expect::{holds, same};
+use soc_base::{Bytes, NoMemory};
 use soc_collect::Tally;
 use soc_crew::*;
 use soc_desk::Limits;
 use soc_edge::{BytesList, Ids16, MemClock, MemDisk, MemDraws, Numbers};
 use soc_http::Routes;
 use soc_listen::{MemConn, MemListener};
-use soc_raw::{Bytes, NoMemory};
 use soc_schema::{Bare, Products, Tokens};
 use soc_service::OpenGate;
 use soc_session::Rules;
@@ -126,9 +126,9 @@ fn served_over<'a, R: Threads + Wait + Sync>(
     };
     let mut served = Tally::new();
     let CrewEnd {
-        book: _book,
         listener,
         failed,
+        ..
     } = serve_together(
         rt,
         alloc,

@@ -1,21 +1,11 @@
 //! What tests expect. A test that calls these owns nothing where an expectation fails, which makes its proof several times
 //! cheaper than one with the assertions in it.
-use std::fmt::{Debug, Display};
+use std::fmt::Debug;
 use std::process::Abort;
 
 /// The two are equal.
 pub(crate) fn same<T: PartialEq + Debug + Drop>(rt: &impl Abort, found: T, want: T) {
     assert_eq!(rt; found, want);
-}
-
-/// The two are equal, at a place that is told where they aren't.
-pub(crate) fn same_at<P: Display + Drop, T: PartialEq + Debug + Drop>(
-    rt: &impl Abort,
-    place: P,
-    found: T,
-    want: T,
-) {
-    assert_eq!(rt; found, want, "at {place}");
 }
 
 /// It holds.

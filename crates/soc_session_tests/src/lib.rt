@@ -1,4 +1,4 @@
-//! Tests of sessions, of what serves them and what they serve, and of the texts that the program reads.
+//! Tests of what serves sessions: listeners, collectors and crews.
 #![tactic(auto)]
 
 #[cfg(test)]
@@ -10,14 +10,4 @@ mod expect;
 #[cfg(test)]
 mod listen;
 #[cfg(test)]
-mod pages;
-#[cfg(test)]
-mod serve;
-#[cfg(test)]
-mod session;
-#[cfg(test)]
 mod shared;
-#[cfg(test)]
-mod throttle;
-#[cfg(test)]
-mod words;

@@ -2,9 +2,9 @@
 ghost use Rattle.std.specs.Prelude.{◌≡◌, IfOk};
 
 use crate::expect::{holds, same};
+use soc_base::{Bytes, NoMemory};
 use soc_edge::{BytesList, Failed, Numbers, Sink, Source};
 use soc_listen::{Conn, Listener, MemListener};
-use soc_raw::{Bytes, NoMemory};
 use std::alloc::Global;
 use std::test::Fail;
 use std::thread;

@@ -2,10 +2,11 @@
 ghost use Rattle.std.specs.Prelude.{◌≡◌, ◌+◌, vec_len};
 
 use crate::expect::{holds, same};
+use soc_base::{Bytes, NoMemory};
+use soc_collect::{Door, Naming, SharedClock, SharedDraws, Ticket};
+use soc_crew::side_by_side;
 use soc_edge::{BytesList, Clock, Draws, Ids16, MemClock, MemDraws, Numbers};
 use soc_listen::{Listener, MemListener};
-use soc_raw::{Bytes, NoMemory};
-use soc_shared::{Door, Naming, SharedClock, SharedDraws, Ticket, side_by_side};
 use std::alloc::Global;
 use std::marker::Brand;
 use std::sync::ledger::{Blank, Ledger};

@@ -21,7 +21,8 @@ use Rattle.std.specs.Map.{keys_of}
 use Rattle.std.specs.Ordering.{match_ordering, is_eq}
 use Rattle.std.proofs.lemmas.Map.Text.{is_eq-slice_cmp}
 use Rattle.std.proofs.lemmas.Slice.Eq.{bytes_eq-Decides}
-use Rattle.soc_raw.specs.Names.{byte_cmp, IsRising, with_value}
+use Rattle.soc_base.proofs.Folk.{or_false, or_second, or_assoc}
+use Rattle.soc_base.specs.Names.{byte_cmp, IsRising, with_value}
 use Rattle.soc_siglists.specs.Lists.{matches_one}
 use Rattle.soc_siglists.specs.Patterns.{matches_start}
 use Rattle.soc_siglists.specs.inner.Leads.{IsLedBy}
@@ -112,14 +113,6 @@ behind_through frame first second h k = true_from_ne_false _ (λ l. true≢false
 
 -- ---- tables
 
-or_false : (b : Bool) → (b || false) ≡ b
-or_false true = refl
-or_false false = refl
-
-or_true : (b c : Bool) → c ≡ true → (b || c) ≡ true
-or_true true c e = refl
-or_true false c e = e
-
 -- the text begins with the last one
 abbrev pub begins_with_last : List (List ℕ) → List ℕ → Bool
 begins_with_last texts text = option_map_or (begins_with text) (slice_get texts (length texts - 1)) false
@@ -146,7 +139,7 @@ covered texts text covers frame = by (length texts) refl
     by : (n : ℕ) → length texts ≡ n → begins_with_one texts frame ≡ (begins_with_one texts frame || begins_with frame text)
     by zero e = absurd (true≢false (sym covers ∙ none_last texts text e))
     by (suc n) e = elim (cases_Bool (begins_with frame text)) [
-      | inl h ↦ yes n e h ∙ sym (or_true (begins_with_one texts frame) (begins_with frame text) h)
+      | inl h ↦ yes n e h ∙ sym (or_second (begins_with_one texts frame) (begins_with frame text) h)
       | inr h ↦ sym (ap (λ b. begins_with_one texts frame || b) h ∙ or_false (begins_with_one texts frame))
     ]
 
@@ -246,10 +239,6 @@ up_to_here texts frame middle text apart inside is up_to k d from within =
     ]
 
 -- ---- names in order
-
-or_assoc : (a b c : Bool) → ((a || b) || c) ≡ (a || (b || c))
-or_assoc true b c = refl
-or_assoc false b c = refl
 
 or_swap : (a b c : Bool) → (a || (b || c)) ≡ ((a || b) || c)
 or_swap a b c = sym (or_assoc a b c)

@@ -5,3 +5,4 @@ pub mod LineLemmas
 pub mod FileLemmas
 pub mod FrameLemmas
 pub mod Fronts
+pub mod Crossing

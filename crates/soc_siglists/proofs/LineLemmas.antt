@@ -7,22 +7,19 @@ use Rattle.std.proofs.lemmas.List.{drop_all, take_all}
 use Rattle.std.proofs.lemmas.List.Splits.{slice_split_first, slice_split_none}
 use Rattle.std.proofs.lemmas.List.Sums.{position_or_len_is, prefix_len_passes}
 use Rattle.memchr.specs.Find.{Passes, Nowhere, NoneBefore, is_byte}
+use Rattle.soc_base.proofs.Folk.{not_true}
 use Rattle.soc_siglists.specs.Entries.{is_line_feed, text_of, is_entry, entries_from}
-
-not_passing : (b : Bool) → ¬ (b ≡ true) → b ≡ false
-not_passing true h = absurd (h refl)
-not_passing false h = refl
 
 -- where the search found a line feed, or found none
 pub found_at : (bytes : List ℕ) (end : ℕ) → NoneBefore (Passes (is_byte 10) bytes) 0 (length bytes) end × Passes (is_byte 10) bytes end
     → position_or_len is_line_feed bytes ≡ end
 found_at bytes end found =
     let inside : end < length bytes = found.0.high in
-    position_or_len_is is_line_feed bytes end 0 (omega arith) (λ k below. not_passing _ (found.0.before k (omega arith) below)) (λ _. found.1)
+    position_or_len_is is_line_feed bytes end 0 (omega arith) (λ k below. not_true _ (found.0.before k (omega arith) below)) (λ _. found.1)
 
 pub found_nowhere : (bytes : List ℕ) → Nowhere (Passes (is_byte 10) bytes) 0 (length bytes) → position_or_len is_line_feed bytes ≡ length bytes
 found_nowhere bytes none =
-    position_or_len_is is_line_feed bytes (length bytes) 0 (omega arith) (λ k below. not_passing _ (none k (omega arith) below)) (λ within. absurd (omega arith))
+    position_or_len_is is_line_feed bytes (length bytes) 0 (omega arith) (λ k below. not_true _ (none k (omega arith) below)) (λ within. absurd (omega arith))
 
 -- the entry that a line is, if it is one
 abbrev pub entries_of_line : ℕ → List ℕ → List (ℕ × List ℕ)
@@ -42,12 +39,12 @@ from_first number line parts = first_of (is_entry (text_of line)) (number, text_
 pub entries_from-nil : (number : ℕ) → entries_from number [] ≡ []
 entries_from-nil number = refl
 
-not_true : (b : Bool) → not b ≡ true → b ≡ false
-not_true true e = absurd (true≢false (sym e))
-not_true false e = refl
+not_is_false : (b : Bool) → not b ≡ true → b ≡ false
+not_is_false true e = absurd (true≢false (sym e))
+not_is_false false e = refl
 
 position_all : (p : ℕ → Bool) (xs : List ℕ) → length xs ≤ position_or_len p xs → (k d : ℕ) → k < length xs → p (get_or xs k d) ≡ false
-position_all p xs all k d inside = not_true _ (prefix_len_passes (λ x. not (p x)) xs k d (omega arith))
+position_all p xs all k d inside = not_is_false _ (prefix_len_passes (λ x. not (p x)) xs k d (omega arith))
 
 pub entries_from-line : (number : ℕ) (bytes : List ℕ)
     → entries_from number bytes ≡ entries_of_line number (before_first is_line_feed bytes) ++ entries_from (number + 1) (after_first is_line_feed bytes)

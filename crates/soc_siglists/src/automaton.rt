@@ -9,7 +9,7 @@ use regex_compile::{Error, compile};
 use regex_nfa::Nfa;
 use regex_syntax::Parsed;
 use regex_vm::Backtracker;
-use soc_raw::NoMemory;
+use soc_base::NoMemory;
 use std::alloc::Global;
 
 /// The most bytes that an automaton's states and transitions may take.

@@ -3,7 +3,7 @@ ghost use Rattle.std.specs.Prelude.{◌≡◌, map, IfOk};
 ghost use Rattle.soc_siglists.specs.Reading.{patterns_in};
 
 use crate::lines::{is_entry, split_line, text_of};
-use soc_raw::NoMemory;
+use soc_base::NoMemory;
 use std::alloc::Global;
 
 /// The texts of a list file: its lines without the spaces, tabs and carriage returns at their ends, but for empty ones

@@ -2,7 +2,7 @@
 ghost use Rattle.std.specs.Prelude.{◌≡◌};
 ghost use Rattle.soc_siglists.specs.declared.error.ListError.TheVariants.{NoMemory as WantsMemory};
 
-use soc_raw::NoMemory;
+use soc_base::NoMemory;
 use std::alloc::{AllocError, AllocFailed};
 use thiserror::Error;
 

@@ -8,16 +8,14 @@ ghost use Rattle.soc_siglists.specs.Makers.{IsMade, after_make};
 use crate::maker::{MakeError, Maker};
 use crate::regex_maker::make_regex;
 use regex::Regex;
-use soc_edge::Numbers;
+use soc_edge::{CallCount, CountsFaults, Numbers};
 use std::alloc::Global;
 use std::marker::Model;
 
 /// Makes what `RegexMaker` makes, but for the calls with the numbers that it was given, which fail.
 #[derive(Drop)]
 pub struct FailingMaker {
-    fails: Numbers,
-    made: u64,
-    failed: u64,
+    calls: CallCount,
 }
 
 impl Model for FailingMaker {
@@ -25,7 +23,7 @@ impl Model for FailingMaker {
 
     ghost Value = { Calls };
 
-    ghost view = { λ m. record { fails = m.fails; made = m.made; failed = m.failed } };
+    ghost view = { λ m. m.calls };
 }
 
 impl FailingMaker {
@@ -34,9 +32,7 @@ impl FailingMaker {
         ensures { result ≡ no_calls fails }
     {
         FailingMaker {
-            fails,
-            made: 0,
-            failed: 0,
+            calls: CallCount::new(fails),
         }
     }
 
@@ -44,7 +40,7 @@ impl FailingMaker {
     fn is_due(&self) -> bool
         ensures { result ≡ is_due self.now }
     {
-        self.fails.as_slice().contains(&self.made)
+        self.calls.is_due()
     }
 
     /// What the next call answers.
@@ -52,7 +48,8 @@ impl FailingMaker {
         ensures made { IfOk result (IsMade pattern.now) }
         ensures syntax { IsErrOf result MakeError.Syntax → is_pattern pattern.now ≡ false }
         ensures due { IsTrue (is_due self.now) → IsErrOf result MakeError.Failed }
-        ensures fails { IsErrOf result MakeError.Failed → IsTrue (is_due self.now) ⊎ (is_pattern pattern.now ≡ true) }
+        ensures fails { IsErrOf result MakeError.Failed → IsTrue (is_due self.now)
+            ⊎ (is_pattern pattern.now ≡ true) }
     {
         if self.is_due() {
             return Err(MakeError::Failed);
@@ -61,24 +58,29 @@ impl FailingMaker {
     }
 }
 
-impl Maker for FailingMaker {
+impl CountsFaults for FailingMaker {
     ghost faults = { λ m. m.failed };
+}
 
+impl Maker for FailingMaker {
     /// The expression that the text stands for. `Failed` comes where the call is one of those that fail, and for a
     /// pattern that is too big to compile.
     fn make(&mut self, alloc: Global, pattern: &str) -> Result<Regex, MakeError>
         ensures made { IfOk result (IsMade pattern.now) }
         ensures syntax { IsErrOf result MakeError.Syntax → is_pattern pattern.now ≡ false }
         ensures due { IsTrue (is_due self.old) → IsErrOf result MakeError.Failed }
-        ensures fails { IsErrOf result MakeError.Failed → IsTrue (is_due self.old) ⊎ (is_pattern pattern.now ≡ true) }
+        ensures fails { IsErrOf result MakeError.Failed → IsTrue (is_due self.old)
+            ⊎ (is_pattern pattern.now ≡ true) }
         ensures after { self.new ≡ after_make self.old result }
         ensures never_fall { self.old.failed ≤ self.new.failed }
         ensures cause { IsErrOf result MakeError.Failed → Rose self.old.failed self.new.failed }
     {
         let answer = self.answer(alloc, pattern);
-        self.made = self.made.saturating_add(1);
-        if let Err(MakeError::Failed) = &answer {
-            self.failed = self.failed.saturating_add(1);
+        match &answer {
+            Err(MakeError::Failed) => {
+                self.calls.fail();
+            }
+            _ => self.calls.pass(),
         }
         answer
     }

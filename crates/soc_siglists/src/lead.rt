@@ -4,7 +4,7 @@ ghost use Rattle.regex_hir.specs.Meaning.{meaning, cat_all};
 ghost use Rattle.soc_siglists.specs.inner.Leads.{IsOptional, IsFront, Leads};
 
 use regex_hir::Hir;
-use soc_raw::{NoMemory, Text};
+use soc_base::{NoMemory, Text};
 use std::alloc::Global;
 
 /// A text with which each match of a pattern begins.

@@ -7,7 +7,7 @@ use crate::automaton::accepts;
 use crate::pattern::{Pattern, PatternMatcher};
 use regex_nfa::Nfa;
 use regex_vm::Backtracker;
-use soc_raw::{NoMemory, Text};
+use soc_base::{NoMemory, Text};
 use std::alloc::Global;
 use std::marker::Model;
 

@@ -9,7 +9,7 @@ use crate::maker::Maker;
 use crate::matchers::{ListMatchers, first_match};
 use crate::patterns::Patterns;
 use crate::reading::read_list;
-use soc_raw::{NoMemory, TextList};
+use soc_base::{NoMemory, TextList};
 use std::alloc::Global;
 use std::marker::Model;
 
@@ -40,7 +40,8 @@ impl Lists {
     ) -> Result<Lists, ListError>
         ensures reads { Gives result irrelevant.now prefix.now sentinel.now }
         ensures never_fall { P.faults maker.old ≤ P.faults maker.new }
-        ensures cause { IsErrOf result ListError.MakerFault → Rose (P.faults maker.old) (P.faults maker.new) }
+        ensures cause { IsErrOf result ListError.MakerFault
+            → Rose (P.faults maker.old) (P.faults maker.new) }
     {
         let irrelevant = read_list(alloc, maker, ListName::Irrelevant, irrelevant)?;
         let prefix = read_list(alloc, maker, ListName::Prefix, prefix)?;

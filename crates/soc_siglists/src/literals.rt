@@ -3,10 +3,10 @@ ghost use Rattle.std.specs.Prelude.{◌≡◌, ◌≤◌, ℕ, ◌||◌, true, f
 ghost use Rattle.std.specs.List.{All, AllWithin};
 ghost use Rattle.std.specs.Option.{option_map_or};
 ghost use Rattle.std.specs.Ordering.{is_gt};
-ghost use Rattle.soc_raw.specs.Names.{byte_cmp};
+ghost use Rattle.soc_base.specs.Names.{byte_cmp};
 ghost use Rattle.soc_siglists.specs.inner.Literals.{AreApart, IsUpTo, begins_with, begins_with_one};
 
-use soc_raw::{NoMemory, Text};
+use soc_base::{NoMemory, Text};
 use std::alloc::Global;
 use std::marker::Model;
 
@@ -40,7 +40,8 @@ impl Literals {
     /// Adds a text that stands behind the others, unless it begins with one of them.
     pub fn push(&mut self, text: Text) -> Result<(), NoMemory>
         requires { All (IsUpTo text) self.old }
-        ensures begun { OnOk result ((frame : List ℕ) → begins_with_one self.new frame ≡ (begins_with_one self.old frame || begins_with frame text)) }
+        ensures begun { OnOk result ((frame : List ℕ) → begins_with_one self.new frame ≡
+            (begins_with_one self.old frame || begins_with frame text)) }
         ensures up_to { OnOk result (All (IsUpTo text) self.new) }
     {
         if begins_with_last(&self.texts, text.as_str()) {
@@ -61,7 +62,8 @@ impl Literals {
 
 /// Whether the text begins with the last of these.
 fn begins_with_last(texts: &[Text], text: &str) -> bool
-    ensures { result ≡ option_map_or (begins_with text.now) (slice_get texts.now (length texts.now - 1)) false }
+    ensures { result ≡ option_map_or (begins_with text.now)
+        (slice_get texts.now (length texts.now - 1)) false }
 {
     match texts.last() {
         Some(last) => text.as_bytes().starts_with(last.as_str().as_bytes()),
@@ -81,7 +83,8 @@ fn count_to(texts: &[Text], frame: &str) -> usize
     requires { AreApart texts.now }
     ensures bound { result ≤ length texts.now }
     ensures front { AllWithin (IsUpTo frame.now) texts.now 0 result }
-    ensures back { AllWithin (λ text. is_gt (byte_cmp text frame.now) ≡ true) texts.now result (length texts.now) }
+    ensures back { AllWithin (λ text. is_gt (byte_cmp text frame.now) ≡ true) texts.now result
+        (length texts.now) }
 {
     let mut low = 0;
     let mut high = texts.len();

@@ -1,10 +1,11 @@
 //! What makes regular expressions of texts.
-ghost use Rattle.std.specs.Prelude.{◌≡◌, ◌≤◌, ℕ, false, IfOk, IsErrOf};
+ghost use Rattle.std.specs.Prelude.{◌≡◌, ◌≤◌, false, IfOk, IsErrOf};
 ghost use Rattle.soc_edge.specs.Faults.{Rose};
 ghost use Rattle.soc_siglists.specs.Patterns.{is_pattern};
 ghost use Rattle.soc_siglists.specs.Makers.{IsMade};
 
 use regex::Regex;
+use soc_edge::CountsFaults;
 use std::alloc::Global;
 use thiserror::Error;
 
@@ -24,22 +25,18 @@ pub enum MakeError {
 
 /// A maker of regular expressions, in the syntax and with the default options of the crate `regex`. It counts the
 /// refusals that are neither about syntax nor about memory.
-pub trait Maker {
-    /// How often a call has failed.
-    ghost faults: { Self → ℕ };
-
+pub trait Maker: CountsFaults {
     /// The expression that the text stands for.
     fn make(&mut self, alloc: Global, pattern: &str) -> Result<Regex, MakeError>
         ensures made { IfOk result (IsMade pattern.now) }
         ensures syntax { IsErrOf result MakeError.Syntax → is_pattern pattern.now ≡ false }
-        ensures never_fall { faults self.old ≤ faults self.new }
-        ensures cause { IsErrOf result MakeError.Failed → Rose (faults self.old) (faults self.new) };
+        ensures never_fall { Self.faults self.old ≤ Self.faults self.new }
+        ensures cause { IsErrOf result MakeError.Failed
+            → Rose (Self.faults self.old) (Self.faults self.new) };
 }
 
 /// A maker that is lent makes the same.
 impl<M: Maker> Maker for &mut M {
-    ghost faults = { λ m. M.faults m.now };
-
     fn make(&mut self, alloc: Global, pattern: &str) -> Result<Regex, MakeError> {
         (**self).make(alloc, pattern)
     }

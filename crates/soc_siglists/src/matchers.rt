@@ -6,7 +6,7 @@ ghost use Rattle.soc_siglists.specs.Lists.{ListTexts, matches_one, is_irrelevant
 use crate::led::{LedMatcher, LedPattern};
 use crate::patterns::PatternMatchers;
 use regex_vm::Backtracker;
-use soc_raw::{NoMemory, TextList};
+use soc_base::{NoMemory, TextList};
 use std::alloc::Global;
 use std::marker::Model;
 

@@ -13,7 +13,7 @@ use crate::lead::{Lead, lead_of};
 use regex::{Matcher, Regex};
 use regex_nfa::Nfa;
 use regex_syntax::{Config, Parsed, parse};
-use soc_raw::NoMemory;
+use soc_base::NoMemory;
 use std::alloc::Global;
 use std::marker::Model;
 
@@ -52,7 +52,8 @@ impl Pattern {
 
     /// The pattern as a tree.
     fn parsed(&self, alloc: Global) -> Result<Parsed, NoMemory>
-        ensures { IfOk result (λ parsed. Reads default_config self.now parsed.hir (map (option_map string_bytes) parsed.names.items)) }
+        ensures { IfOk result (λ parsed. Reads default_config self.now parsed.hir
+            (map (option_map string_bytes) parsed.names.items)) }
     {
         // the text was read before, so only memory can be wanting
         match parse(alloc, self.made.as_str(), &Config::default()) {

@@ -9,7 +9,7 @@ use crate::literals::Literals;
 use crate::matchers::{matchers_of, matches_one};
 use crate::pattern::Pattern;
 use regex_vm::Backtracker;
-use soc_raw::{NoMemory, Text, Texts};
+use soc_base::{NoMemory, Text, Texts};
 use std::alloc::Global;
 use std::marker::Model;
 
@@ -74,7 +74,8 @@ impl Patterns {
 
 /// Adds a name.
 fn add(alloc: Global, names: &mut Texts, name: Text) -> Result<(), NoMemory>
-    ensures { OnOk result ((frame : List ℕ) → begins_with_one (keys_of names.new) frame ≡ (begins_with_one (keys_of names.old) frame || begins_with frame name)) }
+    ensures { OnOk result ((frame : List ℕ) → begins_with_one (keys_of names.new) frame ≡
+        (begins_with_one (keys_of names.old) frame || begins_with frame name)) }
 {
     names.set(name, Text::of(alloc, "")?)?;
     Ok(())
@@ -82,7 +83,8 @@ fn add(alloc: Global, names: &mut Texts, name: Text) -> Result<(), NoMemory>
 
 /// The names, without those that begin with another.
 fn literals_of(alloc: Global, names: &Texts) -> Result<Literals, NoMemory>
-    ensures { IfOk result (λ literals. (frame : List ℕ) → begins_with_one literals frame ≡ begins_with_one (keys_of names.now) frame) }
+    ensures { IfOk result (λ literals. (frame : List ℕ)
+        → begins_with_one literals frame ≡ begins_with_one (keys_of names.now) frame) }
 {
     let mut literals = Literals::new(alloc);
     for (name, _) in names {

@@ -14,7 +14,8 @@ use std::alloc::Global;
 fn make_pattern<P: Maker>(alloc: Global, maker: &mut P, text: &[u8]) -> Result<Pattern, MakeError>
     ensures made { MakesPattern result text.now }
     ensures never_fall { P.faults maker.old ≤ P.faults maker.new }
-    ensures cause { IsErrOf result MakeError.Failed → Rose (P.faults maker.old) (P.faults maker.new) }
+    ensures cause { IsErrOf result MakeError.Failed → Rose (P.faults maker.old)
+        (P.faults maker.new) }
 {
     let Ok(text) = str::from_utf8(text) else {
         return Err(MakeError::Syntax);
@@ -42,7 +43,8 @@ pub fn read_list<P: Maker>(
     ensures reads { IfOk result (λ patterns. HasPatterns patterns list bytes.now) }
     ensures refuses { IfErr result (λ error. RefusesFile error list bytes.now) }
     ensures never_fall { P.faults maker.old ≤ P.faults maker.new }
-    ensures cause { IsErrOf result ListError.MakerFault → Rose (P.faults maker.old) (P.faults maker.new) }
+    ensures cause { IsErrOf result ListError.MakerFault
+        → Rose (P.faults maker.old) (P.faults maker.new) }
 {
     let mut patterns = Vec::new(alloc);
     let mut line = 1;

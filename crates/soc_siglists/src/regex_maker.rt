@@ -6,6 +6,7 @@ ghost use Rattle.soc_siglists.specs.Makers.{IsMade, counted};
 
 use crate::maker::{MakeError, Maker};
 use regex::{Error, Regex};
+use soc_edge::CountsFaults;
 use std::alloc::Global;
 use std::marker::Model;
 
@@ -48,9 +49,11 @@ impl RegexMaker {
     }
 }
 
-impl Maker for RegexMaker {
+impl CountsFaults for RegexMaker {
     ghost faults = { λ m. m };
+}
 
+impl Maker for RegexMaker {
     /// The expression that the text stands for. `Failed` comes only for a pattern, where it is too big to compile.
     fn make(&mut self, alloc: Global, pattern: &str) -> Result<Regex, MakeError>
         ensures made { IfOk result (IsMade pattern.now) }

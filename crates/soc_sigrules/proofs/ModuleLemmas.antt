@@ -8,6 +8,7 @@ use Rattle.std.proofs.lemmas.Bool.{cases_lt}
 use Rattle.std.proofs.lemmas.Bool.Decides.{nat_tests}
 use Rattle.memchr.specs.Find.{Nowhere, NoneBefore, Passes, is_byte}
 use Rattle.std.proofs.lemmas.List.{get_or_past, drop_more, drop_all, get_or-take, get_or-drop, get_or-map, length-map}
+use Rattle.soc_base.proofs.Folk.{not_true}
 use Rattle.soc_sigrules.specs.Modules.{module_mark, begins_with_mark, mark_place}
 use Rattle.soc_sigrules.specs.inner.Candidates.{mark_from}
 
@@ -68,10 +69,6 @@ mark_boundary frame place is =
     let len = mark_length (drop place frame) is in
     let sign : get_or frame (place + 4) 0 ≡ 64 = sym (get_or-drop place frame 4 0) ∙ mark_sign (drop place frame) is in
     (omega (arith, length-drop place frame), λ _ high. absurd (omega arith))
-
-not_true : (b : Bool) → ¬ (b ≡ true) → b ≡ false
-not_true true h = absurd (h refl)
-not_true false h = refl
 
 -- no mark begins where there is no `@` four bytes on
 unmarked : (frame : List ℕ) (place : ℕ) → ¬ (get_or frame (place + 4) 0 ≡ 64) → begins_with_mark (drop place frame) ≡ false

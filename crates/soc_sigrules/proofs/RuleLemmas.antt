@@ -5,6 +5,7 @@ use Rattle.std.specs.List.{list_all}
 use Rattle.std.specs.Char.{is_ascii_digit, digit_value}
 use Rattle.std.specs.Str.Parse.{AllDigits, digits_value}
 use Rattle.std.proofs.lemmas.Bool.Decides.{nat_tests}
+use Rattle.soc_base.proofs.Folk.{and_parts, from_lt, from_le}
 use Rattle.soc_text.specs.Digits.{IsNumber}
 use Rattle.soc_sigrules.specs.Rules.{is_size, memory_text}
 
@@ -16,16 +17,6 @@ test_digit c test = grind (arith, nat_tests)
 
 and_true : (a b : Bool) → a ≡ true → b ≡ true → (a && b) ≡ true
 and_true a b e f = ap (λ x. x && b) e ∙ f
-
-and_parts : (a b : Bool) → (a && b) ≡ true → (a ≡ true) × (b ≡ true)
-and_parts true b e = (refl, e)
-and_parts false b e = absurd (true≢false (sym e))
-
-from_lt : (m n : ℕ) → nat_lt m n ≡ true → m < n
-from_lt m n test = grind (arith, nat_tests)
-
-from_le : (m n : ℕ) → nat_le m n ≡ true → m ≤ n
-from_le m n test = grind (arith, nat_tests)
 
 digits_pass : (ds : List ℕ) → AllDigits 10 ds → list_all is_ascii_digit ds ≡ true
 digits_pass [] all = refl

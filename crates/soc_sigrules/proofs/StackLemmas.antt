@@ -5,6 +5,7 @@ use Rattle.std.specs.List.{list_all, list_any, last_or, prefix_len, position, po
 use Rattle.std.proofs.lemmas.Bool.Decides.{nat_tests}
 use Rattle.std.proofs.lemmas.List.{map-append, drop-append-le, drop_at}
 use Rattle.std.proofs.lemmas.List.Folds.{list_any-append, position_or_len_push}
+use Rattle.soc_base.proofs.Folk.{or_false}
 use Rattle.soc_siglists.specs.Lists.{ListTexts, is_irrelevant, is_prefix, is_sentinel}
 use Rattle.soc_sigrules.specs.Stacks.{Kept, kept_of, is_text, without_repeats, stack_texts}
 use Rattle.soc_sigrules.specs.inner.Steps.{is_repeated, all_with}
@@ -184,10 +185,6 @@ step : (lists : ListTexts) (texts : List (List ℕ)) (frame : List ℕ)
 step lists texts frame = step-new (list_all (is_prefix lists) texts) (is_irrelevant lists frame || is_repeated (last_or None texts) frame) lists texts frame refl refl
 
 -- ---- from the first sentinel on
-
-pub or_false : (b : Bool) → (b || false) ≡ b
-or_false true = refl
-or_false false = refl
 
 none-cons : (b : Bool) (p : List ℕ → Bool) (x : List ℕ) (xs : List (List ℕ)) → p x ≡ b → (list_any p xs ≡ false → position_or_len p xs ≡ length xs)
     → list_any p (x ∷ xs) ≡ false → position_or_len p (x ∷ xs) ≡ length (x ∷ xs)

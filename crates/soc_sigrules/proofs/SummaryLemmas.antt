@@ -6,6 +6,7 @@ use Rattle.std.specs.Str.{bytes_eq}
 use Rattle.std.proofs.lemmas.Bool.Decides.{nat_tests}
 use Rattle.std.proofs.lemmas.Bool.{eqb-true}
 use Rattle.std.proofs.lemmas.List.{length_push, nil_from_length}
+use Rattle.soc_base.proofs.Folk.{or_true, or_false}
 use Rattle.soc_siglists.specs.Lists.{ListTexts, is_irrelevant, is_prefix, is_sentinel, matches_one}
 use Rattle.soc_sigrules.specs.Chars.{char_count, first_chars, joined}
 use Rattle.soc_sigrules.specs.Stacks.{kept_of, separator, proto_of, stack_texts}
@@ -16,7 +17,7 @@ use Rattle.soc_sigrules.specs.inner.Steps.{all_with, begins_here, ends, is_repea
 use Rattle.soc_sigrules.proofs.CharLemmas.{first_chars-again, first_chars-append}
 use Rattle.soc_sigrules.proofs.FrontLemmas.{state-push}
 use Rattle.soc_sigrules.proofs.JoinLemmas.{push_first, push_later}
-use Rattle.soc_sigrules.proofs.StackLemmas.{stack-push, any-push, or_false}
+use Rattle.soc_sigrules.proofs.StackLemmas.{stack-push, any-push}
 
 proto-push : (frames : List (List ℕ)) (frame : List ℕ) → proto_of (frames ++ frame ∷ []) ≡ proto_with (nat_lt 0 (length frames)) (proto_of frames) frame
 proto-push [] frame = ap (first_chars 2000) (push_first separator [] frame refl)
@@ -71,10 +72,6 @@ frames-push old new frame step lists frames is = step ∙ ap (λ (s : Summary). 
 pub unwatched : (summary : Summary) (is_watchdog : Bool) → false ≡ is_watchdog → summary ≡ record summary { watched = summary.watched || is_watchdog }
 unwatched summary is_watchdog is =
     ap (λ w. record summary { watched = w }) (sym (or_false summary.watched)) ∙ ap (λ t. record summary { watched = summary.watched || t }) is
-
-or_true : (b : Bool) → (b || true) ≡ true
-or_true true = refl
-or_true false = refl
 
 -- the watchdog's frame
 pub watched : (summary : Summary) (is_watchdog : Bool) → true ≡ is_watchdog → record summary { watched = true } ≡ record summary { watched = summary.watched || is_watchdog }

@@ -1,12 +1,19 @@
 -- What a shutdown that hangs says of itself: a JSON text (RFC 8259) with the phase that waits, and what it waits for
 -- (this project's profile, after Firefox's `AsyncShutdownTimeout`).
-use Rattle.std.specs.Prelude.{ℕ, ◌==◌, if◌then◌else◌, List, [], ◌∷◌, ◌++◌, length, codes, Option, Some, unwrap_or}
+use Rattle.std.specs.Prelude.{ℕ, ◌==◌, if◌then◌else◌, List, [], ◌∷◌, ◌++◌, length, codes, nat_le, Option, None, Some, unwrap_or}
 use Rattle.std.specs.Option.{option_or}
 use Rattle.serde_json.specs.Data.{Data, Items, no_items, item}
 use Rattle.serde_json.specs.Find.{get, as_str, as_array}
 use Rattle.serde_json.specs.Read.{read}
-use Rattle.soc_raw.specs.Options.{◌>>=◌}
+use Rattle.soc_base.specs.Options.{◌>>=◌}
 use Rattle.soc_sigrules.specs.Chars.{joined}
+
+-- the most bytes of a text that is read; a longer one counts as no JSON
+abbrev pub json_limit : ℕ
+json_limit = 65_536
+
+abbrev pub json_of : List ℕ → Option Data
+json_of text = if nat_le (length text) json_limit then read text else None
 
 -- the text of an object's member
 abbrev pub text_at : List ℕ → Data → Option (List ℕ)
@@ -38,4 +45,4 @@ described value = do
   Some (phase ++ (codes " | " ++ names_text names))
 
 abbrev pub shutdown_text : List ℕ → List ℕ
-shutdown_text text = codes "AsyncShutdownTimeout | " ++ unwrap_or (read text >>= described) (codes "UNKNOWN")
+shutdown_text text = codes "AsyncShutdownTimeout | " ++ unwrap_or (json_of text >>= described) (codes "UNKNOWN")

@@ -13,7 +13,7 @@ use crate::modules::module_text;
 use crate::proto::Proto;
 use crate::rule::{RULES, Rule};
 use crate::stack::StackTexts;
-use soc_raw::{NoMemory, Text, TextList};
+use soc_base::{NoMemory, Text, TextList};
 use soc_siglists::{ListMatchers, Lists};
 use std::alloc::Global;
 use std::marker::Model;

@@ -3,7 +3,7 @@ ghost use Rattle.std.specs.Prelude.{◌≡◌, ◌≤◌, true, false, length, t
 ghost use Rattle.std.specs.Str.{IsCharBoundary};
 ghost use Rattle.soc_sigrules.specs.Chars.{begins_char, char_count, first_chars, is_longer, at_most, cut};
 
-use soc_raw::{NoMemory, Text};
+use soc_base::{NoMemory, Text};
 use std::alloc::Global;
 
 /// What ends a text that was cut.

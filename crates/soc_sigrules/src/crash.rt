@@ -1,6 +1,6 @@
 //! What rules look at, and what they leave.
 use crate::input::SigInput;
-use soc_raw::{Text, TextList};
+use soc_base::{Text, TextList};
 
 /// What rules look at, besides the text so far.
 #[derive(Clone, Copy)]

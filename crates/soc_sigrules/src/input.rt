@@ -1,5 +1,5 @@
 //! What a signature is made of, and what it is.
-use soc_raw::{Text, TextList};
+use soc_base::{Text, TextList};
 
 /// What a signature is made of.
 #[derive(Debug, Drop)]

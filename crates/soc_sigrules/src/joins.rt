@@ -2,7 +2,7 @@
 ghost use Rattle.std.specs.Prelude.{◌≡◌, IfOk};
 ghost use Rattle.soc_sigrules.specs.Chars.{joined};
 
-use soc_raw::{NoMemory, Text, TextList};
+use soc_base::{NoMemory, Text, TextList};
 use std::alloc::Global;
 
 /// The texts, with the separator between each and the next.

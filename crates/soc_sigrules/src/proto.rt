@@ -5,7 +5,7 @@ ghost use Rattle.soc_sigrules.specs.inner.Steps.{proto_with};
 
 use crate::short::Short;
 use crate::stack::SEPARATOR;
-use soc_raw::{NoMemory, Text};
+use soc_base::{NoMemory, Text};
 use std::alloc::Global;
 use std::marker::Model;
 

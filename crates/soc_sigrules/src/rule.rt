@@ -4,7 +4,7 @@ ghost use Rattle.soc_sigrules.specs.Rules.{apply, note_of};
 
 use crate::crash::Crash;
 use crate::rules;
-use soc_raw::{NoMemory, Text};
+use soc_base::{NoMemory, Text};
 use std::alloc::Global;
 
 /// A rule: from the crash and the text so far to a new text, where it applies.

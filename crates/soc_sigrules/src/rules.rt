@@ -7,7 +7,7 @@ use crate::chars::{at_most, cut as cut_text, first_chars, is_longer};
 use crate::crash::Crash;
 use crate::shutdown::shutdown_text;
 use crate::spaces::spaced;
-use soc_raw::{NoMemory, Text};
+use soc_base::{NoMemory, Text};
 use soc_text::number;
 use std::alloc::Global;
 

@@ -3,7 +3,7 @@ ghost use Rattle.std.specs.Prelude.{◌≡◌, ◌==◌, ◌++◌, [], length, O
 ghost use Rattle.soc_sigrules.specs.Chars.{first_chars, char_count};
 
 use crate::chars::{char_count, first_chars};
-use soc_raw::{NoMemory, Text};
+use soc_base::{NoMemory, Text};
 use std::alloc::Global;
 use std::marker::Model;
 

@@ -1,16 +1,18 @@
 //! What a shutdown that hangs says of itself.
 ghost use Rattle.std.specs.Prelude.{◌≡◌, IfOk, option_map};
-ghost use Rattle.serde_json.specs.Read.{read};
 ghost use Rattle.serde_json.specs.View.{view, items_view};
-ghost use Rattle.soc_sigrules.specs.Shutdown.{text_at, conditions_of, name_of, names_of, names_text, described, shutdown_text};
+ghost use Rattle.soc_sigrules.specs.Shutdown.{json_of, text_at, conditions_of, name_of, names_of, names_text, described, shutdown_text};
 
 use crate::joins::join;
 use serde_json::Value;
-use soc_raw::{NoMemory, Text, TextList};
+use soc_base::{NoMemory, Text, TextList};
 use std::alloc::Global;
 
 /// What every such text begins with.
 const FRONT: &str = "AsyncShutdownTimeout | ";
+
+/// The most bytes of a text that is read.
+const JSON_LIMIT: usize = 65_536;
 
 const UNKNOWN: &str = "UNKNOWN";
 
@@ -85,10 +87,13 @@ fn described(alloc: Global, value: &Value) -> Result<Option<Text>, NoMemory>
     Ok(Some(Text::from(format!(in alloc; "{phase} | {names}")?)))
 }
 
-/// The value that the text stands for in JSON.
+/// The value that the text stands for in JSON, where it isn't too long.
 fn read_json(alloc: Global, text: &str) -> Result<Option<Value>, NoMemory>
-    ensures { IfOk result (λ value. option_map view value ≡ read text.now) }
+    ensures { IfOk result (λ value. option_map view value ≡ json_of text.now) }
 {
+    if text.len() > JSON_LIMIT {
+        return Ok(None);
+    }
     match Value::from_str(alloc, text) {
         Ok(value) => Ok(Some(value)),
         Err(error) => {

@@ -4,7 +4,7 @@ ghost use Rattle.std.specs.List.{prefix_len, position_or_len};
 ghost use Rattle.soc_sigrules.specs.Spaces.{is_gap, words, spaced};
 ghost use Rattle.soc_sigrules.specs.inner.Words.{IsFirstWord};
 
-use soc_raw::{NoMemory, Text};
+use soc_base::{NoMemory, Text};
 use soc_text::is_blank;
 use std::alloc::Global;
 

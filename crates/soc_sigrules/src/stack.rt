@@ -6,7 +6,7 @@ ghost use Rattle.soc_sigrules.specs.inner.Fronts.{no_texts, with_word, with_word
 
 use crate::short::Short;
 use crate::spaces::{SPACE, next_word};
-use soc_raw::{NoMemory, Text};
+use soc_base::{NoMemory, Text};
 use std::alloc::Global;
 use std::marker::Model;
 

@@ -7,7 +7,7 @@ use Rattle.soc_cfi.specs.Postfix.{rule_value}
 use Rattle.soc_cfi.specs.Rules.{Rule, rule_of}
 use Rattle.soc_frames.specs.declared.frame.Trust.{Trust}
 use Rattle.soc_frames.specs.declared.frame.Trust.TheVariants.{Cfi, FramePointer, Scan}
-use Rattle.soc_raw.specs.Options.{◌>>=◌}
+use Rattle.soc_base.specs.Options.{◌>>=◌}
 use Rattle.soc_step.specs.declared.step.Caller.{Caller}
 use Rattle.soc_step.specs.declared.cfi.Pointers.{Pointers}
 use Rattle.soc_step.specs.Machine.{Machine, Register, Registers, Values, behind, bytes_of, is_kept, value_at, value_of, values_by}

@@ -10,7 +10,7 @@ use Rattle.soc_store.specs.inner.Postings.{uncounted, one_less, AreCounts}
 use Rattle.std.specs.List.{AllByRecursion}
 use Rattle.std.specs.Option.{IfSome}
 use Rattle.std.proofs.lemmas.Bool.{lt-ltb, le-ltb, cond_both}
-use Rattle.soc_store.specs.Tables.{Rising, FindsKey}
+use Rattle.soc_schema.specs.Tables.{Rising, FindsKey}
 use Rattle.soc_store.specs.declared.counts.ProductCount.{ProductCount}
 use Rattle.soc_store.proofs.Tables.{alter_found, alter_gap, rising_alter, alter_commutes, prune-alter, prune_shrinks, prune_goes, prune_gap, rising_prune, all_made}
 use Rattle.soc_store.proofs.OrderLemmas.{product_total, product_exact}

@@ -8,13 +8,15 @@ use Rattle.std.specs.declared.cmp.Ordering.TheVariants.{Less, Equal, Greater}
 use Rattle.std.specs.Ordering.{match_ordering, ordering_reverse, is_eq}
 use Rattle.std.proofs.lemmas.Bool.{cond_both}
 use Rattle.std.proofs.lemmas.Cmp.{tied_itself}
+use Rattle.soc_base.proofs.Folk.{equal_from, or_second}
 use Rattle.soc_schema.specs.declared.value.Value.{Value}
 use Rattle.soc_schema.specs.declared.value.Cell.{Cell}
 use Rattle.soc_schema.specs.Rows.{value_of}
-use Rattle.soc_store.specs.Orders.{value_cmp}
-use Rattle.soc_store.specs.Tables.{Rising}
-use Rattle.soc_store.specs.Stored.{is_value, values_of, with_distinct, some_has}
-use Rattle.soc_store.proofs.OrderLemmas.{value_total, value_exact}
+use Rattle.soc_schema.specs.Orders.{value_cmp}
+use Rattle.soc_schema.specs.Tables.{Rising}
+use Rattle.soc_schema.specs.Values.{is_value, values_of, with_distinct}
+use Rattle.soc_store.specs.Stored.{some_has}
+use Rattle.soc_schema.proofs.OrderLemmas.{value_total, value_exact}
 use Rattle.soc_store.proofs.Tables.{rising_alter, alter_commutes}
 
 abbrev pub rise : List Value → Type 0
@@ -22,11 +24,6 @@ rise vs = Rising (λ (v : Value). v) value_cmp vs
 
 abbrev one : Value → List Value → List Value
 one v vs = with_distinct (Some v) vs
-
-equal_from : (r : Ordering) → is_eq r ≡ true → r ≡ Equal
-equal_from Less e = cc
-equal_from Equal e = refl
-equal_from Greater e = cc
 
 same_test : (v w : Value) → is_value w (Some v) ≡ true → w ≡ v
 same_test v w e = value_exact w v (equal_from (value_cmp w v) e)
@@ -121,16 +118,12 @@ stays : (f : ℕ) (v : Value) (rows : List (ℕ × List Cell)) → some_has f ro
 stays f v [] some = cc
 stays f v (s ∷ ss) some = stays_in v (value_of s.1 f) (values_of f ss) (some_has f ss v) some (stays f v ss)
 
-or_right : (a b : Bool) → b ≡ true → (a || b) ≡ true
-or_right true b e = refl
-or_right false b e = e
-
 of_all : (test : ℕ × List Cell → Bool) (f : ℕ) (v : Value) (rows : List (ℕ × List Cell)) → some_has f (filter test rows) v ≡ true → some_has f rows v ≡ true
 of_all test f v [] some = some
 of_all test f v (s ∷ ss) some =
     elim (test s) as (λ t. some_has f (cond t (s ∷ filter test ss) (filter test ss)) v ≡ true → some_has f (s ∷ ss) v ≡ true) [
       | true ↦ λ h. elim (is_value v (value_of s.1 f)) as (λ b. (b || some_has f (filter test ss) v) ≡ true → (b || some_has f ss v) ≡ true) [ true ↦ λ _. refl | false ↦ λ g. of_all test f v ss g ] h
-      | false ↦ λ h. or_right (is_value v (value_of s.1 f)) (some_has f ss v) (of_all test f v ss h)
+      | false ↦ λ h. or_second (is_value v (value_of s.1 f)) (some_has f ss v) (of_all test f v ss h)
     ] some
 
 step_in : (q : Value → Bool) (o : Option Value) (vs : List Value) → rise vs → with_distinct o (filter q vs) ≡ filter (λ w. is_value w o || q w) (with_distinct o vs)

@@ -5,18 +5,18 @@ use Rattle.std.proofs.lemmas.Option.{slice_get-map, slice_get-get_or}
 use Rattle.std.specs.declared.cmp.Ordering.TheVariants.{Less, Equal, Greater}
 use Rattle.std.specs.List.{AllWithin, AllByRecursion}
 use Rattle.soc_schema.specs.declared.value.Value.{Value}
-use Rattle.soc_store.specs.Orders.{value_cmp}
-use Rattle.soc_store.specs.Tables.{Rising, FindsKey}
+use Rattle.soc_schema.specs.Orders.{value_cmp}
+use Rattle.soc_schema.specs.Tables.{Rising, FindsKey}
 use Rattle.soc_store.specs.Stored.{counted}
 use Rattle.soc_store.specs.inner.Postings.{Posting, posted, with_posting, with_place, places_in, counts_in, without_place, uncounted, shrunk, if_any, unposted, without_posting, IsPosting, ArePostings, index_of}
 use Rattle.std.specs.Option.{IfSome}
-use Rattle.soc_store.specs.Tables.{at_key}
+use Rattle.soc_schema.specs.Tables.{at_key}
 use Rattle.soc_schema.specs.declared.value.Cell.{Cell}
 use Rattle.soc_schema.specs.Rows.{value_of}
-use Rattle.soc_store.specs.Stored.{product_of}
+use Rattle.soc_schema.specs.Values.{product_of}
 use Rattle.soc_store.proofs.Tables.{alter_found, alter_gap, rising_alter, alter_commutes, below_from, above_from, equal_at, prune-alter, prune_shrinks, prune_goes, prune_gap, rising_prune, all_made, at_key-found, at_key-gap}
 use Rattle.std.proofs.lemmas.Cmp.{tied_itself}
-use Rattle.soc_store.proofs.OrderLemmas.{value_total, value_exact}
+use Rattle.soc_schema.proofs.OrderLemmas.{value_total, value_exact}
 use Rattle.soc_store.proofs.CountLemmas.{counted_commutes, counts_counted, uncounted-counted}
 use Rattle.soc_store.proofs.PlaceLemmas.{places_commute, order-with_place, without_place-with_place, some_place}
 

@@ -6,10 +6,10 @@ use Rattle.std.specs.declared.cmp.Ordering.TheVariants.{Less, Equal, Greater}
 use Rattle.std.proofs.lemmas.Bool.{lt-ltb, le-ltb, eq-eqb, ne_eqb, cases_lt, cases_eq}
 use Rattle.soc_schema.specs.declared.value.Value.{Value}
 use Rattle.soc_schema.specs.declared.value.Value.TheVariants.{Text, Number, Flag}
-use Rattle.soc_store.specs.Orders.{value_cmp}
+use Rattle.soc_schema.specs.Orders.{value_cmp}
 use Rattle.soc_store.specs.inner.Postings.{Posting}
 use Rattle.soc_store.specs.inner.Keys.{filled_up, packed, key_of}
-use Rattle.soc_store.proofs.OrderLemmas.{value_total, value_exact}
+use Rattle.soc_schema.proofs.OrderLemmas.{value_total, value_exact}
 
 filled_rises : (n k l : ℕ) → k ≤ l → filled_up k n ≤ filled_up l n
 filled_rises zero k l le = le

@@ -11,3 +11,4 @@ pub mod RowIndexLemmas
 pub mod StoreLemmas
 pub mod Tables
 pub mod ValueLemmas
+pub mod Crossing

@@ -7,7 +7,7 @@ use Rattle.std.specs.Ordering.{match_ordering, ordering_reverse, is_eq}
 use Rattle.std.specs.Cmp.{IsTotalOrder}
 use Rattle.std.specs.Option.{option_to_list}
 use Rattle.std.specs.List.{AllByRecursion}
-use Rattle.soc_store.specs.Tables.{alter, prune, Rising, at_key}
+use Rattle.soc_schema.specs.Tables.{alter, prune, Rising, at_key}
 use Rattle.soc_store.specs.inner.Parts.{joined}
 use Rattle.soc_store.proofs.Tables.{at_key-below}
 

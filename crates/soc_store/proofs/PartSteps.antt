@@ -9,11 +9,11 @@ use Rattle.std.proofs.lemmas.List.{get_or-map, get_or_default, length-map, map-s
 use Rattle.soc_schema.specs.declared.value.Value.{Value}
 use Rattle.soc_schema.specs.declared.value.Value.TheVariants.{Number}
 use Rattle.soc_store.specs.declared.parts.Part.{Part}
-use Rattle.soc_store.specs.Orders.{value_cmp}
-use Rattle.soc_store.specs.Tables.{alter, prune, at_key, Rising}
+use Rattle.soc_schema.specs.Orders.{value_cmp}
+use Rattle.soc_schema.specs.Tables.{alter, prune, at_key, Rising}
 use Rattle.soc_store.specs.inner.Postings.{Posting, posted, unposted, with_posting, without_posting}
 use Rattle.soc_store.specs.inner.Parts.{AreFilled, blocks_of, joined, postings_in}
-use Rattle.soc_store.proofs.OrderLemmas.{value_total}
+use Rattle.soc_schema.proofs.OrderLemmas.{value_total}
 use Rattle.soc_store.proofs.IndexLemmas.{value, map-insert, map-remove}
 use Rattle.soc_store.proofs.PartLemmas.{alter_block, prune_block, at_key-block, itself, joined_cut, joined_less, from_less, before_equal, before_greater}
 

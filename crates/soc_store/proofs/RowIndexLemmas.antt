@@ -6,15 +6,17 @@ use Rattle.std.specs.declared.cmp.Ordering.{Ordering}
 use Rattle.std.specs.declared.cmp.Ordering.TheVariants.{Less, Equal, Greater}
 use Rattle.std.proofs.lemmas.Cmp.{ranked, nat_cmp_total}
 use Rattle.std.proofs.lemmas.Bool.{lt-ltb, cond_both}
+use Rattle.soc_base.proofs.Folk.{equal_from}
 use Rattle.soc_schema.specs.declared.value.Value.{Value}
 use Rattle.soc_schema.specs.declared.value.Cell.{Cell}
 use Rattle.soc_schema.specs.Rows.{value_of}
-use Rattle.soc_store.specs.Orders.{value_cmp}
-use Rattle.soc_store.specs.Tables.{Rising, at_key, alter}
-use Rattle.soc_store.specs.Stored.{PlacesRise, with_row, without_row, row_at, is_value, rows_with, tally, product_of, values_of, with_distinct, counted}
+use Rattle.soc_schema.specs.Orders.{value_cmp}
+use Rattle.soc_schema.specs.Tables.{Rising, at_key, alter}
+use Rattle.soc_schema.specs.Values.{is_value, rows_with, product_of, values_of, with_distinct}
+use Rattle.soc_store.specs.Stored.{PlacesRise, with_row, without_row, row_at, tally, counted}
 use Rattle.soc_store.specs.inner.Postings.{Posting, posted, with_posting, with_place, places_in, counts_in, index_of}
 use Rattle.soc_store.proofs.Tables.{at_key-same, at_key-other, keys_alter}
-use Rattle.soc_store.proofs.OrderLemmas.{value_total, value_exact}
+use Rattle.soc_schema.proofs.OrderLemmas.{value_total, value_exact}
 use Rattle.soc_store.proofs.IndexLemmas.{rising_posting, postings_commute, value}
 
 pub rising_index : (f : ℕ) (rows : List (ℕ × List Cell)) → Rising (λ (t : Posting). t.value) value_cmp (index_of f rows)
@@ -64,11 +66,6 @@ pub values_from_index : (f : ℕ) (rows : List (ℕ × List Cell)) → map (λ (
 values_from_index f [] = refl
 values_from_index f (s ∷ ss) = with_value_too (value_of s.1 f) s.0 (product_of s.1) (index_of f ss) ∙ ap (with_distinct (value_of s.1 f)) (values_from_index f ss)
 
-is_equal : (r : Ordering) → is_eq r ≡ true → r ≡ Equal
-is_equal Less h = cc
-is_equal Equal h = refl
-is_equal Greater h = cc
-
 first_place : (p : ℕ) (rows : List (ℕ × List Cell)) (test : ℕ × List Cell → Bool) → AllByRecursion (λ t. nat_cmp p t.0 ≡ Less) rows → with_place p (map (λ s. s.0) (filter test rows)) ≡ p ∷ map (λ s. s.0) (filter test rows)
 first_place p [] test all = refl
 first_place p (t ∷ ts) test all =
@@ -88,7 +85,7 @@ tells_more f v s ss (Some w) above rest =
     let make = posted w s.0 (product_of s.1) in
     elim (is_eq (value_cmp v w)) as (λ b. is_eq (value_cmp v w) ≡ b → Tells v (at_key value value_cmp v (alter value value_cmp w make ts)) (cond b (s ∷ rows_with f v ss) (rows_with f v ss))) [
       | true ↦ λ is.
-          let same : v ≡ w = value_exact v w (is_equal (value_cmp v w) is) in
+          let same : v ≡ w = value_exact v w (equal_from (value_cmp v w) is) in
           let found : at_key value value_cmp v (alter value value_cmp w make ts) ≡ Some (make (at_key value value_cmp v ts)) = subst (λ u. at_key value value_cmp u (alter value value_cmp w make ts) ≡ Some (make (at_key value value_cmp u ts))) (sym same) (at_key-same value value_total w make (λ _. refl) ts (rising_index f ss)) in
           (ap places_in found ∙ ap (with_place s.0) rest.0 ∙ first_place s.0 ss (λ t. is_value v (value_of t.1 f)) above, ap counts_in found ∙ ap (counted (product_of s.1)) rest.1)
       | false ↦ λ is. subst (λ t. Tells v t (rows_with f v ss)) (sym (at_key-other value value_total w make (λ _. refl) v ts is)) rest

@@ -8,6 +8,7 @@ use Rattle.std.specs.List.{AllWithin}
 use Rattle.std.proofs.lemmas.Cmp.{nat_cmp_total}
 use Rattle.std.proofs.lemmas.Map.Lookups.{exact_unsigned}
 use Rattle.std.proofs.lemmas.Bool.{lt-ltb, le-ltb, eq-eqb, ne_eqb}
+use Rattle.soc_base.proofs.Folk.{equal_from}
 use Rattle.soc_schema.specs.Rows.{value_of}
 use Rattle.std.specs.List.{AllByRecursion}
 use Rattle.std.specs.Option.{IfSome}
@@ -15,9 +16,10 @@ use Rattle.std.proofs.lemmas.List.{get_or_default, length-map, get_or-map, map-s
 use Rattle.std.proofs.lemmas.Option.{slice_get-map, slice_get-get_or}
 use Rattle.soc_schema.specs.declared.value.Value.{Value}
 use Rattle.soc_schema.specs.declared.value.Cell.{Cell}
-use Rattle.soc_store.specs.Orders.{value_cmp}
-use Rattle.soc_store.specs.Tables.{at_key, FindsKey}
-use Rattle.soc_store.specs.Stored.{PlacesRise, rows_in, values_of, places_of, counts_of, product_of, row_at, with_row, without_row}
+use Rattle.soc_schema.specs.Orders.{value_cmp}
+use Rattle.soc_schema.specs.Tables.{at_key, FindsKey}
+use Rattle.soc_schema.specs.Values.{values_of, product_of}
+use Rattle.soc_store.specs.Stored.{PlacesRise, rows_in, places_of, counts_of, row_at, with_row, without_row}
 use Rattle.soc_store.specs.inner.Postings.{Posting, AreKept, index_of, places_in, counts_in, with_posting, without_posting, ArePostings}
 use Rattle.soc_store.proofs.IndexLemmas.{value, map-insert, map-remove, postings_commute, postings_posted, postings_of_rows, without_posting-with_posting}
 use Rattle.soc_store.proofs.Tables.{alter_found, alter_gap, prune_goes, prune_gap, at_key-found, at_key-gap, rising_alter, rising_prune, below_from, above_from, equal_at}
@@ -157,11 +159,6 @@ module _ {E : Type 0} (place : E → ℕ) (row : E → List Cell) (es : List E) 
 pub no_row : (o : Option (ℕ × List Cell)) → None ≡ option_map (λ (s : ℕ × List Cell). s.1) o → o ≡ None
 no_row None e = refl
 no_row (Some s) e = cc
-
-equal_from : (r : Ordering) → is_eq r ≡ true → r ≡ Equal
-equal_from Less e = cc
-equal_from Equal e = refl
-equal_from Greater e = cc
 
 pub at_place : (p : ℕ) (rows : List (ℕ × List Cell)) (row : List Cell) → Some row ≡ option_map (λ (s : ℕ × List Cell). s.1) (row_at p rows) → row_at p rows ≡ Some (p, row)
 at_place p [] row e = cc

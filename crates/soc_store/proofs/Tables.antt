@@ -10,7 +10,7 @@ use Rattle.std.specs.List.{AllByRecursion, AllWithin, HoldsAt}
 use Rattle.std.specs.List.Sorted.{IsNonDecreasingBy, IsPartitionPoint}
 use Rattle.std.proofs.lemmas.List.{get_or_default}
 use Rattle.std.proofs.lemmas.Cmp.{tied_back, alike_right, tied_itself}
-use Rattle.soc_store.specs.Tables.{alter, prune, Rising, at_key}
+use Rattle.soc_schema.specs.Tables.{alter, prune, Rising, at_key}
 
 index_most : (r : Ordering) → ordering_index r ≤ 2
 index_most Less = omega arith

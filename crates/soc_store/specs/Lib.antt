@@ -1,4 +1,3 @@
 pub mod Orders
 pub mod Stored
-pub mod Tables
 pub mod inner

@@ -1,24 +1,14 @@
 -- What a store holds: a list of places and rows, and what counting over it gives.
-use Rattle.std.specs.Prelude.{ℕ, ◌+◌, Bool, false, List, [], ◌∷◌, Option, None, Some, map}
-use Rattle.std.specs.List.{filter, list_any}
-use Rattle.std.specs.Ordering.{is_eq, nat_cmp}
+use Rattle.std.specs.Prelude.{ℕ, ◌+◌, Bool, List, [], ◌∷◌, Option, None, Some, map}
+use Rattle.std.specs.List.{list_any}
+use Rattle.std.specs.Ordering.{nat_cmp}
 use Rattle.soc_schema.specs.declared.value.Value.{Value}
-use Rattle.soc_schema.specs.declared.value.Value.TheVariants.{Text}
 use Rattle.soc_schema.specs.declared.value.Cell.{Cell}
 use Rattle.soc_schema.specs.Rows.{value_of}
-use Rattle.soc_schema.specs.Fields.{product_field}
+use Rattle.soc_schema.specs.Tables.{alter, at_key, prune, Rising}
+use Rattle.soc_schema.specs.Values.{is_value, product_of, rows_with}
 use Rattle.soc_store.specs.declared.counts.ProductCount.{ProductCount}
-use Rattle.soc_store.specs.Orders.{value_cmp, product_cmp}
-use Rattle.soc_store.specs.Tables.{alter, at_key, prune, Rising}
-
--- the text of a value that is one
-abbrev pub text_of : Option Value → Option (List ℕ)
-text_of (Some (Text t)) = Some t
-text_of _ = None
-
--- the product of a row
-abbrev pub product_of : List Cell → Option (List ℕ)
-product_of row = text_of (value_of row product_field)
+use Rattle.soc_store.specs.Orders.{product_cmp}
 
 -- the rows of entries
 abbrev pub rows_in : {E : Type 0} → (E → ℕ) → (E → List Cell) → List E → List (ℕ × List Cell)
@@ -40,16 +30,7 @@ without_row p rows = prune (λ t. t.0) nat_cmp p (λ _. None) rows
 abbrev pub row_at : ℕ → List (ℕ × List Cell) → Option (ℕ × List Cell)
 row_at p rows = at_key (λ t. t.0) nat_cmp p rows
 
--- whether it is this value
-abbrev pub is_value : Value → Option Value → Bool
-is_value v None = false
-is_value v (Some w) = is_eq (value_cmp v w)
-
--- the rows that have the value of the field
-abbrev pub rows_with : ℕ → Value → List (ℕ × List Cell) → List (ℕ × List Cell)
-rows_with f v rows = filter (λ s. is_value v (value_of s.1 f)) rows
-
--- their places
+-- the places of the rows that have the value of the field
 abbrev pub places_of : ℕ → Value → List (ℕ × List Cell) → List ℕ
 places_of f v rows = map (λ s. s.0) (rows_with f v rows)
 
@@ -69,16 +50,6 @@ tally (p ∷ ps) = counted p (tally ps)
 -- how many of the rows that have the value there are of each product
 abbrev pub counts_of : ℕ → Value → List (ℕ × List Cell) → List ProductCount
 counts_of f v rows = tally (map (λ s. product_of s.1) (rows_with f v rows))
-
--- with a value, which stands once
-abbrev pub with_distinct : Option Value → List Value → List Value
-with_distinct None vs = vs
-with_distinct (Some v) vs = alter (λ w. w) value_cmp v (λ _. v) vs
-
--- the distinct values of the field, in rising order
-abbrev pub values_of : ℕ → List (ℕ × List Cell) → List Value
-values_of f [] = []
-values_of f (s ∷ ss) = with_distinct (value_of s.1 f) (values_of f ss)
 
 -- whether one of the rows has the value
 abbrev pub some_has : ℕ → List (ℕ × List Cell) → Value → Bool

@@ -2,15 +2,15 @@
 ghost use Rattle.std.specs.Prelude.{◌≡◌, ◌<◌, ◌≤◌, ◌++◌, ℕ, List, [], None, Some, OnOk, OnErr, IfOk, length, map, slice_get, option_map};
 ghost use Rattle.std.specs.Option.{IfSome, option_copied};
 ghost use Rattle.soc_schema.specs.declared.value.Value.{Value};
-ghost use Rattle.soc_store.specs.Orders.{value_cmp};
+ghost use Rattle.soc_schema.specs.Orders.{value_cmp};
 ghost use Rattle.soc_store.specs.inner.Keys.{key_of};
 ghost use Rattle.soc_store.specs.inner.Postings.{Posting, with_posting, without_posting};
-ghost use Rattle.soc_store.specs.Tables.{FindsKey, Rising, at_key};
+ghost use Rattle.soc_schema.specs.Tables.{FindsKey, Rising, at_key};
 
 use crate::key::key_of;
 use crate::slot::Slot;
 use crate::term::Term;
-use soc_raw::NoMemory;
+use soc_base::{NoMemory, SharedText};
 use soc_schema::Value;
 use std::alloc::Global;
 use std::cmp::Ordering;
@@ -24,9 +24,9 @@ pub(crate) struct Block {
 
 impl Model for Block {
     ghost use Rattle.std.specs.Prelude.{List};
-    ghost use Rattle.soc_store.specs.Orders.{value_cmp};
+    ghost use Rattle.soc_schema.specs.Orders.{value_cmp};
     ghost use Rattle.soc_store.specs.inner.Postings.{Posting};
-    ghost use Rattle.soc_store.specs.Tables.{Rising};
+    ghost use Rattle.soc_schema.specs.Tables.{Rising};
 
     ghost Value = { List Posting };
 
@@ -51,7 +51,7 @@ impl Block {
         alloc: Global,
         value: &Value,
         place: u32,
-        product: Option<&str>,
+        product: Option<&SharedText>,
     ) -> Result<(), NoMemory>
         ensures ok { OnOk result (self.new ≡ with_posting (Some value.now) place (option_copied product.entry) self.old) }
         ensures err { OnErr result (self.new ≡ self.old) }
@@ -59,7 +59,7 @@ impl Block {
         match place_in(self.slots.as_slice(), value) {
             Ok(i) => {
                 let slot = &mut self.slots[i];
-                slot.add(alloc, place, product)?;
+                slot.add(place, product)?;
             }
             Err(i) => {
                 let slot = Slot::new(alloc, value, place, product)?;
@@ -70,7 +70,7 @@ impl Block {
     }
 
     /// One row less that has the value.
-    pub(crate) fn remove(&mut self, value: &Value, place: u32, product: Option<&str>)
+    pub(crate) fn remove(&mut self, value: &Value, place: u32, product: Option<&SharedText>)
         ensures { self.new ≡ without_posting (Some value.now) place (option_copied product.entry) self.old }
     {
         if let Ok(i) = place_in(self.slots.as_slice(), value) {

@@ -4,19 +4,18 @@ ghost use Rattle.std.specs.Option.{option_copied};
 ghost use Rattle.soc_store.specs.Orders.{product_cmp};
 ghost use Rattle.soc_store.specs.inner.Postings.{uncounted};
 ghost use Rattle.soc_store.specs.Stored.{counted};
-ghost use Rattle.soc_store.specs.Tables.{FindsKey, Rising};
+ghost use Rattle.soc_schema.specs.Tables.{FindsKey, Rising};
 
 use crate::order::compare_products;
 use smallvec::SmallVec;
-use soc_raw::{NoMemory, Text};
-use std::alloc::Global;
+use soc_base::{NoMemory, SharedText};
 use std::cmp::Ordering;
 
 /// How many rows there are of a product, or without one.
 #[derive(Debug, Default, Drop)]
 pub struct ProductCount {
     /// The product, where there is one.
-    pub product: Option<Text>,
+    pub product: Option<SharedText>,
     /// How many rows, at least 1.
     pub count: u64,
 }
@@ -25,11 +24,7 @@ pub struct ProductCount {
 pub(crate) type Counts = SmallVec<ProductCount, 1>;
 
 /// Counts one more of the product.
-pub(crate) fn count_one(
-    alloc: Global,
-    counts: &mut Counts,
-    product: Option<&str>,
-) -> Result<(), NoMemory>
+pub(crate) fn count_one(counts: &mut Counts, product: Option<&SharedText>) -> Result<(), NoMemory>
     requires { Rising (λ c. c.product) product_cmp counts.old.items }
     ensures ok { OnOk result (counts.new.items ≡ counted (option_copied product.entry) counts.old.items) }
     ensures err { OnErr result (counts.new.items ≡ counts.old.items) }
@@ -42,7 +37,7 @@ pub(crate) fn count_one(
             counts.as_mut_slice()[i].count = more;
         }
         Err(i) => {
-            let product = copy_of(alloc, product)?;
+            let product = shared(product)?;
             counts.insert(i, ProductCount { product, count: 1 })?;
         }
     }
@@ -50,7 +45,7 @@ pub(crate) fn count_one(
 }
 
 /// Counts one less of the product.
-pub(crate) fn count_less(counts: &mut Counts, product: Option<&str>)
+pub(crate) fn count_less(counts: &mut Counts, product: Option<&SharedText>)
     requires { Rising (λ c. c.product) product_cmp counts.old.items }
     ensures { counts.new.items ≡ uncounted (option_copied product.entry) counts.old.items }
 {
@@ -64,7 +59,7 @@ pub(crate) fn count_less(counts: &mut Counts, product: Option<&str>)
 }
 
 /// Where the product's count stands, or else where it would stand.
-fn place_in(counts: &[ProductCount], product: Option<&str>) -> Result<usize, usize>
+fn place_in(counts: &[ProductCount], product: Option<&SharedText>) -> Result<usize, usize>
     requires { Rising (λ c. c.product) product_cmp counts.now }
     ensures { FindsKey (λ c. c.product) product_cmp (option_copied product.entry) counts.now result }
 {
@@ -81,12 +76,12 @@ fn place_in(counts: &[ProductCount], product: Option<&str>) -> Result<usize, usi
     Err(low)
 }
 
-/// The product in memory of its own.
-fn copy_of(alloc: Global, product: Option<&str>) -> Result<Option<Text>, NoMemory>
-    ensures { IfOk result (λ copy. copy ≡ option_copied product.entry) }
+/// The same product. Its name is shared.
+fn shared(product: Option<&SharedText>) -> Result<Option<SharedText>, NoMemory>
+    ensures { IfOk result (λ shared. shared ≡ option_copied product.entry) }
 {
     match product {
         None => Ok(None),
-        Some(name) => Ok(Some(Text::of(alloc, name)?)),
+        Some(name) => Ok(Some(name.share()?)),
     }
 }

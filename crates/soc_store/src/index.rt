@@ -1,13 +1,13 @@
 // What is kept of a field: its values in rising order, each with its places and counts.
 ghost use Rattle.std.specs.Prelude.{◌≡◌, ◌<◌, [], Some, OnOk, OnErr, length, map, slice_get};
 ghost use Rattle.std.specs.Option.{IfSome, option_copied};
-ghost use Rattle.soc_store.specs.Orders.{value_cmp};
+ghost use Rattle.soc_schema.specs.Orders.{value_cmp};
 ghost use Rattle.soc_store.specs.inner.Postings.{places_in, with_posting, without_posting};
-ghost use Rattle.soc_store.specs.Tables.{at_key};
+ghost use Rattle.soc_schema.specs.Tables.{at_key};
 
 use crate::parts::{Part, add_value, count_near, part_of, remove_value, term_near, total};
 use crate::term::Term;
-use soc_raw::NoMemory;
+use soc_base::{NoMemory, SharedText};
 use soc_schema::Value;
 use std::alloc::Global;
 use std::marker::Model;
@@ -46,7 +46,7 @@ impl Index {
         alloc: Global,
         value: &Value,
         place: u32,
-        product: Option<&str>,
+        product: Option<&SharedText>,
     ) -> Result<(), NoMemory>
         ensures ok { OnOk result (self.new ≡ with_posting (Some value.now) place (option_copied product.entry) self.old) }
         ensures err { OnErr result (self.new ≡ self.old) }
@@ -55,7 +55,7 @@ impl Index {
     }
 
     /// One row less that has the value.
-    pub(crate) fn remove(&mut self, value: &Value, place: u32, product: Option<&str>)
+    pub(crate) fn remove(&mut self, value: &Value, place: u32, product: Option<&SharedText>)
         ensures { self.new ≡ without_posting (Some value.now) place (option_copied product.entry) self.old }
     {
         remove_value(&mut self.parts, value, place, product);

@@ -4,9 +4,10 @@ ghost use Rattle.std.specs.Cmp.{IsTotalOrder};
 ghost use Rattle.std.specs.Option.{option_copied};
 ghost use Rattle.std.specs.declared.cmp.Ordering.TheVariants.{Equal};
 ghost use Rattle.soc_schema.specs.declared.value.Value.{Value};
-ghost use Rattle.soc_store.specs.Orders.{product_cmp, value_cmp};
+ghost use Rattle.soc_schema.specs.Orders.{value_cmp};
+ghost use Rattle.soc_store.specs.Orders.{product_cmp};
 
-use soc_raw::Text;
+use soc_base::SharedText;
 use soc_schema::Value;
 use std::cmp::Ordering;
 
@@ -35,7 +36,7 @@ pub fn compare_values(a: &Value, b: &Value) -> Ordering
 }
 
 /// How two products compare: none first, and then by bytes.
-pub(crate) fn compare_products(a: &Option<Text>, b: Option<&str>) -> Ordering
+pub(crate) fn compare_products(a: &Option<SharedText>, b: Option<&SharedText>) -> Ordering
     ensures { result ≡ product_cmp a.now (option_copied b.entry) }
 {
     match a {
@@ -45,7 +46,7 @@ pub(crate) fn compare_products(a: &Option<Text>, b: Option<&str>) -> Ordering
         },
         Some(x) => match b {
             None => Ordering::Greater,
-            Some(y) => x.as_str().cmp(y),
+            Some(y) => x.as_str().cmp(y.as_str()),
         },
     }
 }

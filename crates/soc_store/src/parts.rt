@@ -3,15 +3,15 @@ ghost use Rattle.std.specs.Prelude.{◌≡◌, ◌<◌, ◌≤◌, ◌+◌, ◌^
 ghost use Rattle.std.specs.List.{AllByRecursion};
 ghost use Rattle.std.specs.Option.{IfSome, option_copied};
 ghost use Rattle.std.specs.declared.cmp.Ordering.TheVariants.{Less, Greater};
-ghost use Rattle.soc_store.specs.Orders.{value_cmp};
-ghost use Rattle.soc_store.specs.Tables.{Rising};
+ghost use Rattle.soc_schema.specs.Orders.{value_cmp};
+ghost use Rattle.soc_schema.specs.Tables.{Rising};
 ghost use Rattle.soc_store.specs.inner.Parts.{AreCounted, AreFilled, AreParts, blocks_of, joined, postings_in};
 ghost use Rattle.soc_store.specs.inner.Postings.{Posting, with_posting, without_posting};
 
 use crate::block::Block;
 use crate::key::key_of;
 use crate::term::Term;
-use soc_raw::NoMemory;
+use soc_base::{NoMemory, SharedText};
 use soc_schema::Value;
 use std::alloc::Global;
 use std::cmp::Ordering;
@@ -32,7 +32,7 @@ pub(crate) fn add_value(
     parts: &mut Vec<Part>,
     value: &Value,
     place: u32,
-    product: Option<&str>,
+    product: Option<&SharedText>,
 ) -> Result<(), NoMemory>
     requires { AreParts parts.old.items }
     ensures parts { AreParts parts.new.items }
@@ -48,7 +48,12 @@ pub(crate) fn add_value(
 }
 
 /// One row less that has the value.
-pub(crate) fn remove_value(parts: &mut Vec<Part>, value: &Value, place: u32, product: Option<&str>)
+pub(crate) fn remove_value(
+    parts: &mut Vec<Part>,
+    value: &Value,
+    place: u32,
+    product: Option<&SharedText>,
+)
     requires { AreParts parts.old.items }
     ensures parts { AreParts parts.new.items }
     ensures left { postings_in parts.new.items ≡ without_posting (Some value.now) place (option_copied product.entry) (postings_in parts.old.items) }

@@ -3,7 +3,7 @@ ghost use Rattle.std.specs.Prelude.{◌≡◌, ◌<◌, [], Some, IfErr, IfNone,
 ghost use Rattle.std.specs.Option.{option_copied};
 ghost use Rattle.std.specs.Ordering.{nat_cmp};
 ghost use Rattle.soc_store.specs.Stored.{PlacesRise, row_at, rows_in, with_row, without_row};
-ghost use Rattle.soc_store.specs.Tables.{FindsKey};
+ghost use Rattle.soc_schema.specs.Tables.{FindsKey};
 
 use soc_schema::Row;
 use std::alloc::Global;

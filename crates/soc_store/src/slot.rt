@@ -1,14 +1,14 @@
 // What stands in a block for a value.
 ghost use Rattle.std.specs.Prelude.{◌≡◌, ◌↔◌, IsTrue, [], None, Some, OnOk, OnErr, IfOk, length};
 ghost use Rattle.std.specs.Option.{option_copied};
-ghost use Rattle.soc_store.specs.Orders.{value_cmp};
+ghost use Rattle.soc_schema.specs.Orders.{value_cmp};
 ghost use Rattle.soc_store.specs.inner.Keys.{key_of};
 ghost use Rattle.soc_store.specs.inner.Postings.{posted, shrunk};
 
 use crate::key::key_of;
 use crate::order::compare_values;
 use crate::term::Term;
-use soc_raw::NoMemory;
+use soc_base::{NoMemory, SharedText};
 use soc_schema::Value;
 use std::alloc::Global;
 use std::cmp::Ordering;
@@ -41,7 +41,7 @@ impl Slot {
         alloc: Global,
         value: &Value,
         place: u32,
-        product: Option<&str>,
+        product: Option<&SharedText>,
     ) -> Result<Slot, NoMemory>
         ensures { IfOk result (λ slot. slot ≡ posted value.now place (option_copied product.entry) None) }
     {
@@ -55,23 +55,18 @@ impl Slot {
     }
 
     /// One more row that has the value.
-    pub(crate) fn add(
-        &mut self,
-        alloc: Global,
-        place: u32,
-        product: Option<&str>,
-    ) -> Result<(), NoMemory>
+    pub(crate) fn add(&mut self, place: u32, product: Option<&SharedText>) -> Result<(), NoMemory>
         ensures ok { OnOk result (self.new ≡ posted self.old.value place (option_copied product.entry) (Some self.old)) }
         ensures err { OnErr result (self.new ≡ self.old) }
     {
         let term: &mut Term = &mut self.term;
-        term.add(alloc, place, product)?;
+        term.add(place, product)?;
         self.count = self.term.places().len();
         Ok(())
     }
 
     /// One row less that has the value. Answers whether none is left.
-    pub(crate) fn remove(&mut self, place: u32, product: Option<&str>) -> bool
+    pub(crate) fn remove(&mut self, place: u32, product: Option<&SharedText>) -> bool
         ensures left { self.new ≡ shrunk place (option_copied product.entry) self.old }
         ensures none { IsTrue result ↔ (self.new.places ≡ []) }
     {

@@ -1,18 +1,19 @@
 //! Rows at places.
-ghost use Rattle.std.specs.Prelude.{slice_index_or, ◌≡◌, ◌<◌, ◌+◌, ℕ, Bool, List, [], Some, OnOk, OnErr, IfErr, IfSome, length, map, slice_get, option_map, filter, All, Contains};
+ghost use Rattle.std.specs.Prelude.{slice_index_or, ◌≡◌, ◌<◌, ◌+◌, ◌^◌, ℕ, Bool, List, [], Some, OnOk, OnErr, IfErr, IfSome, length, map, slice_get, option_map, filter, All, Contains};
 ghost use Rattle.soc_schema.specs.declared.value.Cell.{Cell};
 ghost use Rattle.soc_schema.specs.Rows.{value_of};
 ghost use Rattle.std.specs.Option.{option_copied};
-ghost use Rattle.soc_store.specs.Orders.{value_cmp};
-ghost use Rattle.soc_store.specs.Stored.{PlacesRise, counts_of, places_of, product_of, row_at, some_has, values_of, with_row, without_row};
-ghost use Rattle.soc_store.specs.Tables.{Rising};
+ghost use Rattle.soc_schema.specs.Orders.{value_cmp};
+ghost use Rattle.soc_schema.specs.Values.{product_of, values_of};
+ghost use Rattle.soc_store.specs.Stored.{PlacesRise, counts_of, places_of, row_at, some_has, with_row, without_row};
+ghost use Rattle.soc_schema.specs.Tables.{Rising};
 
 use crate::counts::ProductCount;
 use crate::index::Index;
 use crate::rows::Rows;
-use crate::values::{add_values, remove_values};
+use crate::values::{add_values, known_text, remove_values, share_known};
+use soc_base::{NoMemory, SharedText};
 use soc_edge::Steps;
-use soc_raw::NoMemory;
 use soc_schema::{Field, Row, Value};
 use std::alloc::Global;
 use std::marker::Model;
@@ -55,6 +56,14 @@ impl Store {
         ensures places_rise { PlacesRise self.now }
     {
         self.rows.len()
+    }
+
+    /// The rows' places rise, and there are fewer than 2^64 of them. It does nothing when it runs.
+    pub fn places_rise(&self)
+        ensures rise { PlacesRise self.now }
+        ensures few { length self.now < 2 ^ 64 }
+    {
+        let _rows = self.len();
     }
 
     /// The place of the `i`th row, from 0, in rising order of places.
@@ -151,9 +160,19 @@ impl Store {
         self.rows.get(place)
     }
 
-    /// Puts a row at a place, in the stead of the one that is there. Where memory is wanting, the row comes back and
-    /// nothing has changed.
-    pub fn put(&mut self, alloc: Global, place: u32, row: Row) -> Result<(), (Row, NoMemory)>
+    /// Puts a row at a place, in the stead of the one that is there. Its texts share the memory of those that are known.
+    /// Where memory is wanting, the row comes back and nothing has changed.
+    pub fn put(&mut self, alloc: Global, place: u32, mut row: Row) -> Result<(), (Row, NoMemory)>
+        ensures ok { OnOk result (self.new ≡ with_row (place, row) self.old) }
+        ensures err { OnErr result (self.new ≡ self.old) }
+        ensures back { IfErr result (λ back. back.0 ≡ row) }
+    {
+        row.shrink();
+        share_known(&self.fields, &mut row);
+        self.put_row(alloc, place, row)
+    }
+
+    fn put_row(&mut self, alloc: Global, place: u32, row: Row) -> Result<(), (Row, NoMemory)>
         ensures ok { OnOk result (self.new ≡ with_row (place, row) self.old) }
         ensures err { OnErr result (self.new ≡ self.old) }
         ensures back { IfErr result (λ back. back.0 ≡ row) }
@@ -174,6 +193,18 @@ impl Store {
         }
     }
 
+    /// Has a text share the memory of the field's value that is the same, where a row has it.
+    pub fn unite(&self, field: Field, text: &mut SharedText)
+        ensures { text.new ≡ text.old }
+    {
+        let Ok(own) = text.share() else {
+            return;
+        };
+        if let Some(known) = known_text(&self.fields, field, &Value::Text(own)) {
+            text.unite(known);
+        }
+    }
+
     /// Takes the row at a place out, where there is one. It takes no memory.
     pub fn take(&mut self, place: u32) -> Option<Row>
         ensures row { result ≡ option_map (λ s. s.1) (row_at place self.old) }
@@ -186,11 +217,11 @@ impl Store {
 }
 
 /// A row's product, where it has one.
-fn product_of(row: &Row) -> Option<&str>
+fn product_of(row: &Row) -> Option<&SharedText>
     ensures { option_copied result ≡ product_of row.now }
 {
     match row.get(Field::PRODUCT) {
-        Some(Value::Text(text)) => Some(text.as_str()),
+        Some(Value::Text(text)) => Some(text),
         _ => None,
     }
 }

@@ -5,7 +5,7 @@ ghost use Rattle.soc_store.specs.inner.Postings.{PlacesInOrder, posted, shrunk, 
 
 use crate::counts::{Counts, ProductCount, count_less, count_one};
 use smallvec::SmallVec;
-use soc_raw::NoMemory;
+use soc_base::{NoMemory, SharedText};
 use soc_schema::Value;
 use std::alloc::Global;
 use std::marker::Model;
@@ -24,7 +24,7 @@ pub(crate) struct Term {
 impl Model for Term {
     ghost use Rattle.soc_store.specs.Orders.{product_cmp};
     ghost use Rattle.soc_store.specs.inner.Postings.{Posting, PlacesInOrder};
-    ghost use Rattle.soc_store.specs.Tables.{Rising};
+    ghost use Rattle.soc_schema.specs.Tables.{Rising};
 
     ghost Value = { Posting };
 
@@ -39,34 +39,29 @@ impl Term {
         alloc: Global,
         value: &Value,
         place: u32,
-        product: Option<&str>,
+        product: Option<&SharedText>,
     ) -> Result<Term, NoMemory>
         ensures { IfOk result (λ term. term ≡ posted value.now place (option_copied product.entry) None) }
     {
         let mut places: Places = SmallVec::new(alloc);
         places.push(place)?;
         let mut counts: Counts = SmallVec::new(alloc);
-        count_one(alloc, &mut counts, product)?;
+        count_one(&mut counts, product)?;
         Ok(Term {
-            value: value.copy(alloc)?,
+            value: value.share()?,
             places,
             counts,
         })
     }
 
     /// One more row that has the value.
-    pub(crate) fn add(
-        &mut self,
-        alloc: Global,
-        place: u32,
-        product: Option<&str>,
-    ) -> Result<(), NoMemory>
+    pub(crate) fn add(&mut self, place: u32, product: Option<&SharedText>) -> Result<(), NoMemory>
         ensures ok { OnOk result (self.new ≡ posted self.old.value place (option_copied product.entry) (Some self.old)) }
         ensures err { OnErr result (self.new ≡ self.old) }
     {
         let i = place_after(self.places.as_slice(), place);
         self.places.insert(i, place)?;
-        match count_one(alloc, &mut self.counts, product) {
+        match count_one(&mut self.counts, product) {
             Ok(()) => Ok(()),
             Err(error) => {
                 let _ = self.places.remove(i);
@@ -76,7 +71,7 @@ impl Term {
     }
 
     /// One row less that has the value. Answers whether none is left.
-    pub(crate) fn remove(&mut self, place: u32, product: Option<&str>) -> bool
+    pub(crate) fn remove(&mut self, place: u32, product: Option<&SharedText>) -> bool
         ensures left { self.new ≡ shrunk place (option_copied product.entry) self.old }
         ensures none { IsTrue result ↔ (self.new.places ≡ []) }
     {

@@ -5,8 +5,8 @@ ghost use Rattle.soc_schema.specs.Rows.{value_of};
 ghost use Rattle.soc_store.specs.inner.Postings.{ArePostings, with_posting, without_posting};
 
 use crate::index::Index;
-use soc_raw::NoMemory;
-use soc_schema::Row;
+use soc_base::{NoMemory, SharedText};
+use soc_schema::{Field, Row, Value};
 use std::alloc::Global;
 
 /// Puts a row's values into the postings. Where memory is wanting, they are as they were.
@@ -15,7 +15,7 @@ pub(crate) fn add_values(
     fields: &mut [Index],
     row: &Row,
     place: u32,
-    product: Option<&str>,
+    product: Option<&SharedText>,
 ) -> Result<(), NoMemory>
     requires whole { length fields.old ≡ 36 }
     requires postings { (f : ℕ) → f < 36 → ArePostings (slice_index_or fields.old f []) }
@@ -39,7 +39,7 @@ pub(crate) fn remove_values(
     row: &Row,
     count: usize,
     place: u32,
-    product: Option<&str>,
+    product: Option<&SharedText>,
 )
     requires whole { length fields.old ≡ 36 }
     requires within { count ≤ length row.now }
@@ -49,5 +49,32 @@ pub(crate) fn remove_values(
         let at = usize::from(field.place());
         let index = &mut fields[at];
         index.remove(value, place, product);
+    }
+}
+
+/// Has a row share the memory of the texts that are known.
+pub(crate) fn share_known(fields: &[Index], row: &mut Row)
+    requires { length fields.now ≡ 36 }
+    ensures { row.new ≡ row.old }
+{
+    for i in 0..row.len() {
+        let (field, value) = row.at(i);
+        if let Some(text) = known_text(fields, field, value) {
+            row.unite(field, text);
+        }
+    }
+}
+
+/// What is kept of the value, where it is a text that a row has in the field.
+pub(crate) fn known_text<'f>(
+    fields: &'f [Index],
+    field: Field,
+    value: &Value,
+) -> Option<&'f SharedText>
+    requires { length fields.now ≡ 36 }
+{
+    match fields[usize::from(field.place())].term(value)?.value() {
+        Value::Text(text) => Some(text),
+        _ => None,
     }
 }

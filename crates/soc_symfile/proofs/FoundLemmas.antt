@@ -4,6 +4,7 @@ use Rattle.std.specs.Prelude.{filter, find, fold, max, nat_lt, nat_le, ◌&&◌,
 use Rattle.std.specs.List.{list_any, last_or}
 use Rattle.std.proofs.lemmas.Bool.Decides.{nat_tests}
 use Rattle.std.proofs.Math.Nat.{lt_of_not-le}
+use Rattle.soc_base.proofs.Folk.{from_le, or_true}
 use Rattle.soc_symfile.specs.declared.entries.SourceLine.{SourceLine}
 use Rattle.soc_symfile.specs.Line.{ExtentEntry, LabelEntry, FileEntry}
 use Rattle.soc_symfile.specs.Records.{Records}
@@ -48,18 +49,11 @@ map-filter key test (r ∷ rs) =
 le_test : (a b : ℕ) → a ≤ b → nat_le a b ≡ true
 le_test a b h = grind (arith, nat_tests)
 
-from_le_test : (a b : ℕ) → nat_le a b ≡ true → a ≤ b
-from_le_test a b h = grind (arith, nat_tests)
-
 from_above_test : (a b : ℕ) → nat_le a b ≡ false → b < a
 from_above_test a b h = grind (arith, nat_tests)
 
 above_test : (a b : ℕ) → b < a → nat_le a b ≡ false
 above_test a b h = grind (arith, nat_tests)
-
-or_true : (b : Bool) → (b || true) ≡ true
-or_true true = refl
-or_true false = refl
 
 abbrev Stands : List ℕ → ℕ → Type 0
 Stands keys top = (at : ℕ) × (at < length keys) × (get_or keys at 0 ≡ top)
@@ -97,7 +91,7 @@ greatest-step : (offset top a k : ℕ) (keys : List ℕ) → a ≤ top → top �
     → ((b : ℕ) → b ≤ top → IsBound offset top keys → (b ≡ top) ⊎ Stands keys top → fold max b (below_offset offset keys) ≡ top)
     → (low : Bool) → nat_le k offset ≡ low → fold max a (cond low (k ∷ below_offset offset keys) (below_offset offset keys)) ≡ top
 greatest-step offset top a k keys low below bound either rest true test =
-    let here : k ≤ top = bound 0 (omega arith) (from_le_test k offset test) in
+    let here : k ≤ top = bound 0 (omega arith) (from_le k offset test) in
     rest (max a k) (omega arith) (λ j inside. bound (suc j) (omega arith)) (taken a k top keys low here either)
 greatest-step offset top a k keys low below bound either rest false test =
     let above = from_above_test k offset test in

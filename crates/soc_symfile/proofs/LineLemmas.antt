@@ -7,6 +7,7 @@ use Rattle.std.proofs.lemmas.Bool.Decides.{nat_tests}
 use Rattle.std.proofs.lemmas.List.Splits.{slice_split_first, slice_split_none, length-slice_split}
 use Rattle.std.proofs.lemmas.List.Sums.{position_or_len_is}
 use Rattle.memchr.specs.Find.{Passes, Nowhere, NoneBefore, is_byte}
+use Rattle.soc_base.proofs.Folk.{not_true}
 
 is_line_feed : ℕ → Bool
 is_line_feed b = b == 10
@@ -16,16 +17,12 @@ line_first : (part : List ℕ) (parts : List (List ℕ)) → 0 < length parts �
 line_first part [] some = absurd (omega arith)
 line_first part (next ∷ parts) some = refl
 
-not_passing : (b : Bool) → ¬ (b ≡ true) → b ≡ false
-not_passing true h = absurd (h refl)
-not_passing false h = refl
-
 split_at_end : (text : List ℕ) (end : ℕ) → NoneBefore (Passes (is_byte 10) text) 0 (length text) end × Passes (is_byte 10) text end
     → lines text ≡ strip_carriage_return (take end text) ∷ lines (drop (end + 1) text)
 split_at_end text end found =
     let inside : end < length text = found.0.high in
     let place : position_or_len (λ b. b == 10) text ≡ end =
-    position_or_len_is (λ b. b == 10) text end 0 (omega arith) (λ k below. not_passing _ (found.0.before k (omega arith) below)) (λ _. found.1) in
+    position_or_len_is (λ b. b == 10) text end 0 (omega arith) (λ k below. not_true _ (found.0.before k (omega arith) below)) (λ _. found.1) in
     let parts : slice_split (λ b. b == 10) text ≡ take end text ∷ slice_split (λ b. b == 10) (drop (end + 1) text) =
     rw place at (slice_split_first (λ b. b == 10) text 0 (omega arith)) in
     let some : 0 < length (slice_split (λ b. b == 10) (drop (end + 1) text)) = omega (arith, length-slice_split (λ b. b == 10) (drop (end + 1) text)) in
@@ -42,7 +39,7 @@ ended_line text line cut rest end found is is_cut is_rest =
 pub last_line : (text rest : List ℕ) → false ≡ (length text == 0) → Nowhere (Passes (is_byte 10) text) 0 (length text) → rest ≡ drop (length text) text
     → (lines text ≡ text ∷ lines rest) × (length rest < length text)
 last_line text rest some none is_rest =
-    let parts : slice_split (λ b. b == 10) text ≡ text ∷ [] = slice_split_none (λ b. b == 10) text (λ k d inside. rw (get_or_default text k d 0 inside) (not_passing _ (none k (omega arith) inside))) in
+    let parts : slice_split (λ b. b == 10) text ≡ text ∷ [] = slice_split_none (λ b. b == 10) text (λ k d inside. rw (get_or_default text k d 0 inside) (not_true _ (none k (omega arith) inside))) in
     let one : lines_of_parts (text ∷ []) ≡ text ∷ [] = rw (sym some) refl in
     let empty : rest ≡ [] = is_rest ∙ drop_all (length text) text (omega arith) in
     (rw empty (ap lines_of_parts parts ∙ one), rw empty (grind (arith, nat_tests)))

@@ -4,17 +4,12 @@ use Rattle.std.specs.Prelude.{nat_lt, nat_le}
 use Rattle.std.proofs.lemmas.Bool.Decides.{nat_tests}
 use Rattle.std.specs.List.Sorted.{IsPartitionPoint}
 use Rattle.std.proofs.Math.Nat.{lt_of_not-le}
+use Rattle.soc_base.proofs.Folk.{from_lt, from_le}
 use Rattle.soc_symfile.specs.declared.places.Place.{Place}
 use Rattle.soc_symfile.specs.inner.Places.{IsIndex, IsFirstOf, IsLastOf, IsNearest, HasNone, AllAbove}
 
-lt_from_test : (a b : ℕ) → nat_lt a b ≡ true → a < b
-lt_from_test a b h = grind (arith, nat_tests)
-
 le_from_test : (a b : ℕ) → nat_lt a b ≡ false → b ≤ a
 le_from_test a b h = grind (arith, nat_tests)
-
-to_from_test : (a b : ℕ) → nat_le a b ≡ true → a ≤ b
-to_from_test a b h = grind (arith, nat_tests)
 
 above_from_test : (a b : ℕ) → nat_le a b ≡ false → b < a
 above_from_test a b h = grind (arith, nat_tests)
@@ -159,8 +154,8 @@ nearest-alone places keys offset n d index point within some alone =
 -- what a search for the first key at or above the key counts, and for the first one above it
 pub below_point : (places : List Place) (key n : ℕ) → IsPartitionPoint (λ place. nat_lt place.key key ≡ true) (λ place. nat_lt place.key key ≡ false) places n
     → IsPartitionPoint (λ place. place.key < key) (λ place. key ≤ place.key) places n
-below_point places key n h = (λ k d low high. lt_from_test _ _ (h.0 k d low high), λ k d low high. le_from_test _ _ (h.1 k d low high))
+below_point places key n h = (λ k d low high. from_lt _ _ (h.0 k d low high), λ k d low high. le_from_test _ _ (h.1 k d low high))
 
 pub to_point : (places : List Place) (key n : ℕ) → IsPartitionPoint (λ place. nat_le place.key key ≡ true) (λ place. nat_le place.key key ≡ false) places n
     → IsPartitionPoint (λ place. place.key ≤ key) (λ place. key < place.key) places n
-to_point places key n h = (λ k d low high. to_from_test _ _ (h.0 k d low high), λ k d low high. above_from_test _ _ (h.1 k d low high))
+to_point places key n h = (λ k d low high. from_le _ _ (h.0 k d low high), λ k d low high. above_from_test _ _ (h.1 k d low high))

@@ -3,7 +3,7 @@ use Rattle.std.proofs.Common.{◌≡◌, ℕ, ◌+◌, ◌<◌, Bool, true, fals
 use Rattle.std.proofs.lemmas.List.{map-append, length-map}
 use Rattle.std.specs.Prelude.{filter_map, is_some, if◌then◌else◌}
 use Rattle.std.specs.Str.Lines.{lines}
-use Rattle.soc_raw.specs.Options.{◌>>=◌}
+use Rattle.soc_base.specs.Options.{◌>>=◌}
 use Rattle.soc_symfile.specs.declared.error.SymError.{SymError}
 use Rattle.soc_symfile.specs.declared.error.SymError.TheVariants.{BadLine, NoMemory}
 use Rattle.soc_symfile.specs.Line.{LineEntry, Other, line_of, module_line}

@@ -2,7 +2,7 @@
 -- lines of a function). This project's profile of them is strict: a line that begins like a record and is none is bad.
 use Rattle.std.specs.Prelude.{ℕ, ◌+◌, ◌^◌, ◌&&◌, nat_lt, Bool, if◌then◌else◌, List, length, codes, Option, None, Some}
 use Rattle.std.specs.Str.{bytes_eq}
-use Rattle.soc_raw.specs.Options.{◌>>=◌}
+use Rattle.soc_base.specs.Options.{◌>>=◌}
 use Rattle.soc_symfile.specs.declared.entries.SourceLine.{SourceLine}
 use Rattle.soc_symfile.specs.Words.{word, rest, is_numeral, hexadecimal, decimal_number, text_of, unmarked}
 

@@ -1,5 +1,5 @@
 //! Why a symbol file is refused.
-use soc_raw::NoMemory;
+use soc_base::NoMemory;
 use std::alloc::{AllocError, AllocFailed};
 use thiserror::Error;
 

@@ -3,7 +3,7 @@ ghost use Rattle.std.specs.Prelude.{◌≡◌, ◌≤◌, ◌<◌, ◌++◌, ◌
 ghost use Rattle.soc_symfile.specs.inner.Tables.{AreLaidOut, Owns, with_end};
 
 use crate::entries::{Extent, Owned, Owner};
-use soc_raw::NoMemory;
+use soc_base::NoMemory;
 
 /// Adds an owner that has nothing yet, where its table has so many records.
 pub fn push_owner<'a>(

@@ -2,7 +2,7 @@
 ghost use Rattle.std.specs.Prelude.{◌≡◌, ◌↔◌, ◌++◌, ℕ, List, codes, IfOk, IsTrue, MatchOption};
 ghost use Rattle.soc_symfile.specs.Path.{stem_of, path_of};
 
-use soc_raw::{NoMemory, Text};
+use soc_base::{NoMemory, Text};
 use soc_text::strip_front;
 use std::alloc::Global;
 

@@ -5,7 +5,7 @@ ghost use Rattle.std.specs.List.Sorted.{IsNonDecreasingBy, IsPartitionPoint};
 ghost use Rattle.soc_symfile.specs.inner.Places.{IsIndex, IsFirstOf, IsLastOf, IsNearest, HasNone, AllAbove};
 
 use crate::entries::Keyed;
-use soc_raw::NoMemory;
+use soc_base::NoMemory;
 use std::alloc::Global;
 
 /// Where a record stands in its table, with the number by which it is looked up.

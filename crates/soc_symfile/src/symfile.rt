@@ -14,7 +14,7 @@ use crate::found::Found;
 use crate::places::{Place, last_of, nearest};
 use crate::reading::read_tables;
 use crate::tables::Tables;
-use soc_raw::NoMemory;
+use soc_base::NoMemory;
 use std::alloc::Global;
 use std::marker::Model;
 

@@ -7,7 +7,7 @@ use crate::entries::{Extent, File, Label, Line, Owned, Owner, SourceLine};
 use crate::error::SymError;
 use crate::owners::{extend_last, owned_at, push_owner};
 use crate::places::{Place, index};
-use soc_raw::NoMemory;
+use soc_base::NoMemory;
 use std::alloc::Global;
 use std::marker::Model;
 

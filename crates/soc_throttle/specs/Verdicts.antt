@@ -3,7 +3,7 @@ use Rattle.std.specs.Prelude.{ℕ, ◌%◌, nat_lt, nat_le, nat_eq, Bool, true, 
 use Rattle.std.specs.Option.{option_map_or}
 use Rattle.std.specs.List.{list_any, list_all, starts_with}
 use Rattle.std.specs.Str.{bytes_eq}
-use Rattle.soc_raw.specs.Names.{value_of}
+use Rattle.soc_base.specs.Names.{value_of}
 use Rattle.soc_throttle.specs.declared.rule.Outcome.{Outcome}
 use Rattle.soc_throttle.specs.declared.rule.Outcome.TheVariants.{Accept, Reject}
 use Rattle.soc_throttle.specs.declared.rule.Condition.{Condition}

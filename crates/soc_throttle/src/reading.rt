@@ -4,7 +4,7 @@ ghost use Rattle.toml.specs.View.{view, table_view};
 ghost use Rattle.soc_throttle.specs.Rules as spec;
 
 use crate::rule::{Condition, Outcome, Rule};
-use soc_raw::{NoMemory, Text};
+use soc_base::{NoMemory, Text};
 use soc_toml::{first_other_key, name_at, number_or, text_at, texts_of, value_at};
 use std::alloc::Global;
 use toml::{Table, Value};

@@ -4,7 +4,7 @@ ghost use Rattle.std.specs.List.{list_any};
 ghost use Rattle.std.specs.Str.{bytes_eq};
 ghost use Rattle.soc_throttle.specs.Verdicts as spec;
 
-use soc_raw::{Text, TextList, Texts};
+use soc_base::{Text, TextList, Texts};
 
 /// What becomes of a crash.
 #[derive(Clone, Copy, Debug, PartialEq, Eq)]

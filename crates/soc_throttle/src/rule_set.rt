@@ -7,7 +7,7 @@ ghost use Rattle.soc_throttle.specs.Verdicts as verdicts;
 
 use crate::reading::rule_of;
 use crate::rule::{Condition, Outcome, Rule};
-use soc_raw::{NoMemory, Text, Texts};
+use soc_base::{NoMemory, Text, Texts};
 use std::alloc::{AllocFailed, Global};
 use std::marker::Model;
 use thiserror::Error;

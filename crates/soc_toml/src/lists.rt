@@ -4,7 +4,7 @@ ghost use Rattle.toml.specs.View.{view, array_view};
 ghost use Rattle.toml.specs.Data.{as_array};
 ghost use Rattle.soc_toml.specs.Lists as spec;
 
-use soc_raw::{NoMemory, Text, TextList};
+use soc_base::{NoMemory, Text, TextList};
 use std::alloc::Global;
 use toml::Value;
 use toml::value::Array;

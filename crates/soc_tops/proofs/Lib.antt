@@ -1,7 +1,2 @@
-pub mod CommaLemmas
-pub mod OrderLemmas
-pub mod RankLemmas
+pub mod PieceLemmas
 pub mod ReadingLemmas
-pub mod RowLemmas
-pub mod SeenLemmas
-pub mod SortLemmas

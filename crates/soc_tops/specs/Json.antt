@@ -1,8 +1,8 @@
 -- Top crashers as a JSON object (RFC 8259), compact, with names in byte order: this project's profile.
-use Rattle.std.specs.Prelude.{ℕ, List, ◌++◌, Option, None, Some, codes, decimal, map}
-use Rattle.std.specs.List.{join_with_byte}
+use Rattle.std.specs.Prelude.{ℕ, List, ◌++◌, Option, None, Some, codes, decimal}
 use Rattle.serde_json.specs.Written.{compact_text}
 use Rattle.serde_json.specs.Data.{string}
+use Rattle.soc_schema.specs.Commas.{joined}
 use Rattle.soc_tops.specs.declared.tops.Top.{Top}
 use Rattle.soc_tops.specs.declared.tops.Tops.{Tops}
 
@@ -20,9 +20,5 @@ ranks_json t = codes ",\"old_rank\":" ++ rank_json t.old_rank ++ codes ",\"rank\
 abbrev pub top_json : Top → List ℕ
 top_json t = counts_json t ++ ranks_json t ++ codes ",\"signature\":" ++ compact_text (string t.signature) ++ codes "}"
 
--- the code of `,`
-abbrev pub comma : ℕ
-comma = 44
-
 abbrev pub tops_json : Tops → List ℕ
-tops_json t = codes "{\"tops\":[" ++ join_with_byte comma (map top_json t.tops) ++ codes "],\"total\":" ++ decimal t.total ++ codes "}"
+tops_json t = codes "{\"tops\":[" ++ joined top_json t.tops ++ codes "],\"total\":" ++ decimal t.total ++ codes "}"

@@ -3,16 +3,14 @@
 use Rattle.std.specs.Prelude.{ℕ, ◌+◌, ◌&&◌, not, Bool, false, List, [], ◌∷◌, Option, None, Some, if◌then◌else◌, map, length, take}
 use Rattle.std.specs.List.{filter, enumerate_from}
 use Rattle.std.specs.Option.{option_map_or}
-use Rattle.std.specs.Ordering.{nat_cmp, is_eq, is_gt}
-use Rattle.std.specs.declared.cmp.Ordering.{Ordering}
+use Rattle.std.specs.Ordering.{nat_cmp, is_eq}
 use Rattle.soc_schema.specs.declared.value.Value.{Value}
 use Rattle.soc_schema.specs.declared.value.Value.TheVariants.{Text}
 use Rattle.soc_schema.specs.declared.value.Cell.{Cell}
 use Rattle.soc_schema.specs.Rows.{value_of}
 use Rattle.soc_schema.specs.Fields.{date_field, product_field, signature_field, version_field}
-use Rattle.soc_schema.specs.Permits.{shows}
-use Rattle.soc_store.specs.Orders.{value_cmp}
-use Rattle.soc_store.specs.Stored.{is_value, product_of, rows_with, text_of, values_of}
+use Rattle.soc_schema.specs.Orders.{in_order, value_cmp}
+use Rattle.soc_schema.specs.Values.{is_value, rows_with, sees, text_in, text_of, values_of}
 use Rattle.soc_tops.specs.declared.query.Days.{Days}
 use Rattle.soc_tops.specs.declared.query.TopsQuery.{TopsQuery}
 use Rattle.soc_tops.specs.declared.tops.Top.{Top}
@@ -34,16 +32,7 @@ is_asked q days row =
 
 -- those that the caller may see
 abbrev pub rows_between : TopsQuery → Days → List (ℕ × List Cell) → List (ℕ × List Cell)
-rows_between q days rows = filter (λ s. shows q.caller.products (product_of s.1) && is_asked q days s.1) rows
-
--- in order: what ties stays as it stands
-abbrev pub put_in_order : {X : Type 0} → (X → X → Ordering) → X → List X → List X
-put_in_order R x [] = x ∷ []
-put_in_order R x (y ∷ ys) = if is_gt (R x y) then y ∷ put_in_order R x ys else x ∷ y ∷ ys
-
-abbrev pub in_order : {X : Type 0} → (X → X → Ordering) → List X → List X
-in_order R [] = []
-in_order R (x ∷ xs) = put_in_order R x (in_order R xs)
+rows_between q days rows = filter (λ s. sees q.caller s.1 && is_asked q days s.1) rows
 
 -- a signature and how many rows have it
 pub record Counted : Type 0 where
@@ -62,9 +51,6 @@ ranking_of rows =
 abbrev pub rank_from : ℕ → Value → List Counted → Option ℕ
 rank_from rank v [] = None
 rank_from rank v (c ∷ cs) = if is_eq (value_cmp v c.signature) then Some rank else rank_from (rank + 1) v cs
-
-abbrev pub text_in : Value → List ℕ
-text_in v = option_map_or (λ t. t) (text_of (Some v)) []
 
 -- a ranked signature, and its count and rank in the old rows
 abbrev pub top_of : List (ℕ × List Cell) → ℕ × Counted → Top

@@ -1,9 +1,8 @@
 //! Days and limits as parameters have them.
-ghost use Rattle.std.specs.Prelude.{◌≡◌, ◌≤◌, pos};
-ghost use Rattle.jiff_core.specs.Calendar.{days_in_month};
-ghost use Rattle.soc_raw.specs.Day.{is_civil};
+ghost use Rattle.std.specs.Prelude.{◌≡◌, ◌≤◌};
 ghost use Rattle.soc_tops.specs.Asked.{has_dash, is_day, is_in_calendar, limit_of, number_at, number_of};
 
+use soc_raw::is_civil;
 use soc_text::{after, before};
 
 /// Whether the text is a civil day of the years 2000 to 2099, `YYYY-MM-DD`.
@@ -68,27 +67,5 @@ fn is_in_calendar(year: Option<u64>, month: Option<u64>, day: Option<u64>) -> bo
             (2000 <= year && year <= 2099) && is_civil(year, month, day)
         }
         _ => false,
-    }
-}
-
-fn is_civil(year: u64, month: u64, day: u64) -> bool
-    ensures { result ≡ is_civil year month day }
-{
-    1 <= month && month <= 12 && 1 <= day && day <= days_in_month(year, month)
-}
-
-fn days_in_month(year: u64, month: u64) -> u64
-    ensures { result ≡ days_in_month (pos year) month }
-{
-    match month {
-        2 => {
-            if year % 4 == 0 && (year % 100 != 0 || year % 400 == 0) {
-                29
-            } else {
-                28
-            }
-        }
-        4 | 6 | 9 | 11 => 30,
-        _ => 31,
     }
 }

@@ -1,5 +1,5 @@
 //! Why a query for top crashers isn't read.
-use soc_raw::{NoMemory, Text};
+use soc_base::{NoMemory, Text};
 use thiserror::Error;
 
 /// Why a query for top crashers isn't read.

@@ -5,7 +5,7 @@ ghost use Rattle.soc_tops.specs.Asked.{IsRefusal, day_of, filled, limit_of, noth
 
 use crate::day::{is_day, limit_of};
 use crate::error::TopsError;
-use soc_raw::{Pairs, Text};
+use soc_base::{Pairs, Text};
 use std::alloc::Global;
 
 /// The parameters so far.

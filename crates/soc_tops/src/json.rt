@@ -1,14 +1,13 @@
 //! Top crashers as JSON (RFC 8259).
-ghost use Rattle.std.specs.Prelude.{◌≡◌, ◌++◌, IfOk, OnOk, decimal, map};
-ghost use Rattle.std.specs.List.{join_with_byte};
+ghost use Rattle.std.specs.Prelude.{◌≡◌, ◌++◌, IfOk, OnOk, decimal};
 ghost use Rattle.serde_json.specs.Data.{string};
 ghost use Rattle.serde_json.specs.Written.{compact_text};
-ghost use Rattle.soc_tops.specs.Json.{comma, counts_json, rank_json, ranks_json, top_json};
-ghost use Rattle.soc_tops.specs.inner.Commas.{comma_after};
+ghost use Rattle.soc_tops.specs.Json.{counts_json, rank_json, ranks_json, top_json};
+ghost use Rattle.soc_schema.specs.Commas.{comma_after, joined};
 
 use crate::tops::{Top, Tops};
 use serde_json::Value as Json;
-use soc_raw::{Bytes, NoMemory};
+use soc_base::{Bytes, NoMemory};
 use std::alloc::Global;
 
 impl Tops {
@@ -30,7 +29,7 @@ impl Tops {
 }
 
 fn put_tops(alloc: Global, out: &mut Vec<u8>, tops: &[Top]) -> Result<(), NoMemory>
-    ensures { OnOk result (out.new.items ≡ out.old.items ++ join_with_byte comma (map top_json tops.now)) }
+    ensures { OnOk result (out.new.items ≡ out.old.items ++ joined top_json tops.now) }
 {
     for (i, top) in tops.iter().enumerate() {
         put_comma(out, i)?;

@@ -1,19 +1,13 @@
-//! Top crashers: the signatures of a product's version by how many rows of a range of days have them.
+//! The language of top crashers: the days of a product's version that are asked for, and its signatures, ranked.
 #![tactic(auto)]
 
-mod answering;
 mod day;
 mod error;
 mod given;
 mod json;
 mod query;
-mod ranking;
-mod rows;
-mod seen;
 mod tops;
 
-pub use answering::tops_of;
 pub use error::TopsError;
 pub use query::{Days, TopsQuery};
-pub use seen::{tops_by_what_is_seen, tops_in_any_order};
 pub use tops::{Top, TopList, Tops};

@@ -4,7 +4,7 @@ ghost use Rattle.soc_tops.specs.Asked.{IsRefusal, needed, query_of, range_of, wh
 
 use crate::error::TopsError;
 use crate::given::{Given, bad};
-use soc_raw::{Pairs, Text};
+use soc_base::{Pairs, Text};
 use soc_schema::Caller;
 use std::alloc::Global;
 use std::cmp::Ordering;

@@ -1,9 +1,5 @@
 //! What the answer has.
-ghost use Rattle.std.specs.Prelude.{◌≡◌, ◌<◌, ◌++◌, ◌∷◌, ◌↔◌, [], length, IsTrue, OnOk, OnErr, slice_get, Some};
-
-use soc_raw::{NoMemory, Text};
-use std::alloc::Global;
-use std::marker::Model;
+use soc_base::{Items, Text};
 
 /// A signature with its counts and ranks in both ranges of days.
 #[derive(Debug, Drop)]
@@ -30,65 +26,4 @@ pub struct Tops {
 }
 
 /// Ranked signatures, in order.
-#[derive(Debug, Drop)]
-pub struct TopList {
-    items: Vec<Top>,
-}
-
-impl Model for TopList {
-    ghost use Rattle.std.specs.Prelude.{List};
-    ghost use Rattle.soc_tops.specs.declared.tops.Top.{Top};
-
-    ghost Value = { List Top };
-
-    ghost view = { λ list. list.items.items };
-}
-
-impl TopList {
-    /// The empty list.
-    pub fn new(alloc: Global) -> TopList
-        ensures { result ≡ [] }
-    {
-        TopList {
-            items: Vec::new(alloc),
-        }
-    }
-
-    /// Adds an item at the end.
-    pub fn push(&mut self, item: Top) -> Result<(), NoMemory>
-        ensures ok { OnOk result (self.new ≡ self.old ++ item ∷ []) }
-        ensures err { OnErr result (self.new ≡ self.old) }
-    {
-        self.items.push(item)?;
-        Ok(())
-    }
-
-    /// How many items there are.
-    pub fn len(&self) -> usize
-        ensures { result ≡ length self.now }
-    {
-        self.items.len()
-    }
-
-    /// Whether there is none.
-    pub fn is_empty(&self) -> bool
-        ensures { IsTrue result ↔ (self.now ≡ []) }
-    {
-        self.items.is_empty()
-    }
-
-    /// The item at `i`, from 0.
-    pub fn at(&self, i: usize) -> &Top
-        requires { i < length self.now }
-        ensures { slice_get self.now i ≡ Some result.now }
-    {
-        &self.items[i]
-    }
-
-    /// The items.
-    pub fn as_slice(&self) -> &[Top]
-        ensures { result.now ≡ self.now }
-    {
-        self.items.as_slice()
-    }
-}
+pub type TopList = Items<Top>;

@@ -16,8 +16,8 @@ use Rattle.soc_desk.specs.Grows.{Grows}
 use Rattle.soc_desk.specs.Log.{Change, Kept, accept, ask, withdraw, report, keep, event_of}
 use Rattle.soc_desk.specs.State.{State, doubted}
 use Rattle.soc_book.proofs.Turnings.{unheld_idle}
-use Rattle.soc_turns.specs.Changes.{counts}
-use Rattle.soc_turns.specs.Turns.{TellsIdle}
+use Rattle.soc_service.specs.Changes.{counts}
+use Rattle.soc_service.specs.Answers.{TellsIdle}
 
 not_true : (b : Bool) → IsTrue (not b) → b ≡ false
 not_true true never = absurd (true_is_not_false (sym never))

@@ -1,4 +1,4 @@
-pub mod Codes
 pub mod Idle
 pub mod Logs
 pub mod Sharing
+pub mod Crossing

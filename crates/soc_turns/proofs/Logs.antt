@@ -5,6 +5,7 @@ use Rattle.std.specs.Int.{from_le_bytes, to_le_bytes, w32}
 use Rattle.std.specs.List.{AllByRecursion, find}
 use Rattle.std.specs.Option.{IsSome, option_map, option_and_then}
 use Rattle.std.proofs.Math.Seq.{drop-append_seam, take-append_seam}
+use Rattle.std.proofs.lemmas.List.{length-map}
 use Rattle.std.proofs.lemmas.Nat.{from_le_bytes-to_le_bytes_4}
 use Rattle.soc_raw.specs.Record.{Crash, record_of}
 use Rattle.soc_schema.specs.declared.value.Cell.{Cell}
@@ -27,8 +28,9 @@ use Rattle.soc_desk.specs.Log.{Accepted, Change as Logged, accept, ask, withdraw
 use Rattle.soc_desk.specs.State.{State, entry_of, entries_of, kept_of}
 use Rattle.soc_book.specs.declared.book.Change.{Change as Pending}
 use Rattle.soc_book.specs.inner.Stands.{AreFiled, IsFiled, IsFiledOf, Stands}
-use Rattle.soc_turns.specs.declared.change.Change.{Change}
-use Rattle.soc_turns.specs.Changes.{body_at, changes_at, events_in, first_body, text_in}
+use Rattle.soc_service.specs.declared.change.Change.{Change}
+use Rattle.soc_service.specs.Changes.{events_in, text_in}
+use Rattle.soc_turns.specs.Changes.{body_at, changes_at, first_body}
 use Rattle.soc_turns.specs.Logs.{change_of, changes_of, text_of}
 
 -- ---- the body of an entry
@@ -111,15 +113,18 @@ log_is basis limits ledger rows pending journal disk state stands =
     ∙ same_log basis disk journal (entries_of (kept_of state.log)) (option_map entry_of state.doubt) (λ told. (stands.told told).means) state.log ledger.crashes stands.holds.filed stands.legal.log.told
 
 -- a change for each event
+pub events-changes_at : (text_at : ℕ → Option (List ℕ)) (log : List Event) (filed : List Filed) → events_in (changes_at text_at log filed) ≡ log
+events-changes_at text_at [] filed = refl
+events-changes_at text_at (E.Accepted id ∷ log) [] = ap (λ l. E.Accepted id ∷ l) (events-changes_at text_at log [])
+events-changes_at text_at (E.Accepted id ∷ log) (crash ∷ filed) = ap (λ l. E.Accepted id ∷ l) (events-changes_at text_at log filed)
+events-changes_at text_at (E.Asked id ∷ log) filed = ap (λ l. E.Asked id ∷ l) (events-changes_at text_at log filed)
+events-changes_at text_at (E.Withdrawn id ∷ log) filed = ap (λ l. E.Withdrawn id ∷ l) (events-changes_at text_at log filed)
+events-changes_at text_at (E.Reported id own ∷ log) filed = ap (λ l. E.Reported id own ∷ l) (events-changes_at text_at log filed)
+events-changes_at text_at (E.Done id ∷ log) filed = ap (λ l. E.Done id ∷ l) (events-changes_at text_at log filed)
+events-changes_at text_at (E.Stopped ∷ log) filed = ap (λ l. E.Stopped ∷ l) (events-changes_at text_at log filed)
+
 pub length-changes_at : (text_at : ℕ → Option (List ℕ)) (log : List Event) (filed : List Filed) → length (changes_at text_at log filed) ≡ length log
-length-changes_at text_at [] filed = refl
-length-changes_at text_at (E.Accepted id ∷ log) [] = ap (λ n. suc n) (length-changes_at text_at log [])
-length-changes_at text_at (E.Accepted id ∷ log) (crash ∷ filed) = ap (λ n. suc n) (length-changes_at text_at log filed)
-length-changes_at text_at (E.Asked id ∷ log) filed = ap (λ n. suc n) (length-changes_at text_at log filed)
-length-changes_at text_at (E.Withdrawn id ∷ log) filed = ap (λ n. suc n) (length-changes_at text_at log filed)
-length-changes_at text_at (E.Reported id own ∷ log) filed = ap (λ n. suc n) (length-changes_at text_at log filed)
-length-changes_at text_at (E.Done id ∷ log) filed = ap (λ n. suc n) (length-changes_at text_at log filed)
-length-changes_at text_at (E.Stopped ∷ log) filed = ap (λ n. suc n) (length-changes_at text_at log filed)
+length-changes_at text_at log filed = sym (length-map (changes_at text_at log filed) (λ change. change.event)) ∙ ap (λ l. length l) (events-changes_at text_at log filed)
 
 pub events_are : (basis : Basis) (log : List Logged) → events_in (changes_of basis log) ≡ events basis log
 events_are basis [] = refl

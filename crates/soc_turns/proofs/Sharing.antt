@@ -8,6 +8,7 @@ use Rattle.std.proofs.Math.Logic.{∥∥₁_elim, ∥∥₁_map, ∥∥₁_map�
 use Rattle.std.proofs.Math.Seq.{take-append_seam}
 use Rattle.std.proofs.lemmas.List.{length-map, map-append, take-append-drop}
 use mathlib.Core.List.{IsPrefix}
+use Rattle.soc_base.proofs.Folk.{none_is_not_some, some-injective}
 use Rattle.soc_raw.specs.RawCrash.{crash_of}
 use Rattle.soc_raw.specs.Record.{Crash, IsCrash, record_of}
 use Rattle.soc_raw.specs.declared.raw_crash.RawCrash.{RawCrash}
@@ -21,7 +22,6 @@ use Rattle.soc_ledger.specs.Due.{is_due}
 use Rattle.soc_ledger.specs.Events.{has_stop, is_held}
 use Rattle.soc_ledger.specs.Legal.{IsLegal as AreLegal}
 use Rattle.soc_ledger.specs.State.{LedgerState}
-use Rattle.soc_ledger.proofs.Lists.{none_is_not_some, some-injective}
 use Rattle.soc_vault.specs.Vaults.{Means}
 use Rattle.soc_desk.specs.declared.desk.Command.{Command}
 use Rattle.soc_desk.specs.declared.desk.Command.TheVariants as C
@@ -42,13 +42,14 @@ use Rattle.soc_book.specs.Books.{AllowsBook, AsksBook}
 use Rattle.soc_book.specs.Openings.{IsBasisOf, OpensBook}
 use Rattle.soc_book.specs.inner.Stands.{Stands}
 use Rattle.soc_book.proofs.Listings.{sound_accepted}
-use Rattle.soc_turns.specs.declared.change.Change.{Change}
-use Rattle.soc_turns.specs.Changes.{body_at, changes_at, events_in, text_in}
+use Rattle.soc_service.specs.declared.change.Change.{Change}
+use Rattle.soc_service.specs.Changes.{events_in, text_in}
+use Rattle.soc_turns.specs.Changes.{body_at, changes_at}
 use Rattle.soc_turns.specs.Logs.{change_of, changes_of}
 use Rattle.soc_turns.specs.Grounds.{desk_basis}
-use Rattle.soc_turns.specs.Turns.{Answers, FetchesText, MayAsk, TellsIdle}
+use Rattle.soc_service.specs.Answers.{Answers, FetchesText, MayAsk, TellsIdle}
 use Rattle.soc_turns.proofs.Idle.{doubt_counts, tells_idle}
-use Rattle.soc_turns.proofs.Codes.{one_log}
+use Rattle.soc_service.proofs.Codes.{one_log}
 use Rattle.soc_turns.proofs.Logs.{events_are, log_is, text_is}
 
 -- ---- what may be asked
@@ -100,22 +101,22 @@ module _ (row_of : Crash → List Cell) (told : Bool) (limits : Limits) (ledger 
       raw_by (raw_of state.log crash.id) crash (λ raw is. raw_sound basis state.log crash.id raw stands.legal.log is) there.0
       (sym (text_is basis state.log crash.id is_told) ∙ text)
 
-  pub allowed : (command : Command) → MayAsk row_of told (changes_at (body_at told disk.content) ledger.log ledger.crashes) command
+  pub allowed : (digest : Option (List ℕ)) (command : Command) → MayAsk (desk_basis row_of digest limits told) (changes_at (body_at told disk.content) ledger.log ledger.crashes) command
       → AllowsBook row_of (λ basis state. Stands basis limits ledger rows pending journal disk state) command
-  allowed (C.Finish processed) may = (may.0, λ basis state stands is_told due. raw_here processed.crash may.1 basis state stands is_told)
-  allowed (C.Submit raw) may = tt
-  allowed (C.Priority caller id) may = tt
-  allowed (C.Reprocess caller id) may = tt
-  allowed (C.Withdraw caller id) may = tt
-  allowed (C.Raw caller id) may = tt
-  allowed (C.Processed caller id) may = tt
-  allowed (C.Dump caller id name) may = tt
-  allowed (C.Search query) may = tt
-  allowed (C.Tops query) may = tt
-  allowed (C.Turn caller) may = tt
-  allowed (C.Drain caller) may = tt
-  allowed (C.Stop caller) may = tt
-  allowed (C.Fetch id) may = tt
+  allowed digest (C.Finish processed) may = (may.0, λ basis state stands is_told due. raw_here processed.crash may.1 basis state stands is_told)
+  allowed digest (C.Submit raw) may = tt
+  allowed digest (C.Priority caller id) may = tt
+  allowed digest (C.Reprocess caller id) may = tt
+  allowed digest (C.Withdraw caller id) may = tt
+  allowed digest (C.Raw caller id) may = tt
+  allowed digest (C.Processed caller id) may = tt
+  allowed digest (C.Dump caller id name) may = tt
+  allowed digest (C.Search query) may = tt
+  allowed digest (C.Tops query) may = tt
+  allowed digest (C.Turn caller) may = tt
+  allowed digest (C.Drain caller) may = tt
+  allowed digest (C.Stop caller) may = tt
+  allowed digest (C.Fetch id) may = tt
 
 -- ---- what a turn gives
 

@@ -4,8 +4,13 @@ use Rattle.soc_raw.specs.Record.{Crash}
 use Rattle.soc_schema.specs.declared.value.Cell.{Cell}
 use Rattle.soc_desk.specs.declared.desk.Limits.{Limits}
 use Rattle.soc_desk.specs.Basis.{Basis}
+use Rattle.soc_turns.specs.declared.grounds.Grounds.{Grounds}
 
 -- the basis of a book with this reporter and these limits, over a disk that tells its content or doesn't
 abbrev pub desk_basis : (Crash → List Cell) → Option (List ℕ) → Limits → Bool → Basis
 desk_basis row_of digest limits told =
     record { row_of = row_of; digest = digest; journal_bytes = limits.journal_bytes; crashes = limits.crashes; is_told = told }
+
+-- the same by what no turn of a shared book changes
+abbrev pub desk_by : {R D : Type 0} → (R → Crash → List Cell) → (R → Option (List ℕ)) → Bool → Grounds R D → Basis
+desk_by row_of digest_of told grounds = desk_basis (row_of grounds.reporter) (digest_of grounds.reporter) grounds.limits told

@@ -1,5 +1,3 @@
 pub mod Grounds
 pub mod Changes
 pub mod Logs
-pub mod Turns
-pub mod inner

@@ -5,7 +5,7 @@ use Rattle.std.specs.Option.{option_map}
 use Rattle.soc_raw.specs.Record.{record_of}
 use Rattle.soc_desk.specs.Basis.{Basis}
 use Rattle.soc_desk.specs.Log.{Change as Logged, accept, ask, withdraw, report, keep, done, stop, event_of}
-use Rattle.soc_turns.specs.declared.change.Change.{Change}
+use Rattle.soc_service.specs.declared.change.Change.{Change}
 
 abbrev pub text_of : Bool → Logged → Option (List ℕ)
 text_of told (keep (accept crash)) = if told then option_map record_of crash.raw else None

@@ -1,10 +1,8 @@
 //! A desk over a journal as the state of a hall, so that threads take turns at it.
 #![tactic(auto)]
 
-mod change;
+mod grounds;
 mod shared;
-mod telling;
 
-pub use change::{Change, Grounds};
+pub use grounds::Grounds;
 pub use shared::SharedBook;
-pub use telling::Telling;

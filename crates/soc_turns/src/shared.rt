@@ -8,17 +8,17 @@ ghost use Rattle.soc_desk.specs.Basis.{Basis};
 ghost use Rattle.soc_desk.specs.State.{State};
 ghost use Rattle.soc_book.specs.Openings.{IsBasisOf, OpensBook, StopsAtEntry};
 ghost use Rattle.soc_book.specs.inner.Stands.{Stands};
-ghost use Rattle.soc_turns.specs.Grounds.{desk_basis};
+ghost use Rattle.soc_turns.specs.Grounds.{desk_basis, desk_by};
 
-use crate::change::{Change, Grounds};
-use crate::telling::Telling;
+use crate::grounds::Grounds;
 use soc_book::{Book, Prepared};
-use soc_desk::{Limits, Receipt};
-use soc_edge::Disk;
+use soc_desk::{Command, Limits, Receipt};
+use soc_edge::{Disk, Telling};
 use soc_hall::Logged;
 use soc_journal::OpenError;
 use soc_raw::CrashId;
 use soc_schema::Reporter;
+use soc_service::{Change, SharedDesk};
 use std::alloc::Global;
 use std::snapshot::Snapshot;
 
@@ -68,8 +68,8 @@ impl<'a, D: Telling, R: Reporter> SharedBook<'a, D, R> {
         SharedBook { book, opened }
     }
 
-    /// The crash that is due at this place, from 0.
-    pub fn due_at(&self, place: u32) -> Option<CrashId>
+    // The crash that is due at this place, from 0, by the book's ledger.
+    fn due_in_ledger(&self, place: u32) -> Option<CrashId>
         ensures { result ≡ slice_get (due_ids self.now.book.ledger.log) place }
     {
         if place < self.book.due() {
@@ -93,8 +93,8 @@ impl<'a, D: Telling, R: Reporter> Logged for SharedBook<'a, D, R> {
     ghost use Rattle.soc_book.specs.Books.{AsksBook};
     ghost use Rattle.soc_book.specs.inner.Stands.{Stands};
     ghost use Rattle.soc_turns.specs.Changes.{body_at, changes_at};
-    ghost use Rattle.soc_turns.specs.Turns.{Answers, MayAsk};
-    ghost use Rattle.soc_turns.specs.inner.Stays.{may_still};
+    ghost use Rattle.soc_service.specs.Answers.{Answers, MayAsk};
+    ghost use Rattle.soc_service.specs.inner.Stays.{may_still};
 
     type Command = Prepared;
 
@@ -122,9 +122,9 @@ impl<'a, D: Telling, R: Reporter> Logged for SharedBook<'a, D, R> {
         (λ basis state. Stands basis after.book.limits after.book.ledger after.book.store after.book.doubt after.book.vault.journal (D.state after.book.vault.disk.now) state)
         (D.state after.book.vault.disk.now) };
 
-    ghost answers = { λ basis log command receipt log'. ∥ Answers (desk_basis (R.row_of basis.reporter) (R.digest_of basis.reporter) basis.limits D.tells) log command receipt log' ∥₁ };
+    ghost answers = { λ basis log command receipt log'. ∥ Answers (desk_by R.row_of R.digest_of D.tells basis) log command receipt log' ∥₁ };
 
-    ghost may_ask = { λ basis log command. MayAsk (R.row_of basis.reporter) D.tells log command };
+    ghost may_ask = { λ basis log command. MayAsk (desk_by R.row_of R.digest_of D.tells basis) log command };
 
     fn turn(&mut self, command: Prepared) -> Receipt {
         self.book.ask_prepared(command)
@@ -134,5 +134,25 @@ impl<'a, D: Telling, R: Reporter> Logged for SharedBook<'a, D, R> {
         self.book.front()
     }
 
-    ghost may_still = { λ basis log more command may. may_still (R.row_of basis.reporter) D.tells log more command may };
+    ghost may_still = { λ basis log more command may. may_still (desk_by R.row_of R.digest_of D.tells basis) log more command may };
+}
+
+impl<'a, D: Telling, R: Reporter> SharedDesk for SharedBook<'a, D, R> {
+    ghost command_of = { λ prepared. prepared };
+
+    ghost desk_of = { desk_by R.row_of R.digest_of D.tells };
+
+    fn prepare(alloc: Global, command: Command) -> Prepared {
+        Prepared::new(alloc, command)
+    }
+
+    fn due_at(&self, place: u32) -> Option<CrashId> {
+        self.due_in_ledger(place)
+    }
+
+    ghost allows = { λ _ _ _ may. may };
+
+    ghost replies = { λ _ _ _ _ asked. asked.3 };
+
+    ghost tells = { λ _ _ _ _ _ answers. answers };
 }

@@ -3,8 +3,8 @@ ghost use Rattle.std.specs.Prelude.{◌≡◌, ◌⊎◌, ◌+◌, ◌<◌, ◌�
 ghost use Rattle.soc_journal.specs.Entries.{Entry, has_kind, second_version, head_size, max_body};
 ghost use Rattle.soc_vault.specs.Openings.{entry_of, place_from};
 
+use soc_base::Bytes;
 use soc_journal::OpenError;
-use soc_raw::Bytes;
 use std::alloc::Global;
 
 /// An entry that was found on a disk.

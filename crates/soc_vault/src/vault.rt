@@ -7,9 +7,9 @@ ghost use Rattle.soc_journal.specs.Entries.{Entry, entry_text, beside_body, head
 ghost use Rattle.soc_journal.specs.States.{IsKeptAt, journal_after};
 ghost use Rattle.soc_vault.specs.Vaults.{Means, StandsFor, IsAt, GivesEntry, settled_entries};
 
+use soc_base::Bytes;
 use soc_edge::{Disk, Failed};
 use soc_journal::{AppendError, EntryText, Journal, ReadError, Settled, entry_is_one};
-use soc_raw::Bytes;
 use std::alloc::Global;
 
 /// A journal and the disk that it stands on.

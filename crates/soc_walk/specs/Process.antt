@@ -6,7 +6,7 @@ use Rattle.soc_dump.specs.Dump.{Contents}
 use Rattle.soc_dump.specs.Entries.{MemoryEntry, ModuleEntry}
 use Rattle.soc_dump.specs.Identity.{debug_file_of, debug_id_of}
 use Rattle.soc_dump.specs.Memory.{holds_address, regions_of, word_in}
-use Rattle.soc_raw.specs.Options.{◌>>=◌}
+use Rattle.soc_base.specs.Options.{◌>>=◌}
 use Rattle.soc_symfile.specs.Records.{Records}
 use Rattle.soc_symfile.specs.Found.{is_in_function}
 use Rattle.soc_symfile.specs.Cfi.{span_at}

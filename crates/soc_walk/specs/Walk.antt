@@ -2,7 +2,7 @@
 use Rattle.std.specs.Prelude.{ℕ, zero, suc, ◌-◌, ◌==◌, ◌&&◌, nat_lt, Bool, true, false, if◌then◌else◌, List, [], ◌∷◌, Option, None, Some, slice_get}
 use Rattle.std.specs.Option.{option_and_then, option_map_or, unwrap_or}
 use Rattle.soc_text.specs.Paths.{base_name_of}
-use Rattle.soc_raw.specs.Options.{◌>>=◌}
+use Rattle.soc_base.specs.Options.{◌>>=◌}
 use Rattle.soc_dump.specs.Dump.{Contents}
 use Rattle.soc_dump.specs.Entries.{ExceptionEntry, ThreadEntry}
 use Rattle.soc_symfile.specs.Found.{Finding, found}

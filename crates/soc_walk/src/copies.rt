@@ -6,8 +6,8 @@ ghost use Rattle.soc_walk.specs.Views.{frame_copy, name_at, named_copy};
 use crate::borrowed::BorrowedFrame;
 use crate::frames::Frames;
 use crate::process::Process;
+use soc_base::{NoMemory, Text};
 use soc_frames::Frame;
-use soc_raw::{NoMemory, Text};
 use soc_text::base_name;
 use std::alloc::Global;
 

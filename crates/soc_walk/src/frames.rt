@@ -1,8 +1,8 @@
 //! A list of frames.
 ghost use Rattle.std.specs.Prelude.{◌≡◌, ◌<◌, ◌++◌, ◌∷◌, ◌↔◌, [], length, IsTrue, OnOk, OnErr, slice_get, Some};
 
+use soc_base::NoMemory;
 use soc_frames::Frame;
-use soc_raw::NoMemory;
 use std::alloc::Global;
 use std::marker::Model;
 

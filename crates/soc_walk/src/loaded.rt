@@ -6,8 +6,8 @@ ghost use Rattle.soc_walk.specs.Process.{loaded_with, symbols_for};
 ghost use Rattle.soc_walk.specs.Views.{loaded_entry};
 
 use crate::symbols::Symbols;
+use soc_base::NoMemory;
 use soc_dump::{Module, debug_file, debug_id};
-use soc_raw::NoMemory;
 use soc_symfile::SymFile;
 use std::alloc::Global;
 

@@ -9,8 +9,8 @@ ghost use Rattle.soc_walk.specs.Walk as spec;
 use crate::borrowed::BorrowedFrame;
 use crate::loaded::Loaded;
 use crate::process::Process;
+use soc_base::NoMemory;
 use soc_frames::Trust;
-use soc_raw::NoMemory;
 use soc_step::{Caller, PLACES, Registers, lookup_address};
 use std::alloc::Global;
 

@@ -8,8 +8,8 @@ use crate::copies::copy_frames;
 use crate::frames::Frames;
 use crate::process::Process;
 use crate::symbols::Symbols;
+use soc_base::NoMemory;
 use soc_dump::{Dump, Thread};
-use soc_raw::NoMemory;
 use soc_step::PLACES;
 use std::alloc::Global;
 

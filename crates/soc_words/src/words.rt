@@ -6,7 +6,7 @@ ghost use Rattle.soc_words.specs.Words as spec;
 
 use clap::error::ErrorKind;
 use clap::{Arg, ArgAction, ArgMatches, Command};
-use soc_raw::{NoMemory, Text};
+use soc_base::{NoMemory, Text};
 use std::alloc::{AllocError, Global};
 use thiserror::Error;
 

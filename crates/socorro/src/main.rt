@@ -1,35 +1,22 @@
 //! The program: it makes the real folder, input, output, address, journal's file, clock and draws, and leaves the rest to
-//! `soc_serve`, and over an address to `soc_host`.
+//! `soc_serve`.
 #![tactic(auto)]
 
-mod clock;
-mod disk;
-mod draws;
-mod folder;
-mod journal_file;
-mod socket;
-mod streams;
-#[cfg(test)]
-mod tests;
-
-use clock::SystemClock;
-use draws::SystemDraws;
-use folder::Folder;
-use journal_file::JournalFile;
 use soc_collect::Tally;
-use soc_edge::{Both, ReadAhead, Sink};
-use soc_host::run_hall;
-use soc_serve::run_words;
+use soc_edge::{Both, Counted, ReadAhead, World};
+use soc_serve::{run_hall, run_words};
 use soc_service::OpenGate;
 use soc_siglists::RegexMaker;
+use soc_system::{
+    Alarm, Ending, Folder, InputStream, JournalFile, OutputStream, SocketLimits, SocketListener,
+    SystemClock, SystemDraws, can_be_read,
+};
 use soc_words::{Task, Words, WordsError};
-use socket::{SocketLimits, SocketListener};
 use std::env;
 use std::io::{self, ErrorKind};
 use std::process::ExitCode;
 use std::sync::Wait;
 use std::thread::Threads;
-use streams::{InputStream, OutputStream};
 
 /// The journal's file and the folder of other words' runs.
 const JOURNAL: &str = "journal.soc";
@@ -43,28 +30,29 @@ const READ_FAULT: u8 = 6;
 const NO_MEMORY: u8 = 10;
 
 fn main(rt: HostRuntime) -> ExitCode {
-    let words = match words_of(&rt) {
-        Ok(words) => words,
-        Err(error) => return ExitCode::from(status_of(&error)),
+    let ending = match words_of(&rt) {
+        Ok(words) => answer(&rt, &rt, words.as_slice()),
+        Err(error) => Ending::of(status_of(&error)),
     };
-    let status = match Words::read(rt.alloc(), words.as_slice()) {
-        Ok(said) => match draws_of(&rt, said.command) {
+    ending.tell(&rt);
+    ExitCode::from(ending.status)
+}
+
+/// Does what the words say, by threads where that is the service.
+fn answer<R: Threads + Wait + Sync>(threads: &R, rt: &HostRuntime, words: &[String]) -> Ending {
+    match Words::read(rt.alloc(), words) {
+        Ok(said) => match draws_of(rt, said.command) {
             Some(draws) => match said.command {
-                Task::Serve | Task::Storm => {
-                    let mut output = OutputStream::new(rt.stdout());
-                    serve(&rt, &rt, words.as_slice(), &said, &mut output, draws)
-                }
+                Task::Serve | Task::Storm => serve(threads, rt, words, &said, draws),
                 Task::Check | Task::Make | Task::Replay => {
-                    let (journal, tree) = (said.journal.as_str(), said.tree.as_str());
-                    run(&rt, words.as_slice(), journal, tree, draws)
+                    run(rt, words, said.journal.as_str(), said.tree.as_str(), draws)
                 }
             },
-            None => READ_FAULT,
+            None => Ending::of(READ_FAULT),
         },
-        Err(WordsError::NotOurs) => run(&rt, words.as_slice(), JOURNAL, TREE, SystemDraws::none()),
-        Err(WordsError::NoMemory) => NO_MEMORY,
-    };
-    ExitCode::from(status)
+        Err(WordsError::NotOurs) => run(rt, words, JOURNAL, TREE, SystemDraws::none()),
+        Err(WordsError::NoMemory) => Ending::of(NO_MEMORY),
+    }
 }
 
 /// Draws for the command. Only `replay` and `serve` need any, and a clock: there are none where the system gives no random
@@ -72,7 +60,7 @@ fn main(rt: HostRuntime) -> ExitCode {
 fn draws_of(rt: &HostRuntime, command: Task) -> Option<SystemDraws> {
     match command {
         Task::Replay | Task::Serve => {
-            if !clock::can_be_read(rt) {
+            if !can_be_read(rt) {
                 return None;
             }
             SystemDraws::new(rt).ok()
@@ -82,66 +70,75 @@ fn draws_of(rt: &HostRuntime, command: Task) -> Option<SystemDraws> {
 }
 
 /// Runs the service over an address, a journal's file and a folder of the system. A storm touches none of these.
-fn serve<R: Threads + Wait + Sync, K: Sink>(
+fn serve<R: Threads + Wait + Sync>(
     rt: &R,
     system: &HostRuntime,
     words: &[String],
     said: &Words,
-    output: &mut K,
-    mut draws: SystemDraws,
-) -> u8 {
-    let Ok(mut disk) = ReadAhead::new(
-        system.alloc(),
-        JournalFile::new(system, said.journal.as_str()),
-    ) else {
-        return NO_MEMORY;
+    draws: SystemDraws,
+) -> Ending {
+    let Ok(alarm) = Alarm::new() else {
+        return Ending::of(READ_FAULT);
     };
-    let mut tree = Folder::new(system, said.tree.as_str());
+    let journal = JournalFile::new(system, said.journal.as_str(), &alarm);
+    let Ok(disk) = ReadAhead::new(system.alloc(), Counted::new(journal)) else {
+        return Ending::of(NO_MEMORY);
+    };
+    let mut world = World {
+        tree: Folder::new(system, said.tree.as_str()),
+        streams: OutputStream::new(system.stdout()),
+        disk,
+        clock: SystemClock::new(system),
+        draws,
+        maker: RegexMaker::new(),
+    };
     let limits = SocketLimits::of_service();
-    let listener = SocketListener::new(system, said.listen.as_str(), limits);
-    let mut clock = SystemClock::new(system);
-    let mut maker = RegexMaker::new();
+    let listener = SocketListener::new(system, said.listen.as_str(), &alarm, limits);
     let mut served = Tally::new();
     let (status, _listener) = run_hall(
         rt,
         system.alloc(),
         words,
-        &mut tree,
+        &mut world,
         listener,
-        output,
-        &mut disk,
-        &mut clock,
-        &mut draws,
-        &mut maker,
         &OpenGate,
         &mut served,
     );
-    status
+    Ending {
+        status,
+        refusal: world.streams.refusal(),
+    }
 }
 
 /// Runs the program over a journal's file and a folder.
-fn run(rt: &HostRuntime, words: &[String], journal: &str, tree: &str, draws: SystemDraws) -> u8 {
-    let Ok(mut disk) = ReadAhead::new(rt.alloc(), JournalFile::new(rt, journal)) else {
-        return NO_MEMORY;
+fn run(
+    rt: &HostRuntime,
+    words: &[String],
+    journal: &str,
+    tree: &str,
+    draws: SystemDraws,
+) -> Ending {
+    let alarm = Alarm::unheard();
+    let journal = JournalFile::new(rt, journal, &alarm);
+    let Ok(disk) = ReadAhead::new(rt.alloc(), Counted::new(journal)) else {
+        return Ending::of(NO_MEMORY);
     };
-    let mut tree = Folder::new(rt, tree);
-    let mut streams = Both {
-        source: InputStream::new(rt.stdin()),
-        sink: OutputStream::new(rt.stdout()),
+    let mut world = World {
+        tree: Folder::new(rt, tree),
+        streams: Both {
+            source: InputStream::new(rt.stdin()),
+            sink: OutputStream::new(rt.stdout()),
+        },
+        disk,
+        clock: SystemClock::new(rt),
+        draws,
+        maker: RegexMaker::new(),
     };
-    let mut clock = SystemClock::new(rt);
-    let mut draws = draws;
-    let mut maker = RegexMaker::new();
-    run_words(
-        rt.alloc(),
-        words,
-        &mut tree,
-        &mut streams,
-        &mut disk,
-        &mut clock,
-        &mut draws,
-        &mut maker,
-    )
+    let status = run_words(rt.alloc(), words, &mut world);
+    Ending {
+        status,
+        refusal: world.streams.sink.refusal(),
+    }
 }
 
 /// The words behind the program's name. A word that isn't UTF-8 is no word of a command, and there are none then.

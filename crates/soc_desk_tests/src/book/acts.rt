@@ -1,8 +1,9 @@
 //! What is asked of a desk, by whom, and its answers in a word.
 use super::{DEFERRED, FIREFOX, OTHER, THIRD, crash};
+use soc_base::{Pairs, Text, TextList};
 use soc_desk::{Refusal, Reply};
 use soc_query::Query;
-use soc_raw::{CrashId, Pairs, RawCrash, Text, TextList};
+use soc_raw::{CrashId, RawCrash};
 use soc_schema::{Bare, Caller, Permission, Permissions, Processed, ProductNames, Products};
 use soc_tops::TopsQuery;
 use std::alloc::Global;

@@ -2,9 +2,10 @@
 use super::acts::{Answer, Which, told};
 use super::{LIMITS, disk, put};
 use crate::expect::{holds, same};
+use soc_base::NoMemory;
 use soc_book::Book;
 use soc_edge::MemDisk;
-use soc_raw::{NoMemory, RawCrash};
+use soc_raw::RawCrash;
 use soc_schema::{Bare, Reporter, Row};
 use std::alloc::Global;
 use std::test::Fail;

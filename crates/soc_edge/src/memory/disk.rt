@@ -11,7 +11,7 @@ use super::lists::Numbers;
 use super::put::{append, put};
 use super::stop::play;
 use crate::{Disk, Failed};
-use soc_raw::NoMemory;
+use soc_base::NoMemory;
 use std::alloc::Global;
 use std::marker::Model;
 
@@ -51,7 +51,13 @@ impl MemDisk {
     /// An empty disk with room for so many bytes, written in all and at once, and for so many writes and syncs.
     /// Its calls with these numbers fail, counted from 0.
     pub fn new(alloc: Global, room: u64, calls: u32, fails: Numbers) -> Result<MemDisk, NoMemory>
-        ensures { IfOk result (λ d. d ≡ record { first = []; log = []; room = room; limit = calls; calls = no_calls fails }) }
+        ensures { IfOk result (λ d. d ≡ record {
+          first = [];
+          log = [];
+          room = room;
+          limit = calls;
+          calls = no_calls fails;
+        }) }
     {
         let room = room as usize;
         let limit = calls as usize;
@@ -232,8 +238,13 @@ impl Disk for MemDisk {
 
     fn write_at(&mut self, place: u64, bytes: &[u8]) -> Result<(), Failed>
         ensures fails { IsErr result ↔ IsTrue (refuses_write self.old place (length bytes.now)) }
-        ensures made { OnOk result (self.new ≡ record self.old { log = Wrote place bytes.now ∷ self.old.log; calls = passed self.old.calls }) }
-        ensures refused { OnErr result (self.new ≡ record self.old { calls = failed self.old.calls }) }
+        ensures made { OnOk result (self.new ≡ record self.old {
+          log = Wrote place bytes.now
+              ∷ self.old.log;
+          calls = passed self.old.calls;
+        }) }
+        ensures refused { OnErr result (self.new
+            ≡ record self.old { calls = failed self.old.calls }) }
         ensures tears { MayTear place (length bytes.now) (disk_told self.old) (disk_told self.new) }
     {
         if self.refuses_write(place, bytes.len()) {
@@ -246,8 +257,13 @@ impl Disk for MemDisk {
 
     fn sync(&mut self) -> Result<(), Failed>
         ensures fails { IsErr result ↔ IsTrue (refuses_sync self.old) }
-        ensures made { OnOk result (self.new ≡ record self.old { log = Synced ∷ self.old.log; calls = passed self.old.calls }) }
-        ensures refused { OnErr result (self.new ≡ record self.old { calls = failed self.old.calls }) }
+        ensures made { OnOk result (self.new ≡ record self.old {
+          log = Synced
+              ∷ self.old.log;
+          calls = passed self.old.calls;
+        }) }
+        ensures refused { OnErr result (self.new
+            ≡ record self.old { calls = failed self.old.calls }) }
         ensures looks { Looks (disk_told self.old) (disk_told self.new) }
     {
         if self.refuses_sync() {

@@ -22,7 +22,10 @@ impl Model for MemDraws {
 
     ghost Value = { DrawsState };
 
-    ghost view = { λ d. record { throttles = drop d.throttle_at d.throttles; ids = drop d.id_at d.ids } };
+    ghost view = { λ d. record {
+      throttles = drop d.throttle_at d.throttles;
+      ids = drop d.id_at d.ids;
+    } };
 
     ghost invariant = { λ d. (d.throttle_at < length d.throttles) × (d.id_at < length d.ids) };
 }

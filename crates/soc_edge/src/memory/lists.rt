@@ -1,7 +1,7 @@
 //! The lists that stand-ins are made of.
 ghost use Rattle.std.specs.Prelude.{◌≡◌, []};
 
-use soc_raw::Bytes;
+use soc_base::Bytes;
 use std::marker::Model;
 
 /// Numbers: of calls, moments or draws.

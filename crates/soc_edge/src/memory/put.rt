@@ -17,7 +17,8 @@ fn fill_to(bytes: &mut Vec<u8>, end: usize)
 fn overwrite(bytes: &mut Vec<u8>, place: usize, piece: &[u8])
     requires within { place ≤ vec_len bytes.old }
     requires room { place + length piece.now ≤ vec_capacity bytes.old }
-    ensures written { bytes.new.items ≡ take place bytes.old.items ++ (piece.now ++ drop (place + length piece.now) bytes.old.items) }
+    ensures written { bytes.new.items ≡ take place bytes.old.items
+        ++ (piece.now ++ drop (place + length piece.now) bytes.old.items) }
     ensures room { vec_capacity bytes.old ≤ vec_capacity bytes.new }
 {
     let inside = piece.len().min(bytes.len() - place);

@@ -7,7 +7,7 @@ ghost use Rattle.soc_edge.specs.Told.{Writes, WriteFailed};
 use super::calls::CallCount;
 use super::lists::Numbers;
 use crate::{Failed, Sink, Tells};
-use soc_raw::NoMemory;
+use soc_base::NoMemory;
 use std::alloc::Global;
 use std::marker::Model;
 
@@ -60,11 +60,14 @@ impl Sink for MemSink {
     fn write(&mut self, bytes: &[u8]) -> Result<usize, Failed>
         ensures count { IfOk result (λ n. n ≤ length bytes.now) }
         ensures some { IfOk result (λ n. 0 < length bytes.now → 0 < n) }
-        ensures writes { IfOk result (λ n. Writes (sink_told self.old) (sink_told self.new) (take n bytes.now)) }
+        ensures writes { IfOk result (λ n. Writes (sink_told self.old) (sink_told self.new)
+            (take n bytes.now)) }
         ensures untouched { OnErr result (Writes (sink_told self.old) (sink_told self.new) []) }
         ensures cause { OnErr result (WriteFailed (sink_told self.old) (sink_told self.new)) }
-        ensures fails { IsErr result ↔ (IsTrue (is_due self.old.calls) ⊎ ((0 < length bytes.now) × (self.old.room ≤ length self.old.held))) }
-        ensures whole { IfOk result (λ n. n ≡ min (length bytes.now) (self.old.room - length self.old.held)) }
+        ensures fails { IsErr result ↔ (IsTrue (is_due self.old.calls)
+            ⊎ ((0 < length bytes.now) × (self.old.room ≤ length self.old.held))) }
+        ensures whole { IfOk result (λ n. n ≡ min (length bytes.now)
+            (self.old.room - length self.old.held)) }
         ensures room { self.new.room ≡ self.old.room }
         ensures calls { self.new.calls ≡ after_call self.old.calls result }
     {

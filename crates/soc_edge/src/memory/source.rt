@@ -8,7 +8,7 @@ ghost use Rattle.soc_edge.specs.Told.{Reads, ReadFailed};
 use super::calls::CallCount;
 use super::lists::Numbers;
 use crate::{Failed, Source, Tells};
-use soc_raw::Bytes;
+use soc_base::Bytes;
 use std::marker::Model;
 
 /// Bytes in memory, read from the first on. It tells what is left, and fails at the numbers that it was given.
@@ -51,8 +51,10 @@ impl Source for MemSource {
     /// Reads as much as there is room for.
     fn read(&mut self, into: &mut [u8]) -> Result<usize, Failed>
         ensures count { IfOk result (λ n. n ≤ length into.new) }
-        ensures reads { IfOk result (λ n. Reads (source_told self.old) (source_told self.new) (take n into.new)) }
-        ensures end { IfOk result (λ n. n ≡ 0 → 0 < length into.new → IsAtEnd (Some self.new.left)) }
+        ensures reads { IfOk result (λ n. Reads (source_told self.old) (source_told self.new)
+            (take n into.new)) }
+        ensures end { IfOk result (λ n. n ≡ 0 → 0 < length into.new
+            → IsAtEnd (Some self.new.left)) }
         ensures unmoved { OnErr result (Reads (source_told self.old) (source_told self.new) []) }
         ensures cause { OnErr result (ReadFailed (source_told self.old) (source_told self.new)) }
         ensures fails { IsErr result ↔ IsTrue (is_due self.old.calls) }

@@ -34,7 +34,8 @@ fn flip(bytes: &mut [u8])
 // Flips so many bytes from a place on.
 fn flip_at(bytes: &mut [u8], place: usize, count: usize)
     requires { place + count ≤ length bytes.old }
-    ensures { bytes.new ≡ take place bytes.old ++ (map flipped (take count (drop place bytes.old)) ++ drop (place + count) bytes.old) }
+    ensures { bytes.new ≡ take place bytes.old
+        ++ (map flipped (take count (drop place bytes.old)) ++ drop (place + count) bytes.old) }
 {
     flip(&mut bytes[place..place + count]);
 }
@@ -68,7 +69,8 @@ fn tear(image: &mut Vec<u8>, choice: u64, place: usize, piece: &[u8])
 // Plays a write: a settled one is made, and one that isn't takes a digit of the choice. It answers what is left of it.
 fn play_write(image: &mut Vec<u8>, is_settled: bool, choice: u64, place: usize, piece: &[u8]) -> u64
     requires { place + length piece.now ≤ vec_capacity image.old }
-    ensures image { image.new.items ≡ (if is_settled then written image.old.items place piece.now else torn (choice % ways) place piece.now image.old.items) }
+    ensures image { image.new.items ≡ (if is_settled then written image.old.items place piece.now
+        else torn (choice % ways) place piece.now image.old.items) }
     ensures choice { result ≡ (if is_settled then choice else choice / ways) }
     ensures room { vec_capacity image.old ≤ vec_capacity image.new }
 {
@@ -84,7 +86,8 @@ fn play_write(image: &mut Vec<u8>, is_settled: bool, choice: u64, place: usize, 
 pub fn play(image: &mut Vec<u8>, log: &[DiskStep], written: &[u8], first_choice: u64)
     requires ends { AllEnd (vec_capacity image.old) log.now }
     requires counted { bytes_of log.now ≤ length written.now }
-    ensures image { image.new.items ≡ (stopped image.old.items (log_of [] log.now written.now) first_choice).image }
+    ensures image { image.new.items ≡ (stopped image.old.items
+        (log_of [] log.now written.now) first_choice).image }
     ensures room { vec_capacity image.old ≤ vec_capacity image.new }
 {
     let mut syncs = count_syncs(log);

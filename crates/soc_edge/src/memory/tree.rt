@@ -3,12 +3,12 @@ ghost use Rattle.std.specs.Prelude.{◌≡◌, ◌↔◌, IfOk, IsErrOf, IsTrue,
 ghost use Rattle.soc_edge.specs.Calls.{no_calls, is_due, passed, failed};
 ghost use Rattle.soc_edge.specs.Memory.{tree_told};
 ghost use Rattle.soc_edge.specs.Tree.{OnlyLooks};
-ghost use Rattle.soc_raw.specs.Names.{value_of};
+ghost use Rattle.soc_base.specs.Names.{value_of};
 
 use super::calls::CallCount;
 use super::lists::Numbers;
 use crate::{Tree, TreeError};
-use soc_raw::{Blobs, Bytes};
+use soc_base::{Blobs, Bytes};
 use std::alloc::Global;
 use std::marker::Model;
 
@@ -45,7 +45,9 @@ impl Tree for MemTree {
     fn file(&mut self, alloc: Global, name: &str) -> Result<Option<Bytes>, TreeError>
         ensures fails { IsErrOf result TreeError.Failed ↔ IsTrue (is_due self.old.calls) }
         ensures gives { IfOk result (λ file. file ≡ value_of self.old.files name.now) }
-        ensures after { self.new ≡ record self.old { calls = (if is_due self.old.calls then failed self.old.calls else passed self.old.calls) } }
+        ensures after { self.new ≡ record self.old {
+          calls = (if is_due self.old.calls then failed self.old.calls else passed self.old.calls);
+        } }
         ensures looks { OnlyLooks (tree_told self.old) (tree_told self.new) }
     {
         if self.calls.is_due() {

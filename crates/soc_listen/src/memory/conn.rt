@@ -6,8 +6,8 @@ ghost use Rattle.soc_edge.specs.Told.{Reads, ReadFailed, Writes, WriteFailed};
 ghost use Rattle.soc_listen.specs.Memory.{link_told, fresh_link};
 
 use crate::Conn;
+use soc_base::{Bytes, NoMemory};
 use soc_edge::{Both, Failed, MemSink, MemSource, Numbers, Sink, Source, Tells};
-use soc_raw::{Bytes, NoMemory};
 use std::alloc::Global;
 use std::marker::Model;
 use std::sync::{Arc, OnceLock};
@@ -62,8 +62,10 @@ impl Source for MemConn {
     /// Reads as much as there is room for.
     fn read(&mut self, into: &mut [u8]) -> Result<usize, Failed>
         ensures count { IfOk result (λ n. n ≤ length into.new) }
-        ensures reads { IfOk result (λ n. Reads (link_told self.old) (link_told self.new) (take n into.new)) }
-        ensures end { IfOk result (λ n. n ≡ 0 → 0 < length into.new → IsAtEnd (Some self.new.source.left)) }
+        ensures reads { IfOk result (λ n. Reads (link_told self.old) (link_told self.new)
+            (take n into.new)) }
+        ensures end { IfOk result (λ n. n ≡ 0 → 0 < length into.new
+            → IsAtEnd (Some self.new.source.left)) }
         ensures unmoved { OnErr result (Reads (link_told self.old) (link_told self.new) []) }
         ensures cause { OnErr result (ReadFailed (link_told self.old) (link_told self.new)) }
         ensures fails { IsErr result ↔ IsTrue (is_due self.old.source.calls) }
@@ -80,11 +82,14 @@ impl Sink for MemConn {
     fn write(&mut self, bytes: &[u8]) -> Result<usize, Failed>
         ensures count { IfOk result (λ n. n ≤ length bytes.now) }
         ensures some { IfOk result (λ n. 0 < length bytes.now → 0 < n) }
-        ensures writes { IfOk result (λ n. Writes (link_told self.old) (link_told self.new) (take n bytes.now)) }
+        ensures writes { IfOk result (λ n. Writes (link_told self.old) (link_told self.new)
+            (take n bytes.now)) }
         ensures untouched { OnErr result (Writes (link_told self.old) (link_told self.new) []) }
         ensures cause { OnErr result (WriteFailed (link_told self.old) (link_told self.new)) }
-        ensures fails { IsErr result ↔ (IsTrue (is_due self.old.sink.calls) ⊎ ((0 < length bytes.now) × (self.old.sink.room ≤ length self.old.sink.held))) }
-        ensures whole { IfOk result (λ n. n ≡ min (length bytes.now) (self.old.sink.room - length self.old.sink.held)) }
+        ensures fails { IsErr result ↔ (IsTrue (is_due self.old.sink.calls)
+            ⊎ ((0 < length bytes.now) × (self.old.sink.room ≤ length self.old.sink.held))) }
+        ensures whole { IfOk result (λ n. n ≡ min (length bytes.now)
+            (self.old.sink.room - length self.old.sink.held)) }
         ensures room { self.new.sink.room ≡ self.old.sink.room }
         ensures calls { self.new.sink.calls ≡ after_call self.old.sink.calls result }
         ensures source { self.new.source ≡ self.old.source }

@@ -6,8 +6,8 @@ ghost use Rattle.soc_listen.specs.Told.{HandsOver, Ends, AcceptFailed};
 
 use super::conn::{MemConn, Written};
 use crate::Listener;
-use soc_edge::{BytesList, Failed, Numbers};
-use soc_raw::NoMemory;
+use soc_base::NoMemory;
+use soc_edge::{BytesList, CallCount, Failed, Numbers};
 use std::alloc::Global;
 use std::collections::VecDeque;
 use std::marker::Model;
@@ -19,9 +19,7 @@ use std::sync::{Arc, OnceLock};
 pub struct MemListener {
     left: VecDeque<MemConn>,
     written: Vec<Written>,
-    fails: Numbers,
-    made: u64,
-    failed: u64,
+    calls: CallCount,
     ended: bool,
 }
 
@@ -34,11 +32,12 @@ impl Model for MemListener {
     ghost view = { λ l. record {
       left = l.left.items;
       handed = vec_len l.written - length l.left.items;
-      calls = record { fails = l.fails; made = l.made; failed = l.failed };
+      calls = l.calls;
       ended = l.ended;
     } };
 
-    ghost invariant = { λ l. (length l.left.items ≤ vec_len l.written) × (l.ended ≡ true → l.left.items ≡ []) };
+    ghost invariant = { λ l. (length l.left.items ≤ vec_len l.written)
+        × (l.ended ≡ true → l.left.items ≡ []) };
 }
 
 impl MemListener {
@@ -62,9 +61,7 @@ impl MemListener {
         Ok(MemListener {
             left,
             written,
-            fails,
-            made: 0,
-            failed: 0,
+            calls: CallCount::new(fails),
             ended: false,
         })
     }
@@ -78,7 +75,7 @@ impl MemListener {
     fn is_due(&self) -> bool
         ensures { result ≡ (not self.now.ended && is_due self.now.calls) }
     {
-        !self.ended && self.fails.as_slice().contains(&self.made)
+        !self.ended && self.calls.is_due()
     }
 }
 
@@ -91,17 +88,17 @@ impl Listener for MemListener {
         ensures gives { IfOk result (λ conn. MatchOption conn
             (Ends (listener_told self.old) (listener_told self.new))
             (λ c. HandsOver (listener_told self.old) (listener_told self.new) (link_told c))) }
-        ensures fails { OnErr result (AcceptFailed (listener_told self.old) (listener_told self.new)) }
+        ensures fails { OnErr result (AcceptFailed (listener_told self.old)
+            (listener_told self.new)) }
         ensures only { IsErr result ↔ IsTrue (not self.old.ended && is_due self.old.calls) }
-        ensures first { IfOk result (λ conn. MatchOption conn (self.old.left ≡ []) (λ c. self.old.left ≡ c ∷ self.new.left)) }
+        ensures first { IfOk result (λ conn. MatchOption conn (self.old.left ≡ [])
+            (λ c. self.old.left ≡ c ∷ self.new.left)) }
         ensures calls { self.new.calls ≡ after_call self.old.calls result }
     {
-        let fails = self.is_due();
-        self.made = self.made.saturating_add(1);
-        if fails {
-            self.failed = self.failed.saturating_add(1);
-            return Err(Failed);
+        if self.is_due() {
+            return Err(self.calls.fail());
         }
+        self.calls.pass();
         let conn = self.left.pop_front();
         self.ended = self.ended || conn.is_none();
         Ok(conn)

@@ -1,14 +1,14 @@
 -- Reading a record from its front: a value and the bytes that stand behind it, or nothing where they have no such front.
-use Rattle.std.specs.Prelude.{◌≡◌, ℕ, zero, suc, List, [], ◌∷◌, length, take, drop, Option, Some, None, Result, Ok, Err, Bool, true, nat_lt, nat_le, ◌&&◌, ◌==◌, if◌then◌else◌}
-use Rattle.std.specs.Int.{Width, w32, w64, byte_len, from_le_bytes}
+use Rattle.std.specs.Prelude.{◌≡◌, ℕ, zero, suc, List, [], ◌∷◌, length, Option, Some, None, Result, Ok, Err, Bool, true, nat_lt, nat_le, ◌&&◌, ◌==◌, if◌then◌else◌}
+use Rattle.std.specs.Int.{w32, w64}
 use Rattle.std.specs.Ordering.{is_lt}
-use Rattle.std.specs.Str.{is_utf8}
 use Rattle.soc_raw.specs.declared.record_error.RecordError.{RecordError}
 use Rattle.soc_raw.specs.Refusals.{Refuses}
 use Rattle.soc_raw.specs.CrashId.{id_length, is_id}
 use Rattle.soc_raw.specs.Day.{first_moment, last_moment}
-use Rattle.soc_raw.specs.Names.{byte_cmp}
-use Rattle.soc_raw.specs.Options.{◌>>=◌}
+use Rattle.soc_base.specs.Names.{byte_cmp}
+use Rattle.soc_base.specs.Options.{◌>>=◌}
+use Rattle.soc_base.specs.Cursor.{number_at, bytes_at, blob_at, text_at}
 use Rattle.soc_raw.specs.Record.{Crash, MAX_ANNOTATIONS, MAX_DUMPS}
 
 -- what was answered, seen by view, is what is read, unless memory ran out
@@ -16,33 +16,10 @@ abbrev pub Gives : {X Y : Type 0} → (X → Y) → Result X RecordError → Opt
 Gives view (Ok x) read = read ≡ Some (view x)
 Gives view (Err e) read = Refuses e (read ≡ None)
 
--- what a read of the front answered, seen by view, and what it left are what `at` reads of the bytes
-abbrev pub ReadsAs : {X Y : Type 0} → (X → Y) → (List ℕ → Option (Y × List ℕ)) → Option X → List ℕ → List ℕ → Type 0
-ReadsAs view at None old new = at old ≡ None
-ReadsAs view at (Some x) old new = at old ≡ Some (view x, new)
-
--- the same, where a refusal has its cause
+-- what a read of the front answered, seen by view, and what it left are what `at` reads of the bytes, unless memory ran out
 abbrev pub GivesFrom : {X Y : Type 0} → (X → Y) → (List ℕ → Option (Y × List ℕ)) → Result X RecordError → List ℕ → List ℕ → Type 0
 GivesFrom view at (Ok x) old new = at old ≡ Some (view x, new)
 GivesFrom view at (Err e) old new = Refuses e (at old ≡ None)
-
-abbrev pub number_at : Width → List ℕ → Option (ℕ × List ℕ)
-number_at w bytes =
-    if nat_lt (length bytes) (byte_len w) then None
-    else Some (from_le_bytes w (take (byte_len w) bytes), drop (byte_len w) bytes)
-
-abbrev pub bytes_at : ℕ → List ℕ → Option (List ℕ × List ℕ)
-bytes_at n bytes = if nat_lt (length bytes) n then None else Some (take n bytes, drop n bytes)
-
-unfoldable pub blob_at : List ℕ → Option (List ℕ × List ℕ)
-blob_at bytes = do
-  n ← number_at w32 bytes
-  bytes_at n.0 n.1
-
-unfoldable pub text_at : List ℕ → Option (List ℕ × List ℕ)
-text_at bytes = do
-  blob ← blob_at bytes
-  if is_utf8 blob.0 then Some blob else None
 
 unfoldable pub id_at : List ℕ → Option (List ℕ × List ℕ)
 id_at bytes = do

@@ -1,6 +1,6 @@
 -- The chains of symbol files that have one id.
 use Rattle.std.specs.Prelude.{◌≡◌, ◌≢◌, ℕ, ◌+◌, ◌<◌, ◌≤◌, List, length, Some, slice_get, slice_index, unwrap_or}
-use Rattle.soc_raw.specs.Names.{value_of}
+use Rattle.soc_base.specs.Names.{value_of}
 use Rattle.soc_report.specs.declared.index.Index.{Index}
 
 -- the place that a map has of an id, and the count where it has none

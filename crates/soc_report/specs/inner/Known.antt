@@ -6,7 +6,7 @@ use Rattle.soc_report.specs.declared.source.Source as code_source
 use Rattle.soc_report.specs.declared.source.Source.TheVariants as code
 use Rattle.soc_schema.specs.declared.field.FieldKind.{FieldKind}
 use Rattle.soc_schema.specs.declared.field.FieldKind.TheVariants as kind
-use Rattle.soc_report.specs.Report.{Known, Source, Line, line, sources, text, number, flag, age, id, moment, rule, success, architecture, processors, platform, version, modules, address, reason, thread, frames, signature, proto, notes}
+use Rattle.soc_report.specs.Report.{Known, Source, Line, line, sources, product, text, number, flag, age, id, moment, rule, success, architecture, processors, platform, version, modules, address, reason, thread, frames, signature, proto, notes}
 
 abbrev pub known_view : code_known.Known → Known
 known_view known = record {
@@ -34,6 +34,7 @@ kind_of_source thread = kind.Number
 kind_of_source frames = kind.Number
 kind_of_source (flag name) = kind.Flag
 kind_of_source success = kind.Flag
+kind_of_source product = kind.Text
 kind_of_source (text name) = kind.Text
 kind_of_source id = kind.Text
 kind_of_source moment = kind.Text
@@ -48,6 +49,7 @@ kind_of_source proto = kind.Text
 kind_of_source notes = kind.Text
 
 abbrev pub source_view : code_source.Source → Source
+source_view code.Product = product
 source_view (code.Text name) = text name.now
 source_view (code.Number name) = number name.now
 source_view (code.Flag name) = flag name.now

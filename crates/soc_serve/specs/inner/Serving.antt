@@ -1,12 +1,27 @@
--- A desk that keeps a run's reports, with its disk before and after.
-use Rattle.std.specs.Prelude.{◌≡◌, Option, None, Some}
-use Rattle.soc_edge.specs.Disk.{DiskTold, Looks}
-use Rattle.soc_desk.specs.declared.desk.Reply.{Reply}
+-- The service over a desk, by its end.
+use Rattle.std.specs.Prelude.{◌≡◌, ℕ}
+use Rattle.soc_edge.specs.Disk.{DiskFailed, GoesOn}
+use Rattle.soc_edge.specs.World.{Surroundings}
 use Rattle.soc_desk.specs.Basis.{Basis}
 use Rattle.soc_desk.specs.State.{State}
-use Rattle.soc_book.specs.Keeping.{KeepsReports}
+use Rattle.soc_replay.specs.declared.ending.RunEnd.{RunEnd}
+use Rattle.soc_replay.specs.Ends as run
+use Rattle.soc_replay.specs.Opening.{OpensNot}
+use Rattle.soc_replay.specs.Serving.{Service}
+use Rattle.soc_serve.specs.declared.ending.HostEnd.{HostEnd}
+use Rattle.soc_serve.specs.declared.ending.HostEnd.TheVariants as H
+use Rattle.soc_serve.specs.Hosts.{Closes, HostsDesk}
 
--- without a reply nothing is done
-abbrev pub KeepsDisk : Basis → State → DiskTold → Option Reply → State → DiskTold → Type 0
-KeepsDisk basis last disk None kept disk' = (kept ≡ last) × Looks disk disk'
-KeepsDisk basis last disk (Some said) kept disk' = KeepsReports basis last disk said kept disk'
+-- the end of the service over a disk
+pub record ClosesBook (before after : Surroundings) (end : HostEnd) (basis : Basis) (closed swept : State) : Type 0 where
+  pub ends : Closes before after end basis closed swept
+  pub goes_on : GoesOn before.disk after.disk
+
+-- the journal wasn't opened, and the disk is blamed only where it failed
+pub record EndsOpening (before after : Surroundings) (end : RunEnd) : Type 0 where
+  pub not : OpensNot before after end
+  pub cause : run.status_of end ≡ 4 → DiskFailed before.disk after.disk
+
+abbrev pub ServesDesk : Service → ℕ → Surroundings → Surroundings → HostEnd → Type 0
+ServesDesk by kept before after (H.Before end) = EndsOpening before after end
+ServesDesk by kept before after end = ∥ HostsDesk by kept before after end ∥₁

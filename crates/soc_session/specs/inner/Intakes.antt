@@ -1,7 +1,7 @@
 -- How a message's body is taken in: what its head asks for, and what is had of the body once it was read whole.
 use Rattle.std.specs.Prelude.{◌≡◌, ℕ, ◌+◌, ◌<◌, List, [], ◌++◌, length, codes, Result, Ok, Err, IfOk, ⊤}
 use Rattle.soc_edge.specs.Told.{Told, Reads}
-use Rattle.soc_raw.specs.declared.no_memory.NoMemory.{NoMemory}
+use Rattle.soc_base.specs.declared.no_memory.NoMemory.{NoMemory}
 use Rattle.soc_multipart.specs.Readers.{ReaderText, WasFed}
 use Rattle.soc_forms.specs.declared.form_error.FormError.{FormError}
 use Rattle.soc_forms.specs.declared.reasons.Reason.{Reason}
@@ -20,9 +20,9 @@ use Rattle.soc_http.specs.Body.{BodyFrom}
 use Rattle.soc_http.specs.Message.{Message}
 use Rattle.soc_http.specs.Query.{query_pairs}
 use Rattle.soc_schema.specs.declared.caller.Caller.{Caller}
-use Rattle.soc_session.specs.declared.forms.Form.TheVariants as form
+use Rattle.soc_session.specs.declared.forms.ReplyForm.TheVariants as form
 use Rattle.soc_session.specs.declared.intake.Content.{Content}
-use Rattle.soc_session.specs.declared.intake.Content.TheVariants.{Planned, Submitted}
+use Rattle.soc_session.specs.declared.intake.Content.TheVariants.{Decided, Submitted}
 use Rattle.soc_session.specs.declared.intake.Intake.{Intake}
 use Rattle.soc_session.specs.declared.intake.Intake.TheVariants.{Passes, Feeds, Collects}
 use Rattle.soc_session.specs.declared.routes.asks.Action.{Action}
@@ -79,12 +79,12 @@ IsFormReady (Err error) = ⊤
 
 -- the content is the message's, under the rules
 abbrev pub Says : Rules → Message → Content → Type 0
-Says rules message (Planned plan) = Plans rules message [] (plan_text plan)
+Says rules message (Decided plan) = Plans rules message [] (plan_text plan)
 Says rules message (Submitted said) = IsSubmitted rules message.head × HoldsSubmission message (submission_text said)
 
 -- a submission keeps within the limits of a raw crash
 abbrev pub FitsContent : Content → Type 0
-FitsContent (Planned plan) = ⊤
+FitsContent (Decided plan) = ⊤
 FitsContent (Submitted said) = FitsCrash (submission_text said)
 
 -- ---- a body that is taken in
@@ -109,16 +109,16 @@ IsSaid boundary body (Ok said) = BodySays boundary body (submission_text said) �
 IsSaid boundary body (Err error) = BodyRefusal boundary body error
 
 abbrev pub IsOfForm : List ℕ → List ℕ → Content → Type 0
-IsOfForm boundary body (Planned plan) = (reason : Reason) × BodyFault boundary body reason × (plan_text plan ≡ says (malformed reason))
+IsOfForm boundary body (Decided plan) = (reason : Reason) × BodyFault boundary body reason × (plan_text plan ≡ says (malformed reason))
 IsOfForm boundary body (Submitted said) = IsSaid boundary body (Ok said)
 
 abbrev pub IsCollected : Action → Caller → List ℕ → Content → Type 0
-IsCollected action caller body (Planned plan) = plan_text plan ≡ asks_of action caller body
+IsCollected action caller body (Decided plan) = plan_text plan ≡ asks_of action caller body
 IsCollected action caller body (Submitted said) = ⊥
 
 -- the content is had of the body as the intake says
 abbrev pub IsOfBody : Result Intake NoMemory → List ℕ → Content → Type 0
-IsOfBody (Ok (Passes plan)) body content = content ≡ Planned plan
+IsOfBody (Ok (Passes plan)) body content = content ≡ Decided plan
 IsOfBody (Ok (Feeds fresh)) body content = IsOfForm fresh.boundary body content
 IsOfBody (Ok (Collects action caller)) body content = IsCollected action caller body content
 IsOfBody (Err error) body content = ⊥

@@ -8,11 +8,12 @@ ghost use Rattle.soc_session.specs.inner.Actions.{to_act};
 ghost use Rattle.soc_session.specs.inner.Askable.{is_askable};
 ghost use Rattle.soc_session.specs.inner.Plans.{plan_text};
 
-use crate::forms::Form;
+use crate::forms::ReplyForm;
 use crate::parameters::crash_posted;
 use crate::plans::Plan;
+use soc_base::NoMemory;
 use soc_desk::Command;
-use soc_raw::{CrashId, NoMemory};
+use soc_raw::CrashId;
 use soc_schema::Caller;
 use std::alloc::Global;
 
@@ -35,12 +36,12 @@ pub(crate) fn plan(
     form: &[u8],
 ) -> Result<Plan, NoMemory>
     ensures { IfOk result (λ plan. plan_text plan ≡
-        about (crash_named (codes "crash_ids") (query_pairs form.now)) (to_act action caller) Form.Data) }
+        about (crash_named (codes "crash_ids") (query_pairs form.now)) (to_act action caller) ReplyForm.Data) }
 {
     let Some(id) = crash_posted(alloc, form)? else {
         return Plan::not_found(alloc);
     };
-    Ok(Plan::asking(command(action, caller, id), Form::Data))
+    Ok(Plan::asking(command(action, caller, id), ReplyForm::Data))
 }
 
 fn command(action: Action, caller: Caller, id: CrashId) -> Command

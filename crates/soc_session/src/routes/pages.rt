@@ -4,11 +4,11 @@ ghost use Rattle.soc_session.specs.Parameters.{id_in};
 ghost use Rattle.soc_session.specs.Plan.{page_of};
 ghost use Rattle.soc_session.specs.inner.Plans.{plan_text};
 
-use crate::forms::Form;
+use crate::forms::ReplyForm;
 use crate::parameters::id_in;
 use crate::plans::Plan;
+use soc_base::NoMemory;
 use soc_desk::Command;
-use soc_raw::NoMemory;
 use soc_schema::Caller;
 use std::alloc::Global;
 
@@ -19,5 +19,5 @@ pub(super) fn report(alloc: Global, id: &str, caller: Caller) -> Result<Plan, No
     let Some(id) = id_in(id) else {
         return Plan::not_found(alloc);
     };
-    Ok(Plan::asking(Command::Processed { caller, id }, Form::Report(id)))
+    Ok(Plan::asking(Command::Processed { caller, id }, ReplyForm::Report(id)))
 }

@@ -8,15 +8,15 @@ ghost use Rattle.soc_session.specs.Plan.{says, search_by, tops_by};
 ghost use Rattle.soc_session.specs.Replies.{good};
 ghost use Rattle.soc_session.specs.inner.Plans.{plan_text};
 
-use crate::forms::Form;
+use crate::forms::ReplyForm;
 use crate::json::fields_json;
 use crate::parameters::query_in;
 use crate::plans::Plan;
 use crate::replies::{good, query_refusal, tops_refusal};
+use soc_base::NoMemory;
 use soc_desk::Command;
 use soc_http::{Head, Kind};
 use soc_query::Query;
-use soc_raw::NoMemory;
 use soc_schema::Caller;
 use soc_tops::TopsQuery;
 use std::alloc::Global;
@@ -26,7 +26,7 @@ pub(super) fn reports(
     alloc: Global,
     head: &Head,
     caller: Caller,
-    form: Form,
+    form: ReplyForm,
 ) -> Result<Plan, NoMemory>
     ensures { IfOk result (λ plan. plan_text plan ≡ search_by (query_of caller (query_pairs head.now.query)) form) }
 {
@@ -45,7 +45,12 @@ pub(super) fn fields(alloc: Global, caller: &Caller) -> Result<Plan, NoMemory>
 }
 
 /// `/api/TopCrashers/` and `/topcrashers/`: the signatures of a product's version.
-pub(super) fn tops(alloc: Global, head: &Head, caller: Caller, form: Form) -> Result<Plan, NoMemory>
+pub(super) fn tops(
+    alloc: Global,
+    head: &Head,
+    caller: Caller,
+    form: ReplyForm,
+) -> Result<Plan, NoMemory>
     ensures { IfOk result (λ plan. plan_text plan ≡ tops_by (tops_query_of caller (query_pairs head.now.query)) form) }
 {
     let pairs = query_in(alloc, head)?;

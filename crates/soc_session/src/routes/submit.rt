@@ -12,16 +12,17 @@ ghost use Rattle.soc_session.specs.inner.Intakes.{AwaitsSubmission, IsNewForm};
 ghost use Rattle.soc_session.specs.inner.Plans.{Draws, drawn_of, plan_text};
 
 use crate::drawing::{Drawing, draw};
-use crate::forms::Form;
+use crate::forms::ReplyForm;
 use crate::intake::{Intake, passing};
 use crate::plans::Plan;
 use crate::replies::Room;
 use crate::rules::Rules;
+use soc_base::{NoMemory, Text};
 use soc_desk::Command;
 use soc_edge::{Clock, Draws};
 use soc_forms::{FormError, Reason, Submission};
 use soc_http::{Head, encoding_of, lines_named};
-use soc_raw::{CrashId, Digit, NoMemory, RawCrash, Text};
+use soc_raw::{CrashId, Digit, RawCrash};
 use soc_throttle::{Outcome, RuleSet, Verdict};
 use std::alloc::Global;
 
@@ -130,5 +131,5 @@ fn keep(
         annotations: said.annotations,
         dumps: said.dumps,
     };
-    Ok(Plan::asking(Command::Submit { raw }, Form::Submission))
+    Ok(Plan::asking(Command::Submit { raw }, ReplyForm::Submission))
 }

@@ -3,8 +3,7 @@ ghost use Rattle.std.specs.Prelude.{◌≡◌, ◌≤◌, if◌then◌else◌};
 ghost use Rattle.soc_schema.specs.Permits.{holds};
 ghost use Rattle.soc_desk.specs.Kinds.{IsReplyTo};
 
-use soc_collect::KeepingDesk;
-use soc_desk::{Command, Desk, Receipt, Refusal, Reply};
+use soc_desk::{Command, Desk, KeepingDesk, Receipt, Refusal, Reply};
 use soc_schema::{Caller, Permission};
 
 // How many commands are counted.

@@ -3,7 +3,7 @@ use Rattle.std.specs.Prelude.{◌≡◌, ℕ, ◌<◌, ◌||◌, nat_eq, Bool, f
 use Rattle.std.specs.Ordering.{is_gt}
 use Rattle.std.specs.List.{All, list_any, starts_with}
 use Rattle.std.specs.Str.{IsUtf8}
-use Rattle.soc_raw.specs.Names.{byte_cmp}
+use Rattle.soc_base.specs.Names.{byte_cmp}
 use Rattle.soc_siglists.specs.Lists.{matches_one}
 use Rattle.soc_siglists.specs.Patterns.{matches_start}
 

@@ -2,7 +2,7 @@
 use Rattle.std.specs.Prelude.{ℕ, zero, suc, ◌+◌, ◌-◌, ◌*◌, ◌^◌, nat_lt, min, List, [], ◌∷◌, if◌then◌else◌}
 use Rattle.soc_schema.specs.declared.value.Value.{Value}
 use Rattle.soc_schema.specs.declared.value.Value.TheVariants.{Text, Number, Flag}
-use Rattle.soc_store.specs.Orders.{flag_number}
+use Rattle.soc_schema.specs.Orders.{flag_number}
 
 -- the most that so many bytes can make of a number
 abbrev pub filled_up : ℕ → ℕ → ℕ

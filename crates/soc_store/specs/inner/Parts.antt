@@ -2,8 +2,8 @@
 use Rattle.std.specs.Prelude.{◌≡◌, ℕ, ◌+◌, ◌^◌, ◌<◌, List, [], ◌∷◌, ◌++◌, length, map, drop, ⊤}
 use Rattle.std.specs.List.{AllByRecursion}
 use Rattle.soc_store.specs.declared.parts.Part.{Part}
-use Rattle.soc_store.specs.Orders.{value_cmp}
-use Rattle.soc_store.specs.Tables.{Rising}
+use Rattle.soc_schema.specs.Orders.{value_cmp}
+use Rattle.soc_schema.specs.Tables.{Rising}
 use Rattle.soc_store.specs.inner.Postings.{Posting}
 
 -- the lists, one after another

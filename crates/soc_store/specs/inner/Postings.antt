@@ -5,9 +5,11 @@ use Rattle.soc_schema.specs.declared.value.Value.{Value}
 use Rattle.soc_schema.specs.declared.value.Cell.{Cell}
 use Rattle.soc_schema.specs.Rows.{value_of}
 use Rattle.soc_store.specs.declared.counts.ProductCount.{ProductCount}
-use Rattle.soc_store.specs.Orders.{value_cmp, product_cmp}
-use Rattle.soc_store.specs.Tables.{alter, prune}
-use Rattle.soc_store.specs.Stored.{counted, product_of}
+use Rattle.soc_schema.specs.Orders.{value_cmp}
+use Rattle.soc_store.specs.Orders.{product_cmp}
+use Rattle.soc_schema.specs.Tables.{alter, prune}
+use Rattle.soc_schema.specs.Values.{product_of}
+use Rattle.soc_store.specs.Stored.{counted}
 
 pub record Posting : Type 0 where
   pub value : Value

@@ -1,7 +1,7 @@
 -- A line by its first word and what stands behind it.
 use Rattle.std.specs.Prelude.{ℕ, if◌then◌else◌, List, Option, None, Some, codes}
 use Rattle.std.specs.Str.{bytes_eq}
-use Rattle.soc_raw.specs.Options.{◌>>=◌}
+use Rattle.soc_base.specs.Options.{◌>>=◌}
 use Rattle.soc_symfile.specs.Line.{LineEntry, Other, Source, fits, file_line, function_line, public_line, stack_line}
 use Rattle.soc_symfile.specs.Words.{word, rest, is_numeral, hexadecimal, decimal_number, unmarked}
 

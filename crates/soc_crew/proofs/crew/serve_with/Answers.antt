@@ -4,69 +4,61 @@ use Rattle.std.specs.Prelude.{vec_len}
 use Rattle.std.proofs.Crossing.{crosses}
 use Rattle.std.proofs.Math.Logic.{∥∥₁_map}
 use Rattle.std.proofs.lemmas.Slice.Zip.{AllZip-long}
+use Rattle.soc_base.proofs.Folk.{none_long}
 use Rattle.soc_hall.specs.Seats.{IsNew, IsSeatOf, known_of, room_of, seats_in, seats_of}
 use Rattle.soc_pool.specs.Passes.{IsPassOf}
 use Rattle.soc_collect.specs.Tallies.{nothing_served}
-use Rattle.soc_desk.specs.declared.desk.Limits.{Limits}
 use Rattle.soc_service.specs.Desks.{HasTurned}
-use Rattle.soc_turns.specs.declared.change.Change.{Change}
-use Rattle.soc_turns.specs.declared.change.Grounds.{Grounds}
-use Rattle.soc_turns.specs.Changes.{body_at, changes_at}
+use Rattle.soc_service.specs.declared.change.Change.{Change}
 use Rattle.soc_crew.specs.Gains.{Ends}
-use Rattle.soc_crew.proofs.Crossings.{jobs_sync, pass_send, place_send, room_sync, seat_send, shared_send}
+use Rattle.soc_hall.proofs.Crossing.{place_send, room_sync, seat_send}
+use Rattle.soc_pool.proofs.Crossing.{jobs_sync, pass_send}
 use Rattle.soc_crew.proofs.Desks.{asks_keep}
-use Rattle.soc_crew.proofs.Lists.{all_through, none_long}
+use Rattle.soc_crew.proofs.Lists.{all_through}
 use Rattle.soc_crew.proofs.Seats.{closed, stays_as}
 use Rattle.soc_crew.proofs.crew.serve_with.Goals as goal
-
-abbrev grounds : {R D : Type 0} → R → Limits → ℕ → D → Grounds R D
-grounds reporter limits lent opened = record { reporter = reporter; limits = limits; lent = lent; opened = opened }
 
 pub returns-in_default-clause-ends : goal.returns-in_default-clause-ends
 returns-in_default-clause-ends g c =
     ∣ stays_as (c.unserved.ensures.0)
-    (λ b. changes_at (body_at g.D.Telling.tells (g.D.Disk.state b.book.vault.disk.now).content) b.book.ledger.log b.book.ledger.crashes)
-    (λ b. grounds b.book.reporter.now b.book.limits b.book.vault.disk.ghost_name b.opened.value) _ (ap (λ t. t.kept) c.requires.served) ∣₁
+    g.T.Logged.log_of g.T.Logged.basis_of _ (ap (λ t. t.kept) c.requires.served) ∣₁
 
 pub returns-in_default-with_capacity-clause-ends : goal.returns-in_default-with_capacity-clause-ends
 returns-in_default-with_capacity-clause-ends g c =
     ∣ stays_as (c.unserved-in_default-with_capacity.ensures.0)
-    (λ b. changes_at (body_at g.D.Telling.tells (g.D.Disk.state b.book.vault.disk.now).content) b.book.ledger.log b.book.ledger.crashes)
-    (λ b. grounds b.book.reporter.now b.book.limits b.book.vault.disk.ghost_name b.opened.value) _ (ap (λ t. t.kept) c.requires.served) ∣₁
+    g.T.Logged.log_of g.T.Logged.basis_of _ (ap (λ t. t.kept) c.requires.served) ∣₁
 
 pub returns-in_default-with_capacity-2-clause-ends : goal.returns-in_default-with_capacity-2-clause-ends
 returns-in_default-with_capacity-2-clause-ends g c =
     ∣ stays_as (c.unserved-in_default-with_capacity-2.ensures.0)
-    (λ b. changes_at (body_at g.D.Telling.tells (g.D.Disk.state b.book.vault.disk.now).content) b.book.ledger.log b.book.ledger.crashes)
-    (λ b. grounds b.book.reporter.now b.book.limits b.book.vault.disk.ghost_name b.opened.value) _ (ap (λ t. t.kept) c.requires.served) ∣₁
+    g.T.Logged.log_of g.T.Logged.basis_of _ (ap (λ t. t.kept) c.requires.served) ∣₁
 
 pub returns-in-Err-clause-ends : goal.returns-in-Err-clause-ends
 returns-in-Err-clause-ends g c =
     ∣ stays_as (c.unserved-in-Err.ensures.0 ∙ c.in-Err.ensures.back)
-    (λ b. changes_at (body_at g.D.Telling.tells (g.D.Disk.state b.book.vault.disk.now).content) b.book.ledger.log b.book.ledger.crashes)
-    (λ b. grounds b.book.reporter.now b.book.limits b.book.vault.disk.ghost_name b.opened.value) _ (ap (λ t. t.kept) c.requires.served) ∣₁
+    g.T.Logged.log_of g.T.Logged.basis_of _ (ap (λ t. t.kept) c.requires.served) ∣₁
 
 pub work-collecting-requires-send-K : goal.work-collecting-requires-send-K
 work-collecting-requires-send-K g c κs within =
-    let disk = c.type_bounds.send-D in
+    let desk = c.type_bounds.send-T in
     let reporter = c.type_bounds.sync-P in
     let gate = c.type_bounds.sync-G in
     let runtime = c.type_bounds.sync-R in
-    search (sendable, crosses, jobs_sync, pass_send, place_send, room_sync, seat_send, shared_send) depth 60 fits 100000
+    search (sendable, crosses, jobs_sync, pass_send, place_send, room_sync, seat_send) depth 60 fits 100000
 
 pub work-collecting-requires-send-T : goal.work-collecting-requires-send-T
 work-collecting-requires-send-T g c κs within =
-    let disk = c.type_bounds.send-D in
+    let desk = c.type_bounds.send-T in
     let reporter = c.type_bounds.sync-P in
     let gate = c.type_bounds.sync-G in
     let runtime = c.type_bounds.sync-R in
-    search (sendable, crosses, jobs_sync, pass_send, place_send, room_sync, seat_send, shared_send) depth 60 fits 100000
+    search (sendable, crosses, jobs_sync, pass_send, place_send, room_sync, seat_send) depth 60 fits 100000
 
 pub leave_collectors-requires-clause-each : goal.leave_collectors-requires-clause-each
 leave_collectors-requires-clause-each g c κs within =
     let opened = c.of-opened.result.value in
-    let basis : Grounds g.row.P.Denot g.row.D.Denot = grounds opened.book.reporter.now opened.book.limits opened.book.vault.disk.ghost_name opened.opened.value in
-    let opening : List Change = changes_at (body_at g.D.Telling.tells (g.D.Disk.state opened.book.vault.disk.now).content) opened.book.ledger.log opened.book.ledger.crashes in
+    let basis = g.T.Logged.basis_of opened in
+    let opening = g.T.Logged.log_of opened in
     let hall = c.in-Ok-over.made.0 in
     all_through c.collectors-collecting.result.items c.work-collecting.result.0.items c.work-collecting.ensures.collectors
     (λ k. (k.desk.hall.now ≡ hall) × IsNew basis opening (known_of k.desk.began.value) × (k.served ≡ nothing_served) × (k.desk.kept ≡ 0)
@@ -139,12 +131,12 @@ leave_collectors-requires-clause-none g c κs within =
 pub leave_processors-requires-clause-each : goal.leave_processors-requires-clause-each
 leave_processors-requires-clause-each g c =
     let opened = c.of-opened.result.value in
-    let basis : Grounds g.row.P.Denot g.row.D.Denot = grounds opened.book.reporter.now opened.book.limits opened.book.vault.disk.ghost_name opened.opened.value in
-    let opening : List Change = changes_at (body_at g.D.Telling.tells (g.D.Disk.state opened.book.vault.disk.now).content) opened.book.ledger.log opened.book.ledger.crashes in
+    let basis = g.T.Logged.basis_of opened in
+    let opening = g.T.Logged.log_of opened in
     let hall = c.in-Ok-over.made.0 in
     all_through c.processors-processing.result.items c.work-collecting.result.1.items c.work-collecting.ensures.processors
     (λ p. ((p.seat ≡ Some p.began.value) × IsSeatOf p.hall.now p.began.value × IsSomeAnd p.pass (λ q. IsPassOf p.jobs.now q)
-    × IfSome (known_of p.began.value).basis (λ b. b.reporter ≡ p.reporter.now)) × (p.hall.now ≡ hall) × IsNew basis opening (known_of p.began.value)) c.processors-processing.ensures.each
+    × IfSome (known_of p.began.value).basis (λ b. (g.T.SharedDesk.desk_of b).row_of ≡ g.P.Reporter.row_of p.reporter.now)) × (p.hall.now ≡ hall) × IsNew basis opening (known_of p.began.value)) c.processors-processing.ensures.each
     (λ p. IsSomeAnd p.seat (λ s. IsSeatOf hall s × HasTurned (known_of p.began.value) (known_of s) 0) × IsNew basis opening (known_of p.began.value))
     (λ x y p r. (
       subst (λ h. IsSomeAnd y.seat (λ s. IsSeatOf h s × HasTurned (known_of y.began.value) (known_of s) 0)) p.1
@@ -176,8 +168,8 @@ leave_processors-requires-clause-room g c =
     let now_room = c.leave_collectors.ensures.count.1 in
     omega arith
 
-pub close-book-requires-clause-all : goal.close-book-requires-clause-all
-close-book-requires-clause-all g c =
+pub close-desk-requires-clause-all : goal.close-desk-requires-clause-all
+close-desk-requires-clause-all g c =
     let zip = c.work-collecting.ensures.collectors in
     let long = AllZip-long _ _ _ zip in
     let long_processors = AllZip-long _ _ _ c.work-collecting.ensures.processors in
@@ -254,8 +246,8 @@ close-listener-requires-clause-refused g c =
 pub returns-clause-ends : goal.returns-clause-ends
 returns-clause-ends g c =
     let opened = c.of-opened.result.value in
-    let basis : Grounds g.row.P.Denot g.row.D.Denot = grounds opened.book.reporter.now opened.book.limits opened.book.vault.disk.ghost_name opened.opened.value in
-    let opening : List Change = changes_at (body_at g.D.Telling.tells (g.D.Disk.state opened.book.vault.disk.now).content) opened.book.ledger.log opened.book.ledger.crashes in
+    let basis = g.T.Logged.basis_of opened in
+    let opening = g.T.Logged.log_of opened in
     let hall = c.in-Ok-over.made.0 in
     let zip = c.work-collecting.ensures.collectors in
     let long = AllZip-long _ _ _ zip in
@@ -278,13 +270,10 @@ returns-clause-ends g c =
     let now = c.leave_collectors.ensures.count.0 in
     let all = c.leave_processors.ensures.count in
     let some_seat : 0 < length (seats_in c.leave_processors.new.seats) = omega arith in
-    let end = c.close-book.result in
-    let log_of_end : List Change = changes_at (body_at g.D.Telling.tells (g.D.Disk.state end.book.vault.disk.now).content) end.book.ledger.log end.book.ledger.crashes in
-    let basis_of_end : Grounds g.row.P.Denot g.row.D.Denot = grounds end.book.reporter.now end.book.limits end.book.vault.disk.ghost_name end.opened.value in
+    let end = c.close-desk.result in
     let kept = c.leave_collectors.new.served.kept in
     subst
-    (λ b. ∥ Ends (changes_at (body_at g.D.Telling.tells (g.D.Disk.state b.book.vault.disk.now).content) b.book.ledger.log b.book.ledger.crashes) log_of_end
-    (grounds b.book.reporter.now b.book.limits b.book.vault.disk.ghost_name b.opened.value) basis_of_end kept ∥₁)
+    (λ b. ∥ Ends (g.T.Logged.log_of b) (g.T.Logged.log_of end) (g.T.Logged.basis_of b) (g.T.Logged.basis_of end) kept ∥₁)
     c.of-opened.ensures
     (∥∥₁_map (c.leave_processors.ensures.seated kept c.leave_collectors.ensures.seated)
-    (λ seated. closed basis basis_of_end opening log_of_end kept (seats_in c.leave_processors.new.seats) some_seat seated c.close-book.ensures))
+    (λ seated. closed basis (g.T.Logged.basis_of end) opening (g.T.Logged.log_of end) kept (seats_in c.leave_processors.new.seats) some_seat seated c.close-desk.ensures))

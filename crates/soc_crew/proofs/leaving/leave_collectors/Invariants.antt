@@ -1,13 +1,12 @@
 use Rattle.std.proofs.Common.{◌≡◌, ◌⊎◌, ◌+◌, ◌*◌, ◌^◌, ◌≤◌, ◌<◌, true, length, All}
 use Rattle.std.specs.Prelude.{vec_len}
 use Rattle.soc_hall.specs.Seats.{IsNew, IsSeatOf, known_of, room_of, seats_in}
-use Rattle.soc_turns.specs.Changes.{body_at, changes_at}
 use Rattle.soc_crew.specs.inner.Seated.{AreSeated}
 use Rattle.soc_crew.proofs.leaving.leave_collectors.Given as goal
 
 abbrev pub invariant-loop-collector : goal.invariant-loop-collector
 invariant-loop-collector g l = record {
-  each : All (λ c. (c.desk.hall.now ≡ l.hall) × IsNew (record { reporter = l.opened.value.book.reporter.now; limits = l.opened.value.book.limits; lent = l.opened.value.book.vault.disk.ghost_name; opened = l.opened.value.opened.value }) (changes_at (body_at g.D.Telling.tells (g.D.Disk.state l.opened.value.book.vault.disk.now).content) l.opened.value.book.ledger.log l.opened.value.book.ledger.crashes) (known_of c.desk.began.value)
+  each : All (λ c. (c.desk.hall.now ≡ l.hall) × IsNew (g.T.Logged.basis_of l.opened.value) (g.T.Logged.log_of l.opened.value) (known_of c.desk.began.value)
       × (c.served.connections ≡ c.ticket.handed.amount) × (c.served.kept ≡ c.desk.kept) × (c.served.kept < 2 ^ 60)
       × (c.ticket.handed.parts ≡ 1) × (c.ticket.refused.parts ≡ 1)
       × ((c.served.stopped ≡ true) ⊎ (0 < c.ticket.refused.amount))) l.collectors.items;
@@ -16,7 +15,7 @@ invariant-loop-collector g l = record {
   count : length (seats_in l.seats) + vec_len l.collectors ≡ vec_len l.fn.collectors;
   room : room_of l.seats ≡ room_of l.fn.seats;
   seats : All (λ seat. IsSeatOf l.hall seat) (seats_in l.seats);
-  seated : ∥ AreSeated (record { reporter = l.opened.value.book.reporter.now; limits = l.opened.value.book.limits; lent = l.opened.value.book.vault.disk.ghost_name; opened = l.opened.value.opened.value }) (changes_at (body_at g.D.Telling.tells (g.D.Disk.state l.opened.value.book.vault.disk.now).content) l.opened.value.book.ledger.log l.opened.value.book.ledger.crashes) l.served.kept (seats_in l.seats) ∥₁;
+  seated : ∥ AreSeated (g.T.Logged.basis_of l.opened.value) (g.T.Logged.log_of l.opened.value) l.served.kept (seats_in l.seats) ∥₁;
   kept : l.served.kept ≤ length (seats_in l.seats) * 2 ^ 60;
   connections : l.served.connections ≡ l.ticket.handed.amount;
   handed : l.ticket.handed.parts + vec_len l.collectors ≡ l.fn.ticket.handed.parts + vec_len l.fn.collectors;

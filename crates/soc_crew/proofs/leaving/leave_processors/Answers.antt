@@ -1,15 +1,14 @@
 use Rattle.std.proofs.Common.{◌≡◌, ◌⊎◌, inl, inr, ℕ, ◌+◌, ◌*◌, ◌^◌, ◌<◌, ◌≤◌, Bool, true, false, ◌||◌, List, ◌∷◌, [], ◌++◌, length, Option, Some, IfSome, IsSomeAnd, All, refl, sym, ◌∙◌, ap, subst, arith}
 use Rattle.std.specs.Prelude.{vec_capacity, vec_len}
 use Rattle.std.proofs.Math.Logic.{∥∥₁_map, ∥∥₁_map₂}
+use Rattle.soc_base.proofs.Folk.{none_long}
 use Rattle.soc_hall.specs.Seats.{IsNew, IsSeatOf, known_of, room_of, seats_in}
 use Rattle.soc_pool.specs.Passes.{IsPassOf, passes_in}
 use Rattle.soc_collect.specs.Tallies.{nothing_served}
 use Rattle.soc_service.specs.Desks.{HasTurned}
-use Rattle.soc_turns.specs.declared.change.Change.{Change}
-use Rattle.soc_turns.specs.declared.change.Grounds.{Grounds}
-use Rattle.soc_turns.specs.Changes.{body_at, changes_at}
+use Rattle.soc_service.specs.declared.change.Change.{Change}
 use Rattle.soc_crew.specs.inner.Seated.{AreSeated}
-use Rattle.soc_crew.proofs.Lists.{none_long, one_more, pop_all, push_all}
+use Rattle.soc_crew.proofs.Lists.{one_more, pop_all, push_all}
 use Rattle.soc_crew.proofs.Seats.{more_seated}
 use Rattle.soc_crew.proofs.leaving.leave_processors.Goals as goal
 
@@ -19,8 +18,8 @@ at_some Q o x is known = subst (λ p. IsSomeAnd p Q) is known
 pub loop-processor-preserved : goal.loop-processor-preserved
 loop-processor-preserved g c =
     let opened = c.args.opened.now.value in
-    let basis : Grounds g.row.P.Denot g.row.D.Denot = record { reporter = opened.book.reporter.now; limits = opened.book.limits; lent = opened.book.vault.disk.ghost_name; opened = opened.opened.value } in
-    let opening : List Change = changes_at (body_at g.D.Telling.tells (g.D.Disk.state opened.book.vault.disk.now).content) opened.book.ledger.log opened.book.ledger.crashes in
+    let basis = g.T.Logged.basis_of opened in
+    let opening = g.T.Logged.log_of opened in
     let hall = c.args.hall.now in
     let before = c.loop-processor.invariant in
     let popped = pop_all c.loop-processor.processors.items c.pop.new.self.items c.in-Some.processor c.in-Some.ensures.items

@@ -3,15 +3,14 @@ use Rattle.std.specs.Prelude.{vec_capacity, vec_len}
 use Rattle.soc_hall.specs.Seats.{IsNew, IsSeatOf, known_of, room_of, seats_in}
 use Rattle.soc_pool.specs.Passes.{IsPassOf, passes_in}
 use Rattle.soc_collect.specs.Tallies.{nothing_served}
-use Rattle.soc_turns.specs.Changes.{body_at, changes_at}
 use Rattle.soc_crew.proofs.stations.collectors.Given as goal
 
 abbrev pub invariant-loop-buffer : goal.invariant-loop-buffer
 invariant-loop-buffer g l = record {
   count : vec_len l.list + vec_len l.buffers ≡ vec_len l.fn.buffers;
   capacity : vec_len l.fn.buffers ≤ vec_capacity l.list;
-  seats : All (λ seat. IsSeatOf l.hall seat × IsNew (record { reporter = l.opened.value.book.reporter.now; limits = l.opened.value.book.limits; lent = l.opened.value.book.vault.disk.ghost_name; opened = l.opened.value.opened.value })
-      (changes_at (body_at g.D.Telling.tells (g.D.Disk.state l.opened.value.book.vault.disk.now).content) l.opened.value.book.ledger.log l.opened.value.book.ledger.crashes) (known_of seat)) (seats_in l.seats);
+  seats : All (λ seat. IsSeatOf l.hall seat × IsNew (g.T.Logged.basis_of l.opened.value)
+      (g.T.Logged.log_of l.opened.value) (known_of seat)) (seats_in l.seats);
   passes : All (λ pass. IsPassOf l.jobs pass) (passes_in l.passes);
   left : length (seats_in l.seats) + vec_len l.list ≡ length (seats_in l.fn.seats);
   room : room_of l.seats ≡ room_of l.fn.seats;
@@ -20,8 +19,8 @@ invariant-loop-buffer g l = record {
   refused : l.ticket.refused.parts + vec_len l.list ≡ l.fn.ticket.refused.parts;
   unused : (l.ticket.handed.amount ≡ 0) × (l.ticket.refused.amount ≡ 0);
   enough : (vec_len l.fn.buffers ≤ length (seats_in l.fn.seats)) × (vec_len l.fn.buffers ≤ length (passes_in l.fn.passes));
-  each : All (λ c. (c.desk.hall.now ≡ l.hall) × IsNew (record { reporter = l.opened.value.book.reporter.now; limits = l.opened.value.book.limits; lent = l.opened.value.book.vault.disk.ghost_name; opened = l.opened.value.opened.value })
-      (changes_at (body_at g.D.Telling.tells (g.D.Disk.state l.opened.value.book.vault.disk.now).content) l.opened.value.book.ledger.log l.opened.value.book.ledger.crashes) (known_of c.desk.began.value)
+  each : All (λ c. (c.desk.hall.now ≡ l.hall) × IsNew (g.T.Logged.basis_of l.opened.value)
+      (g.T.Logged.log_of l.opened.value) (known_of c.desk.began.value)
       × (c.served ≡ nothing_served) × (c.desk.kept ≡ 0)
       × (c.ticket.handed.parts ≡ 1) × (c.ticket.refused.parts ≡ 1) × (c.ticket.handed.amount ≡ 0) × (c.ticket.refused.amount ≡ 0)) l.list.items;
 }

@@ -1,23 +1,22 @@
 use Rattle.std.proofs.Common.{◌≡◌, ◌⊎◌, inl, inr, ℕ, ◌+◌, ◌*◌, ◌^◌, ◌<◌, ◌≤◌, Bool, true, false, ◌||◌, List, ◌∷◌, [], ◌++◌, length, Option, Some, IfSome, IsSomeAnd, All, refl, sym, ◌∙◌, ap, subst, arith}
 use Rattle.std.specs.Prelude.{vec_capacity, vec_len}
 use Rattle.std.proofs.Math.Logic.{∥∥₁_map, ∥∥₁_map₂}
+use Rattle.soc_base.proofs.Folk.{none_long}
 use Rattle.soc_hall.specs.Seats.{IsNew, IsSeatOf, known_of, room_of, seats_in}
 use Rattle.soc_pool.specs.Passes.{IsPassOf, passes_in}
 use Rattle.soc_collect.specs.Tallies.{nothing_served}
 use Rattle.soc_service.specs.Desks.{HasTurned}
-use Rattle.soc_turns.specs.declared.change.Change.{Change}
-use Rattle.soc_turns.specs.declared.change.Grounds.{Grounds}
-use Rattle.soc_turns.specs.Changes.{body_at, changes_at}
+use Rattle.soc_service.specs.declared.change.Change.{Change}
 use Rattle.soc_crew.specs.inner.Seated.{AreSeated}
-use Rattle.soc_crew.proofs.Lists.{none_long, one_more, pop_all, push_all}
+use Rattle.soc_crew.proofs.Lists.{one_more, pop_all, push_all}
 use Rattle.soc_crew.proofs.Seats.{more_seated}
 use Rattle.soc_crew.proofs.stations.processors.Goals as goal
 
 pub loop-made-preserved : goal.loop-made-preserved
 loop-made-preserved g c =
     let opened = c.args.opened.now.value in
-    let basis : Grounds g.row.P.Denot g.row.D.Denot = record { reporter = opened.book.reporter.now; limits = opened.book.limits; lent = opened.book.vault.disk.ghost_name; opened = opened.opened.value } in
-    let opening : List Change = changes_at (body_at g.D.Telling.tells (g.D.Disk.state opened.book.vault.disk.now).content) opened.book.ledger.log opened.book.ledger.crashes in
+    let basis = g.T.Logged.basis_of opened in
+    let opening = g.T.Logged.log_of opened in
     let hall = c.args.hall.now in
     let before = c.loop-made.invariant in
     let seat = c.station-seat.result.0 in
@@ -45,6 +44,6 @@ loop-made-preserved g c =
       reporter = before.reporter;
       each = push_all c.push_reserved.new.self.items c.loop-made.list.items _ c.push_reserved.ensures.items
           (λ p. ((p.seat ≡ Some p.began.value) × IsSeatOf p.hall.now p.began.value × IsSomeAnd p.pass (λ q. IsPassOf p.jobs.now q)
-          × IfSome (known_of p.began.value).basis (λ b. b.reporter ≡ p.reporter.now)) × (p.hall.now ≡ hall) × IsNew basis opening (known_of p.began.value)) before.each
-          ((ap (λ s. Some s) (sym began_is), sits, passes.1, subst (λ o. IfSome o (λ b. b.reporter ≡ c.args.reporter.now)) (sym new.0) before.reporter), refl, new);
+          × IfSome (known_of p.began.value).basis (λ b. (g.T.SharedDesk.desk_of b).row_of ≡ g.P.Reporter.row_of p.reporter.now)) × (p.hall.now ≡ hall) × IsNew basis opening (known_of p.began.value)) before.each
+          ((ap (λ s. Some s) (sym began_is), sits, passes.1, subst (λ o. IfSome o (λ b. (g.T.SharedDesk.desk_of b).row_of ≡ g.P.Reporter.row_of c.args.reporter.now)) (sym new.0) before.reporter), refl, new);
     }

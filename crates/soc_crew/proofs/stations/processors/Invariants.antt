@@ -2,24 +2,23 @@ use Rattle.std.proofs.Common.{◌≡◌, ◌+◌, ◌≤◌, length, All, Some, 
 use Rattle.std.specs.Prelude.{vec_capacity, vec_len}
 use Rattle.soc_hall.specs.Seats.{IsNew, IsSeatOf, known_of, room_of, seats_in}
 use Rattle.soc_pool.specs.Passes.{IsPassOf, passes_in}
-use Rattle.soc_turns.specs.Changes.{body_at, changes_at}
 use Rattle.soc_crew.proofs.stations.processors.Given as goal
 
 abbrev pub invariant-loop-made : goal.invariant-loop-made
 invariant-loop-made g l = record {
   count : vec_len l.list ≡ l.made;
   capacity : l.count ≤ vec_capacity l.list;
-  seats : All (λ seat. IsSeatOf l.hall seat × IsNew (record { reporter = l.opened.value.book.reporter.now; limits = l.opened.value.book.limits; lent = l.opened.value.book.vault.disk.ghost_name; opened = l.opened.value.opened.value })
-      (changes_at (body_at g.D.Telling.tells (g.D.Disk.state l.opened.value.book.vault.disk.now).content) l.opened.value.book.ledger.log l.opened.value.book.ledger.crashes) (known_of seat)) (seats_in l.seats);
+  seats : All (λ seat. IsSeatOf l.hall seat × IsNew (g.T.Logged.basis_of l.opened.value)
+      (g.T.Logged.log_of l.opened.value) (known_of seat)) (seats_in l.seats);
   passes : All (λ pass. IsPassOf l.jobs pass) (passes_in l.passes);
   left : length (seats_in l.seats) + l.made ≡ length (seats_in l.fn.seats);
   room : room_of l.seats ≡ room_of l.fn.seats;
   left_passes : length (passes_in l.passes) + l.made ≡ length (passes_in l.fn.passes);
   enough : (l.count ≤ length (seats_in l.fn.seats)) × (l.count ≤ length (passes_in l.fn.passes));
-  reporter : l.opened.value.book.reporter.now ≡ l.reporter;
+  reporter : (g.T.SharedDesk.desk_of (g.T.Logged.basis_of l.opened.value)).row_of ≡ g.P.Reporter.row_of l.reporter;
   each : All (λ p. ((p.seat ≡ Some p.began.value) × IsSeatOf p.hall.now p.began.value × IsSomeAnd p.pass (λ q. IsPassOf p.jobs.now q)
-      × IfSome (known_of p.began.value).basis (λ basis. basis.reporter ≡ p.reporter.now))
+      × IfSome (known_of p.began.value).basis (λ basis. (g.T.SharedDesk.desk_of basis).row_of ≡ g.P.Reporter.row_of p.reporter.now))
       × (p.hall.now ≡ l.hall)
-      × IsNew (record { reporter = l.opened.value.book.reporter.now; limits = l.opened.value.book.limits; lent = l.opened.value.book.vault.disk.ghost_name; opened = l.opened.value.opened.value })
-      (changes_at (body_at g.D.Telling.tells (g.D.Disk.state l.opened.value.book.vault.disk.now).content) l.opened.value.book.ledger.log l.opened.value.book.ledger.crashes) (known_of p.began.value)) l.list.items;
+      × IsNew (g.T.Logged.basis_of l.opened.value)
+      (g.T.Logged.log_of l.opened.value) (known_of p.began.value)) l.list.items;
 }

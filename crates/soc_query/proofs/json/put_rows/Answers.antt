@@ -1,6 +1,6 @@
 use Rattle.std.proofs.Common.{◌∙◌, ap, sym, ◌++◌}
 use Rattle.soc_schema.specs.RowJson.{row_json}
-use Rattle.soc_query.proofs.JsonLemmas.{joined_step}
+use Rattle.soc_schema.proofs.CommaLemmas.{joined_step}
 use Rattle.soc_query.proofs.json.put_rows.Goals as goal
 
 pub loop-i-preserved : goal.loop-i-preserved

@@ -1,5 +1,6 @@
 use Rattle.std.proofs.Common.{◌≡◌, ◌++◌, take}
-use Rattle.soc_query.specs.Json.{joined, term_json}
+use Rattle.soc_schema.specs.Commas.{joined}
+use Rattle.soc_query.specs.Json.{term_json}
 use Rattle.soc_query.proofs.json.put_terms.Given as goal
 
 abbrev pub invariant-loop-i : goal.invariant-loop-i

@@ -1,6 +1,6 @@
 use Rattle.std.proofs.Common.{rules}
 use Rattle.std.proofs.lemmas.Fn.{always_returns_same}
-use Rattle.soc_raw.specs.Names.{byte_cmp}
+use Rattle.soc_base.specs.Names.{byte_cmp}
 use Rattle.soc_schema.specs.inner.Sources.{annotation_of}
 use Rattle.soc_schema.proofs.SourceLemmas.{found, absent}
 use Rattle.soc_schema.proofs.sources.field_of.Goals as goal

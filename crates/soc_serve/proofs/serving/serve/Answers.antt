@@ -1,46 +1,99 @@
-use Rattle.std.proofs.Common.{◌≡◌, ap, refl, sym, ◌∙◌}
+use denote.Param.Send.{sendable}
+use Rattle.std.proofs.Common.{◌≡◌, sym, ap, subst, ◌∙◌}
 use Rattle.std.specs.Prelude.{None}
-use Rattle.soc_edge.specs.Ahead.{outlook}
+use Rattle.std.specs.Coded.{Coded-set, coded_ℕ}
+use Rattle.std.proofs.Crossing.{crosses}
+use Rattle.std.proofs.Math.Logic.{∥∥₁_elim, ∥∥₁_map}
+use Rattle.soc_edge.specs.Ahead.{Outlook, outlook}
 use Rattle.soc_edge.specs.Disk.{GoesOn}
+use Rattle.soc_desk.specs.Basis.{Basis}
+use Rattle.soc_desk.specs.State.{State}
+use Rattle.soc_book.proofs.Standing.{images_allowed}
 use Rattle.soc_book.specs.inner.Stands.{Stands}
 use Rattle.soc_book.specs.Openings.{OpensBook}
-use Rattle.soc_serve.specs.Outside.{surroundings}
-use Rattle.soc_serve.proofs.ServingLemmas.{from_streams, kept_along, keep_cause, moved, moved_disk, opens_cause, runs_not, served_on, serves_journal}
+use Rattle.soc_turns.specs.Changes.{body_at, changes_at}
+use Rattle.soc_turns.proofs.Crossing.{shared_send}
+use Rattle.soc_turns.proofs.Sharing.{opened_stands}
+use Rattle.soc_crew.specs.Gains.{Gains}
+use Rattle.soc_edge.specs.World.{surroundings}
+use Rattle.soc_replay.proofs.ServingLemmas.{moved}
+use Rattle.soc_serve.specs.inner.Serving.{ClosesBook}
+use Rattle.soc_serve.proofs.Hostings.{not_served, serves_desk, served_on}
 use Rattle.soc_serve.proofs.serving.serve.Goals as goal
 
-pub returns-in-Err-clause-runs : goal.returns-in-Err-clause-runs
-returns-in-Err-clause-runs g c = runs_not _ _ _ _ _ c.in-Err.end (c.in-Err.ensures.refused _)
+pub returns-in-Err-clause-serves : goal.returns-in-Err-clause-serves
+returns-in-Err-clause-serves g c = record { not = c.in-Err.ensures.refused _; cause = c.in-Err.ensures.disk_cause }
 
-pub returns-in-Err-clause-cause : goal.returns-in-Err-clause-cause
-returns-in-Err-clause-cause g c = opens_cause _ _ c.in-Err.end (c.in-Err.ensures.refused (record { moments = λ _. None; throttles = λ _. None; ids = λ _. None })) c.in-Err.ensures.cause
+pub returns-in-Err-clause-over : goal.returns-in-Err-clause-over
+returns-in-Err-clause-over g c is =
+    absurd ((not_served _ _ c.in-Err.end (c.in-Err.ensures.refused (record { moments = λ _. None; throttles = λ _. None; ids = λ _. None }))).1 is)
 
-pub returns-clause-runs : goal.returns-clause-runs
-returns-clause-runs g c =
-    let kept : c.session-end.new.desk.vault.disk.ghost_name ≡ c.over-book.result.vault.disk.ghost_name =
-    kept_along _ (λ book. book.vault.disk.ghost_name ≡ c.over-book.result.vault.disk.ghost_name) (λ desk desk' command receipt asked same. asked.0 ∙ same)
-    c.session-end.ensures.serves.responses c.over-book.result c.session-end.new.desk c.session-end.ensures.serves.runs refl in
-    let lent = sym c.over-book.ensures.same_disk ∙ (sym kept ∙ (sym c.keep_after-keeping.ensures.same_disk ∙ sym c.into_disk-disk.ensures.same_disk)) in
-    served_on g.D.Disk.state _ c.keep_after-keeping.new.book.vault.disk.now (c.disk-1.given.1 lent ∙ c.into_disk-disk.ensures.disk) _ _ _ _ (g.X.Tells.told c.session-end.new.link) _ _ _
-    (serves_journal _ (λ book. g.D.Disk.state book.vault.disk.now) (λ book. g.met.D.Disk.sound book.vault.disk.now)
-    (g.R.Reporter.row_of c.args.reporter.now) (g.R.Reporter.digest_of c.args.reporter.now)
-    (λ book. book.reporter.now ≡ c.args.reporter.now)
-    (λ book basis state. Stands basis book.limits book.ledger book.store book.doubt book.vault.journal (g.D.Disk.state book.vault.disk.now) state)
-    (λ desk desk' command receipt asked same. (asked.2 ∙ same, λ basis state rows stands. asked.3 basis state (rows ∙ sym (ap g.R.Reporter.row_of same)) stands))
-    c.args.setup.now
-    (surroundings (g.X.Tells.told c.args.streams.now) (g.D.Disk.state c.args.disk.now) (outlook (g.C.Clock.told c.args.clock.now) (g.W.Draws.told c.args.draws.now)))
-    (surroundings (g.X.Tells.told c.session-end.new.link) (g.D.Disk.state c.keep_after-keeping.new.book.vault.disk.now) (outlook (g.C.Clock.told c.session-end.new.clock) (g.W.Draws.told c.session-end.new.draws)))
-    c.over-book.result c.session-end.new.desk c.session-end.result c.keep_after-keeping.result _
-    c.over-book.ensures.reporter
+pub returns-in-Err-clause-listener_cause : goal.returns-in-Err-clause-listener_cause
+returns-in-Err-clause-listener_cause g c is =
+    absurd ((not_served _ _ c.in-Err.end (c.in-Err.ensures.refused (record { moments = λ _. None; throttles = λ _. None; ids = λ _. None }))).0 is)
+
+pub new-requires-2-clause-stands : goal.new-requires-2-clause-stands
+new-requires-2-clause-stands g c =
+    let b = c.over-book.result in
+    let e = c.over-book.ensures in
+    opened_stands (g.Q.Reporter.row_of c.args.purpose.now.reporter.now) (g.Q.Reporter.row_of b.reporter.now) (g.Q.Reporter.digest_of c.args.purpose.now.reporter.now) (g.Q.Reporter.digest_of b.reporter.now) g.D.Telling.tells c.args.purpose.now.setup.now.limits b.limits
+    (ap g.Q.Reporter.row_of e.reporter) (ap g.Q.Reporter.digest_of e.reporter) e.limits b.ledger b.store b.doubt b.vault.journal (g.D.Disk.state c.args.disk.now) (g.D.Disk.state b.vault.disk.now)
+    ((g.met.D.Telling g.world.𝓛 g.world.𝓜 g.world.𝓡 ((λ s x. x), (λ x. x), (λ x. x), λ x. x)).steady c.args.disk.now)
     (λ basis is. moved (λ limits ledger rows pending journal disk. OpensBook basis (g.D.Disk.state c.args.disk.now) (g.D.Disk.state disk) (Stands basis limits ledger rows pending journal (g.D.Disk.state disk)))
-    c.over-book.ensures.limits c.over-book.ensures.ledger c.over-book.ensures.store c.over-book.ensures.doubt c.over-book.ensures.journal c.over-book.ensures.disk
-    (c.in-Ok-open.ensures.opens basis is))
-    (moved_disk (λ disk. GoesOn (g.D.Disk.state c.args.disk.now) (g.D.Disk.state disk)) c.over-book.ensures.disk c.open.ensures.goes_on)
-    (from_streams g.X.Tells.told _ _ c.over-book.result _ _ _ _ c.in-Ok-open.ensures.output c.session-end.ensures.serves)
-    (λ same basis state rows digest stands. c.keep_after-keeping.ensures.keeps basis state (rows ∙ sym (ap g.R.Reporter.row_of same)) (digest ∙ sym (ap g.R.Reporter.digest_of same)) stands)
-    c.keep_after-keeping.ensures.where_ended)
+    e.limits e.ledger e.store e.doubt e.journal e.disk (c.in-Ok-open.ensures.opens basis is))
 
-pub returns-clause-goes_on : goal.returns-clause-goes_on
-returns-clause-goes_on g c = (returns-clause-runs g c).goes_on
+pub serve_together-book-requires-send-T : goal.serve_together-book-requires-send-T
+serve_together-book-requires-send-T g c κs within =
+    let disk = c.type_bounds.send-D in
+    let reporter = c.type_bounds.sync-Q in
+    search (sendable, crosses, shared_send) depth 20 fits 4000
 
-pub returns-clause-disk_cause : goal.returns-clause-disk_cause
-returns-clause-disk_cause g c is = keep_cause _ _ _ _ _ _ _ (returns-clause-runs g c) is
+pub returns-clause-serves : goal.returns-clause-serves
+returns-clause-serves g c =
+    let before = outlook (g.C.Clock.told c.args.clock.now) (g.W.Draws.told c.args.draws.now) in
+    let after = outlook (g.C.Clock.told c.serve_together-book.new.clock) (g.W.Draws.told c.serve_together-book.new.draws) in
+    let first = c.over-book.result in
+    let e = c.over-book.ensures in
+    let shared = c.serve_together-book.result.desk in
+    let second = shared.book in
+    let end = c.close-end.result in
+    let together = c.serve_together-book.ensures.ends in
+    let kept : second.vault.disk.ghost_name ≡ first.vault.disk.ghost_name =
+    ∥∥₁_elim together (Coded-set coded_ℕ _ _) (λ t. ap (λ basis. basis.lent) t.same_basis ∙ ap (λ book. book.vault.disk.ghost_name) c.new-2.ensures.book) in
+    let lent = sym e.same_disk ∙ (sym kept ∙ (sym (ap (λ book. book.vault.disk.ghost_name) c.into_book-book.ensures) ∙ (sym c.close-end.ensures.same_disk ∙ sym c.into_disk-disk.ensures.same_disk))) in
+    served_on g.D.Disk.state _ c.close-end.new.book.vault.disk.now (c.disk-1.given.1 lent ∙ c.into_disk-disk.ensures.disk) _ _ _ (g.K.Tells.told c.close-end.new.output) after _
+    (serves_desk (g.Q.Reporter.row_of c.args.purpose.now.reporter.now) (g.Q.Reporter.row_of second.reporter.now) (g.Q.Reporter.digest_of c.args.purpose.now.reporter.now) (g.Q.Reporter.digest_of second.reporter.now) g.D.Telling.tells
+    c.args.purpose.now.setup.now c.serve_together-book.new.served.kept
+    (surroundings (g.K.Tells.told c.args.output.now) (g.D.Disk.state c.args.disk.now) before)
+    (surroundings (g.K.Tells.told c.close-end.new.output) (g.D.Disk.state c.close-end.new.book.vault.disk.now) after)
+    end ((g.met.D.Telling g.world.𝓛 g.world.𝓜 g.world.𝓡 ((λ s x. x), (λ x. x), (λ x. x), λ x. x)).steady c.args.disk.now)
+    first.limits second.limits first.ledger second.ledger first.store second.store first.doubt second.doubt first.vault.journal second.vault.journal
+    (g.D.Disk.state first.vault.disk.now) (g.D.Disk.state second.vault.disk.now) (g.D.Disk.state shared.opened.value)
+    e.limits
+    (λ basis is. moved (λ limits ledger rows pending journal disk. OpensBook basis (g.D.Disk.state c.args.disk.now) (g.D.Disk.state disk) (Stands basis limits ledger rows pending journal (g.D.Disk.state disk)))
+    e.limits e.ledger e.store e.doubt e.journal e.disk (c.in-Ok-open.ensures.opens basis is))
+    shared.stands shared.goes_on
+    (∥∥₁_map together (λ t. record {
+      gains =
+          subst (λ book. Gains (changes_at (body_at g.D.Telling.tells (g.D.Disk.state book.vault.disk.now).content) book.ledger.log book.ledger.crashes)
+          (changes_at (body_at g.D.Telling.tells (g.D.Disk.state second.vault.disk.now).content) second.ledger.log second.ledger.crashes) c.serve_together-book.new.served.kept)
+          c.new-2.ensures.book t.gains;
+      same_rows = ap (λ basis. g.Q.Reporter.row_of basis.reporter) t.same_basis ∙ (ap (λ book. g.Q.Reporter.row_of book.reporter.now) c.new-2.ensures.book ∙ ap g.Q.Reporter.row_of e.reporter);
+      same_digest = ap (λ basis. g.Q.Reporter.digest_of basis.reporter) t.same_basis ∙ (ap (λ book. g.Q.Reporter.digest_of book.reporter.now) c.new-2.ensures.book ∙ ap g.Q.Reporter.digest_of e.reporter);
+      same_limits = ap (λ basis. basis.limits) t.same_basis ∙ ap (λ book. book.limits) c.new-2.ensures.book;
+      from_opened = λ on. subst (λ d. GoesOn (g.D.Disk.state d) (g.D.Disk.state second.vault.disk.now)) (ap (λ basis. basis.opened) t.same_basis ∙ (c.new-2.ensures.opened ∙ c.of-opened.ensures)) on;
+    }))
+    (λ basis state rows digest stands.
+    let over =
+    subst (λ book. (basis : Basis) (state : State) → basis.row_of ≡ g.Q.Reporter.row_of book.reporter.now → basis.digest ≡ g.Q.Reporter.digest_of book.reporter.now
+    → Stands basis book.limits book.ledger book.store book.doubt book.vault.journal (g.D.Disk.state book.vault.disk.now) state
+    → (swept : State) × Stands basis c.close-end.new.book.limits c.close-end.new.book.ledger c.close-end.new.book.store c.close-end.new.book.doubt c.close-end.new.book.vault.journal (g.D.Disk.state c.close-end.new.book.vault.disk.now) swept
+    × ((early late : Outlook) → ClosesBook (surroundings (g.K.Tells.told c.open.new.output) (g.D.Disk.state book.vault.disk.now) early)
+    (surroundings (g.K.Tells.told c.close-end.new.output) (g.D.Disk.state c.close-end.new.book.vault.disk.now) late) end basis state swept))
+    c.into_book-book.ensures c.close-end.ensures.closes basis state rows digest stands in (
+      over.0,
+      (λ told image left. images_allowed basis _ _ over.0.log over.0.doubt (over.1.told told) image left),
+      subst (λ o. ClosesBook (surroundings (g.K.Tells.told o) (g.D.Disk.state second.vault.disk.now) before)
+          (surroundings (g.K.Tells.told c.close-end.new.output) (g.D.Disk.state c.close-end.new.book.vault.disk.now) after) end basis state over.0)
+          c.in-Ok-open.ensures.output (over.2 before after),
+    )))

@@ -2,7 +2,6 @@ use Rattle.std.proofs.Common.{◌≡◌, ◌++◌, ◌∷◌, [], refl, ap, ◌�
 use Rattle.soc_hall.specs.Seats.{known_of}
 use Rattle.soc_pool.specs.Passes.{seen_of}
 use Rattle.soc_service.specs.declared.processor.WorkerStop.TheVariants as S
-use Rattle.soc_service.proofs.Booked.{book_desk}
 use Rattle.soc_service.proofs.Options.{if_some_on, of_match, of_none}
 use Rattle.soc_service.proofs.Worked.{ends_unnoted, has_worked_more, has_worked_none, puts_given, takes_given, takes_more, takes_none, takes_whole, took, took_none, worked_given, worked_part, worked_whole}
 use Rattle.soc_service.proofs.processor.worker.Goals as goal
@@ -14,7 +13,7 @@ loop-init g c = record {
   basis = refl;
   takes = takes_none _ _ c.new-lists.ensures.0;
   puts_none = (refl, refl, refl);
-  worked = has_worked_none _ _ _ (book_desk g.R.Reporter.row_of g.R.Reporter.digest_of g.D.Telling.tells) _ _ _ _ _ c.new-lists.ensures.0 c.new-lists.ensures.1 c.new-lists.ensures.2 c.new-lists.ensures.3;
+  worked = has_worked_none g.T.Logged g.T.SharedDesk.command_of _ _ _ _ _ c.new-lists.ensures.0 c.new-lists.ensures.1 c.new-lists.ensures.2 c.new-lists.ensures.3;
 }
 
 -- an allocation failed before a job was taken
@@ -29,20 +28,20 @@ returns-then-is_err-clause-puts_none g c = puts_given _ c.loop.pass c.args.pass 
 pub returns-then-is_err-clause-worked : goal.returns-then-is_err-clause-worked
 returns-then-is_err-clause-worked g c =
     let e = c.end_of.ensures in
-    worked_given _ _ _ _ _ _ _ c.loop.lists.taken.items c.loop.lists.made.items c.loop.lists.stale.items c.loop.lists.missed.items _ _ _ _ S.NoMemory _
+    worked_given g.T.Logged g.T.SharedDesk.command_of _ _ _ c.loop.lists.taken.items c.loop.lists.made.items c.loop.lists.stale.items c.loop.lists.missed.items _ _ _ _ S.NoMemory _
     (ap (λ l. l.items) e.lists.0 ∙ c.reserve.ensures.items) (ap (λ l. l.items) e.lists.1) (ap (λ l. l.items) e.lists.2) (ap (λ l. l.items) e.lists.3) e.given.2 (ap (λ s. known_of s) e.given.0)
-    (worked_whole _ _ _ (book_desk g.R.Reporter.row_of g.R.Reporter.digest_of g.D.Telling.tells) _ _ _ _ _ _ S.NoMemory c.loop.invariant.worked)
+    (worked_whole g.T.Logged g.T.SharedDesk.command_of _ _ _ _ _ _ S.NoMemory c.loop.invariant.worked)
 
 pub process-after-requires-clause-reporter : goal.process-after-requires-clause-reporter
-process-after-requires-clause-reporter g c = if_some_on (λ basis. basis.reporter ≡ c.args.reporter.now) _ _ c.loop.invariant.basis c.requires.reporter
+process-after-requires-clause-reporter g c = if_some_on (λ basis. (g.T.SharedDesk.desk_of basis).row_of ≡ g.R.Reporter.row_of c.args.reporter.now) _ _ c.loop.invariant.basis c.requires.reporter
 
 -- an end was taken
 pub returns-in-End-clause-worked : goal.returns-in-End-clause-worked
 returns-in-End-clause-worked g c =
     let e = c.end_of-in-End.ensures in
-    worked_given _ _ _ _ _ _ _ c.loop.lists.taken.items c.loop.lists.made.items c.loop.lists.stale.items c.loop.lists.missed.items _ _ _ _ S.Ended _
+    worked_given g.T.Logged g.T.SharedDesk.command_of _ _ _ c.loop.lists.taken.items c.loop.lists.made.items c.loop.lists.stale.items c.loop.lists.missed.items _ _ _ _ S.Ended _
     (ap (λ l. l.items) e.lists.0 ∙ c.reserve.ensures.items) (ap (λ l. l.items) e.lists.1) (ap (λ l. l.items) e.lists.2) (ap (λ l. l.items) e.lists.3) e.given.2 (ap (λ s. known_of s) e.given.0)
-    (worked_whole _ _ _ (book_desk g.R.Reporter.row_of g.R.Reporter.digest_of g.D.Telling.tells) _ _ _ _ _ _ S.Ended c.loop.invariant.worked)
+    (worked_whole g.T.Logged g.T.SharedDesk.command_of _ _ _ _ _ _ S.Ended c.loop.invariant.worked)
 
 -- memory was wanting for the crash
 pub returns-in-None-outcome-clause-taken : goal.returns-in-None-outcome-clause-taken
@@ -56,9 +55,9 @@ pub returns-in-None-outcome-clause-worked : goal.returns-in-None-outcome-clause-
 returns-in-None-outcome-clause-worked g c =
     let e = c.end_of-in-None-outcome.ensures in
     let listed = c.push_reserved.ensures.items ∙ ap (λ l. l ++ c.in-Crash.id ∷ []) c.reserve.ensures.items in
-    worked_given _ _ _ _ _ _ _ c.push_reserved.new.self.items c.loop.lists.made.items c.loop.lists.stale.items c.loop.lists.missed.items _ _ _ _ S.NoMemory _
+    worked_given g.T.Logged g.T.SharedDesk.command_of _ _ _ c.push_reserved.new.self.items c.loop.lists.made.items c.loop.lists.stale.items c.loop.lists.missed.items _ _ _ _ S.NoMemory _
     (ap (λ l. l.items) e.lists.0) (ap (λ l. l.items) e.lists.1) (ap (λ l. l.items) e.lists.2) (ap (λ l. l.items) e.lists.3) e.given.2 (ap (λ s. known_of s) e.given.0)
-    (worked_part _ _ _ (book_desk g.R.Reporter.row_of g.R.Reporter.digest_of g.D.Telling.tells) _ _ _ _ _ _ _ _ c.in-Crash.id c.loop.invariant.worked
+    (worked_part g.T.Logged g.T.SharedDesk.command_of _ _ _ _ _ _ _ _ c.in-Crash.id c.loop.invariant.worked
     (of_none _ _ _ c.in-None-outcome.is c.process-after.ensures.works) listed)
 
 -- what became of the crash couldn't be noted
@@ -73,11 +72,11 @@ pub returns-in-Err-clause-worked : goal.returns-in-Err-clause-worked
 returns-in-Err-clause-worked g c =
     let e = c.end_of-in-Err.ensures in
     let listed = c.push_reserved.ensures.items ∙ ap (λ l. l ++ c.in-Crash.id ∷ []) c.reserve.ensures.items in
-    worked_given _ _ _ _ _ _ _ c.push_reserved.new.self.items c.loop.lists.made.items c.loop.lists.stale.items c.loop.lists.missed.items _ _ _ _ S.NoMemory _
+    worked_given g.T.Logged g.T.SharedDesk.command_of _ _ _ c.push_reserved.new.self.items c.loop.lists.made.items c.loop.lists.stale.items c.loop.lists.missed.items _ _ _ _ S.NoMemory _
     (ap (λ l. l.items) (e.lists.0 ∙ c.in-Err.ensures.taken)) (ap (λ l. l.items) e.lists.1 ∙ c.in-Err.ensures.err.0) (ap (λ l. l.items) e.lists.2 ∙ c.in-Err.ensures.err.1) (ap (λ l. l.items) e.lists.3 ∙ c.in-Err.ensures.err.2)
     e.given.2 (ap (λ s. known_of s) e.given.0)
-    (worked_part _ _ _ (book_desk g.R.Reporter.row_of g.R.Reporter.digest_of g.D.Telling.tells) _ _ _ _ _ _ _ _ c.in-Crash.id c.loop.invariant.worked
-    (ends_unnoted _ _ _ (book_desk g.R.Reporter.row_of g.R.Reporter.digest_of g.D.Telling.tells) _ _ _ c.in-Some-outcome.outcome (of_match _ _ _ _ c.in-Some-outcome.is c.process-after.ensures.works)) listed)
+    (worked_part g.T.Logged g.T.SharedDesk.command_of _ _ _ _ _ _ _ _ c.in-Crash.id c.loop.invariant.worked
+    (ends_unnoted g.T.Logged g.T.SharedDesk.command_of g.T.SharedDesk.desk_of g.met.T.SharedDesk.tells _ _ _ c.in-Some-outcome.outcome (of_match _ _ _ _ c.in-Some-outcome.is c.process-after.ensures.works)) listed)
 
 -- one crash more
 pub loop-preserved : goal.loop-preserved
@@ -90,6 +89,6 @@ loop-preserved g c =
       basis = c.process-after.ensures.basis ∙ i.basis;
       takes = takes_more _ _ _ _ _ c.in-Crash.id i.takes (took c.loop.pass c.next-after.result.0 _ _ c.next-after.ensures.taken c.in-Crash.is) noted;
       puts_none = took_none c.args.pass c.loop.pass c.next-after.result.0 _ c.next-after.ensures.taken c.next-after.ensures.fulls i.puts_none;
-      worked = has_worked_more _ _ _ (book_desk g.R.Reporter.row_of g.R.Reporter.digest_of g.D.Telling.tells) _ _ _ _ _ _ _ _ _ _ _ c.in-Crash.id c.in-Some-outcome.outcome i.worked
+      worked = has_worked_more g.T.Logged g.T.SharedDesk.command_of _ _ _ _ _ _ _ _ _ _ _ c.in-Crash.id c.in-Some-outcome.outcome i.worked
           (of_match _ _ _ _ c.in-Some-outcome.is c.process-after.ensures.works) noted c.in-Ok.ensures.made c.in-Ok.ensures.stale c.in-Ok.ensures.missed;
     }

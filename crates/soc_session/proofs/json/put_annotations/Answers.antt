@@ -1,7 +1,7 @@
 use Rattle.std.proofs.lemmas.Option.{get_or_from_slice_get}
 use Rattle.std.proofs.Common.{arith, ℕ, List}
 use Rattle.soc_session.specs.Json.{annotation_json}
-use Rattle.soc_query.proofs.JsonLemmas.{joined_step}
+use Rattle.soc_schema.proofs.CommaLemmas.{joined_step}
 use Rattle.soc_session.proofs.json.put_annotations.Goals as goal
 
 pub loop-i-preserved : goal.loop-i-preserved

@@ -1,5 +1,5 @@
 use Rattle.std.proofs.Common.{◌≡◌, ◌++◌, take}
-use Rattle.soc_query.specs.Json.{joined}
+use Rattle.soc_schema.specs.Commas.{joined}
 use Rattle.soc_session.specs.Json.{annotation_json}
 use Rattle.soc_session.proofs.json.put_annotations.Given as goal
 

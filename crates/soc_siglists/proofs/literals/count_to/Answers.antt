@@ -1,7 +1,7 @@
 use Rattle.std.proofs.Common.{◌+◌, ◌-◌, ◌/◌, arith, inl, inr, sym, ◌∙◌, ap}
 use Rattle.std.proofs.lemmas.Bool.{cases_lt}
 use Rattle.std.specs.Ordering.{is_gt}
-use Rattle.soc_raw.specs.Names.{byte_cmp}
+use Rattle.soc_base.specs.Names.{byte_cmp}
 use Rattle.soc_siglists.proofs.Fronts.{behind_from, up_to_here}
 use Rattle.soc_siglists.proofs.literals.count_to.Goals as goal
 

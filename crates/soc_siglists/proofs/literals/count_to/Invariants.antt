@@ -1,7 +1,7 @@
 use Rattle.std.proofs.Common.{◌≡◌, true, ◌≤◌, ◌-◌, length}
 use Rattle.std.specs.List.{AllWithin}
 use Rattle.std.specs.Ordering.{is_gt}
-use Rattle.soc_raw.specs.Names.{byte_cmp}
+use Rattle.soc_base.specs.Names.{byte_cmp}
 use Rattle.soc_siglists.specs.inner.Literals.{IsUpTo}
 use Rattle.soc_siglists.proofs.literals.count_to.Given as goal
 

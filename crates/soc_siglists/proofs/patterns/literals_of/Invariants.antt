@@ -1,7 +1,7 @@
 use Rattle.std.proofs.Common.{◌≡◌, ◌||◌, ℕ, List}
 use Rattle.std.specs.List.{All, AllByRecursion}
 use Rattle.std.specs.Map.{keys_of}
-use Rattle.soc_raw.specs.Names.{IsRising}
+use Rattle.soc_base.specs.Names.{IsRising}
 use Rattle.soc_siglists.specs.inner.Literals.{IsUpTo, begins_with_one}
 use Rattle.soc_siglists.proofs.patterns.literals_of.Given as goal
 

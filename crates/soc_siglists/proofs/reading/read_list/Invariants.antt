@@ -7,7 +7,7 @@ abbrev pub invariant-loop-rest : goal.invariant-loop-rest
 invariant-loop-rest g l = record {
   reads_on : ReadsOn l.fn.bytes l.patterns.items l.line l.rest;
   counted : l.line + length l.rest ≤ length l.fn.bytes + 1;
-  never_fall : g.P.Maker.faults l.fn.maker ≤ g.P.Maker.faults l.maker;
+  never_fall : g.P.CountsFaults.faults l.fn.maker ≤ g.P.CountsFaults.faults l.maker;
 }
 
 abbrev pub decreases-loop-rest : goal.decreases-loop-rest

@@ -1,7 +1,7 @@
 use Rattle.std.proofs.Common.{◌≡◌, ◌-◌, ◌≤◌, length}
 use Rattle.std.specs.declared.cmp.Ordering.TheVariants.{Less, Greater}
 use Rattle.std.specs.List.{AllWithin}
-use Rattle.soc_store.specs.Orders.{value_cmp}
+use Rattle.soc_schema.specs.Orders.{value_cmp}
 use Rattle.soc_store.specs.inner.Postings.{Posting}
 use Rattle.soc_store.proofs.block.place_in.Given as goal
 

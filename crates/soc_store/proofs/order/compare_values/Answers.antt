@@ -1,5 +1,5 @@
 use Rattle.std.proofs.Common.{rules}
-use Rattle.soc_store.proofs.OrderLemmas.{value_total, value_exact}
+use Rattle.soc_schema.proofs.OrderLemmas.{value_total, value_exact}
 use Rattle.soc_store.proofs.order.compare_values.Goals as goal
 
 pub returns-in-Text-b-clause-total : goal.returns-in-Text-b-clause-total

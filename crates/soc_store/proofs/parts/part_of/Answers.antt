@@ -1,6 +1,6 @@
 use Rattle.std.proofs.Common.{◌∙◌, ap, sym, arith, ◌-◌, ◌/◌}
 use Rattle.std.specs.Ordering.{ordering_reverse}
-use Rattle.soc_store.proofs.OrderLemmas.{value_total}
+use Rattle.soc_schema.proofs.OrderLemmas.{value_total}
 use Rattle.soc_store.proofs.PartSteps.{some_in, step_less, step_equal, step_greater}
 use Rattle.soc_store.proofs.parts.part_of.Goals as goal
 

@@ -1,7 +1,7 @@
 use Rattle.std.proofs.Common.{◌≡◌, ◌+◌, ◌-◌, ◌<◌, ◌≤◌, length, take, drop}
 use Rattle.std.specs.declared.cmp.Ordering.TheVariants.{Less, Greater}
 use Rattle.std.specs.List.{AllByRecursion}
-use Rattle.soc_store.specs.Orders.{value_cmp}
+use Rattle.soc_schema.specs.Orders.{value_cmp}
 use Rattle.soc_store.specs.inner.Parts.{blocks_of, joined}
 use Rattle.soc_store.specs.inner.Postings.{Posting}
 use Rattle.soc_store.proofs.parts.part_of.Given as goal

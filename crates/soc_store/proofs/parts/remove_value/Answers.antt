@@ -1,7 +1,7 @@
 use Rattle.std.proofs.Common.{◌≡◌, ◌∙◌, ◌≤◌, sym, subst, arith, length, Some}
 use Rattle.std.specs.Option.{option_copied}
-use Rattle.soc_store.specs.Orders.{value_cmp}
-use Rattle.soc_store.specs.Tables.{Rising}
+use Rattle.soc_schema.specs.Orders.{value_cmp}
+use Rattle.soc_schema.specs.Tables.{Rising}
 use Rattle.soc_store.specs.inner.Parts.{postings_in}
 use Rattle.soc_store.specs.inner.Postings.{without_posting}
 use Rattle.soc_store.proofs.IndexLemmas.{rising_unposted, value}

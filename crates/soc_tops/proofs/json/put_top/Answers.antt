@@ -3,7 +3,7 @@ use Rattle.std.specs.Prelude.{codes}
 use Rattle.serde_json.specs.Written.{compact_text}
 use Rattle.serde_json.specs.Data.{string}
 use Rattle.soc_tops.specs.Json.{counts_json, ranks_json}
-use Rattle.soc_tops.proofs.CommaLemmas.{put_five}
+use Rattle.soc_tops.proofs.PieceLemmas.{put_five}
 use Rattle.soc_tops.proofs.json.put_top.Goals as goal
 
 pub returns : goal.returns

@@ -1,6 +1,6 @@
 use Rattle.std.proofs.Common.{sym}
 use Rattle.soc_tops.specs.Json.{top_json}
-use Rattle.soc_tops.proofs.CommaLemmas.{joined_step}
+use Rattle.soc_schema.proofs.CommaLemmas.{joined_step}
 use Rattle.soc_tops.proofs.json.put_tops.Goals as goal
 
 pub loop-i-preserved : goal.loop-i-preserved

@@ -3,7 +3,7 @@ use Rattle.std.specs.Coded.{Coded-set, le_prop, ×_prop}
 use Rattle.std.proofs.Math.Logic.{∥∥₁_map}
 use Rattle.atomic_table.specs.Seated.{table_id_coded}
 use Rattle.soc_hall.specs.Seats.{IsSeatOf, known_of, seen_of}
-use Rattle.soc_service.proofs.Booked.{book_desk, turn_of}
+use Rattle.soc_service.proofs.Asked.{turn_of}
 use Rattle.soc_service.proofs.Counted.{added_is, by_keeps, fits, rises, stays_below}
 use Rattle.soc_service.specs.Desks.{HasTurned}
 use Rattle.soc_service.proofs.Options.{at_some, is_some_and, known_some}
@@ -17,7 +17,7 @@ take_turn-seat-requires-clause-seat g c =
 
 pub kept_between-kept-requires : goal.kept_between-kept-requires
 kept_between-kept-requires g c =
-    rises _ _ _ (book_desk g.R.Reporter.row_of g.R.Reporter.digest_of g.D.Telling.tells) (turn_of _ _ _ _ _ _ _ _ c.take_turn-seat.ensures.turn)
+    rises g.T.Logged g.T.SharedDesk.command_of g.T.SharedDesk.desk_of g.met.T.SharedDesk.tells (turn_of g.T.Logged g.T.SharedDesk.command_of c.take_turn-seat.ensures.turn)
 
 pub overflow_add-self : goal.overflow_add-self
 overflow_add-self g c =
@@ -25,7 +25,7 @@ overflow_add-self g c =
     (sym c.take.ensures.value ∙ c.in-Some.is) c.args.self.now.sits).1 in
     omega (
       arith,
-      fits _ _ _ (book_desk g.R.Reporter.row_of g.R.Reporter.digest_of g.D.Telling.tells) (turn_of _ _ _ _ _ _ _ _ c.take_turn-seat.ensures.turn) c.args.self.now.kept c.kept_between-kept.result few
+      fits g.T.Logged g.T.SharedDesk.command_of g.T.SharedDesk.desk_of g.met.T.SharedDesk.tells (turn_of g.T.Logged g.T.SharedDesk.command_of c.take_turn-seat.ensures.turn) c.args.self.now.kept c.kept_between-kept.result few
           (by_keeps _ _ _ _ c.keeps_all-keeps.ensures c.kept_between-kept.ensures),
     )
 
@@ -35,24 +35,24 @@ invariant_of-self-clause-sits g c =
     (sym c.take.ensures.value ∙ c.in-Some.is) c.args.self.now.sits).1 in
     ∣ (
       c.take_turn-seat.ensures.seat,
-      stays_below _ _ _ (book_desk g.R.Reporter.row_of g.R.Reporter.digest_of g.D.Telling.tells) (turn_of _ _ _ _ _ _ _ _ c.take_turn-seat.ensures.turn) c.args.self.now.kept c.kept_between-kept.result few
+      stays_below g.T.Logged g.T.SharedDesk.command_of g.T.SharedDesk.desk_of g.met.T.SharedDesk.tells (turn_of g.T.Logged g.T.SharedDesk.command_of c.take_turn-seat.ensures.turn) c.args.self.now.kept c.kept_between-kept.result few
           (by_keeps _ _ _ _ c.keeps_all-keeps.ensures c.kept_between-kept.ensures),
     ) ∣₁
 
 pub invariant_of-self-clause-turned : goal.invariant_of-self-clause-turned
 invariant_of-self-clause-turned g c =
-    let turn = turn_of _ _ _ _ _ _ _ _ c.take_turn-seat.ensures.turn in
+    let turn = turn_of g.T.Logged g.T.SharedDesk.command_of c.take_turn-seat.ensures.turn in
     let before = c.args.self.now in
     ∥∥₁_map before.turned
     (λ h. turned_more _ _ _ _ _ (at_some (λ s. HasTurned (known_of before.began.value) (known_of s) before.kept) before.seat c.in-Some.seat (sym c.take.ensures.value ∙ c.in-Some.is) h)
-    (by_turn _ _ _ _ _ _ _ _ turn c.kept_between-kept.result
-    (sym (added_is _ _ _ (book_desk g.R.Reporter.row_of g.R.Reporter.digest_of g.D.Telling.tells) turn c.kept_between-kept.result (by_keeps _ _ _ _ c.keeps_all-keeps.ensures c.kept_between-kept.ensures)))))
+    (by_turn g.T.Logged g.T.SharedDesk.command_of _ _ _ _ turn c.kept_between-kept.result
+    (sym (added_is g.T.Logged g.T.SharedDesk.command_of g.T.SharedDesk.desk_of g.met.T.SharedDesk.tells turn c.kept_between-kept.result (by_keeps _ _ _ _ c.keeps_all-keeps.ensures c.kept_between-kept.ensures)))))
 
 pub returns-clause-turn : goal.returns-clause-turn
 returns-clause-turn g c =
-    let turn = turn_of _ _ _ _ _ _ _ _ c.take_turn-seat.ensures.turn in
+    let turn = turn_of g.T.Logged g.T.SharedDesk.command_of c.take_turn-seat.ensures.turn in
     is_some_and _ _ c.in-Some.seat (sym c.take.ensures.value ∙ c.in-Some.is) (
       turn,
       ap (λ n. c.args.self.now.kept + n)
-          (added_is _ _ _ (book_desk g.R.Reporter.row_of g.R.Reporter.digest_of g.D.Telling.tells) turn c.kept_between-kept.result (by_keeps _ _ _ _ c.keeps_all-keeps.ensures c.kept_between-kept.ensures)),
+          (added_is g.T.Logged g.T.SharedDesk.command_of g.T.SharedDesk.desk_of g.met.T.SharedDesk.tells turn c.kept_between-kept.result (by_keeps _ _ _ _ c.keeps_all-keeps.ensures c.kept_between-kept.ensures)),
     )

@@ -2,8 +2,8 @@ use Rattle.std.proofs.Common.{◌≡◌, ◌∙◌, sym, subst, ap, Some, Ok, Er
 use Rattle.std.specs.Option.{option_copied}
 use Rattle.std.proofs.lemmas.Result.{err_from_is_err_and}
 use Rattle.soc_store.specs.inner.Postings.{with_posting}
-use Rattle.soc_store.specs.Orders.{value_cmp}
-use Rattle.soc_store.specs.Tables.{Rising, FindsKey}
+use Rattle.soc_schema.specs.Orders.{value_cmp}
+use Rattle.soc_schema.specs.Tables.{Rising, FindsKey}
 use Rattle.soc_store.proofs.IndexLemmas.{added_found, kept_found, added_gap, rising_posting, value}
 use Rattle.soc_store.proofs.block.Block.add.Goals as goal
 

@@ -1,7 +1,7 @@
 use Rattle.std.proofs.Common.{◌≡◌, ◌∙◌, ◌++◌, ◌/◌, sym, subst}
-use Rattle.soc_store.specs.Orders.{value_cmp}
-use Rattle.soc_store.specs.Tables.{Rising}
-use Rattle.soc_store.proofs.OrderLemmas.{value_total}
+use Rattle.soc_schema.specs.Orders.{value_cmp}
+use Rattle.soc_schema.specs.Tables.{Rising}
+use Rattle.soc_schema.proofs.OrderLemmas.{value_total}
 use Rattle.soc_store.proofs.IndexLemmas.{value}
 use Rattle.soc_store.proofs.PartLemmas.{rising_front, rising_back}
 use Rattle.soc_store.proofs.PartSteps.{halves}

@@ -1,8 +1,8 @@
 use Rattle.std.proofs.Common.{◌≡◌, ◌∙◌, sym, subst, ap, Some, Ok, Err, refl}
 use Rattle.std.specs.Option.{option_copied}
 use Rattle.soc_store.specs.inner.Postings.{without_posting}
-use Rattle.soc_store.specs.Orders.{value_cmp}
-use Rattle.soc_store.specs.Tables.{Rising, FindsKey}
+use Rattle.soc_schema.specs.Orders.{value_cmp}
+use Rattle.soc_schema.specs.Tables.{Rising, FindsKey}
 use Rattle.soc_store.proofs.IndexLemmas.{taken_found, gone_found, taken_gap, rising_unposted, value}
 use Rattle.soc_store.proofs.block.Block.remove.Goals as goal
 

@@ -1,6 +1,6 @@
 use Rattle.std.proofs.Common.{◌∙◌, ap, sym, subst, Some, Ok, Err}
-use Rattle.soc_store.specs.Orders.{value_cmp}
-use Rattle.soc_store.specs.Tables.{FindsKey, at_key}
+use Rattle.soc_schema.specs.Orders.{value_cmp}
+use Rattle.soc_schema.specs.Tables.{FindsKey, at_key}
 use Rattle.soc_store.proofs.IndexLemmas.{found_at, missing_at, value}
 use Rattle.soc_store.proofs.block.Block.term.Goals as goal
 

@@ -1,8 +1,8 @@
 use Rattle.std.proofs.Common.{◌≡◌, ◌∙◌, ap, subst, length}
 use Rattle.std.specs.Prelude.{slice_get}
 use Rattle.std.specs.Option.{IfSome}
-use Rattle.soc_store.specs.Orders.{value_cmp}
-use Rattle.soc_store.specs.Tables.{Rising}
+use Rattle.soc_schema.specs.Orders.{value_cmp}
+use Rattle.soc_schema.specs.Tables.{Rising}
 use Rattle.soc_store.specs.inner.Parts.{postings_in}
 use Rattle.soc_store.proofs.IndexLemmas.{count_found, value}
 use Rattle.soc_store.proofs.index.Index.count_near.Goals as goal

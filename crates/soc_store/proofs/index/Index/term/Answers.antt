@@ -1,6 +1,6 @@
 use Rattle.std.proofs.Common.{◌∙◌, ap}
-use Rattle.soc_store.specs.Orders.{value_cmp}
-use Rattle.soc_store.specs.Tables.{at_key}
+use Rattle.soc_schema.specs.Orders.{value_cmp}
+use Rattle.soc_schema.specs.Tables.{at_key}
 use Rattle.soc_store.proofs.IndexLemmas.{value}
 use Rattle.soc_store.proofs.PartSteps.{found_at_part}
 use Rattle.soc_store.proofs.index.Index.term.Goals as goal

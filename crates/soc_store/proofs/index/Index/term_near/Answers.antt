@@ -1,7 +1,7 @@
 use Rattle.std.proofs.Common.{◌∙◌, ap, sym, subst}
 use Rattle.std.specs.Prelude.{slice_get}
-use Rattle.soc_store.specs.Orders.{value_cmp}
-use Rattle.soc_store.specs.Tables.{Rising}
+use Rattle.soc_schema.specs.Orders.{value_cmp}
+use Rattle.soc_schema.specs.Tables.{Rising}
 use Rattle.soc_store.specs.inner.Parts.{postings_in}
 use Rattle.soc_store.proofs.IndexLemmas.{found_there, value}
 use Rattle.soc_store.proofs.index.Index.term_near.Goals as goal

@@ -2,7 +2,7 @@ use Rattle.std.proofs.Common.{◌∙◌, ap, sym, subst, Some, Ok, Err}
 use Rattle.std.specs.Prelude.{option_map}
 use Rattle.std.specs.Ordering.{nat_cmp}
 use Rattle.soc_store.specs.Stored.{row_at, rows_in}
-use Rattle.soc_store.specs.Tables.{FindsKey}
+use Rattle.soc_schema.specs.Tables.{FindsKey}
 use Rattle.soc_store.proofs.StoreLemmas.{row_found, row_missing, place_of}
 use Rattle.soc_store.proofs.rows.Rows.get.Goals as goal
 

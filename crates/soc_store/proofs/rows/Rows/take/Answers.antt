@@ -2,7 +2,7 @@ use Rattle.std.proofs.Common.{◌≡◌, ◌∙◌, ap, sym, subst, Some, Ok, Er
 use Rattle.std.specs.Prelude.{option_map}
 use Rattle.std.specs.Ordering.{nat_cmp}
 use Rattle.soc_store.specs.Stored.{PlacesRise, row_at, rows_in, without_row}
-use Rattle.soc_store.specs.Tables.{FindsKey}
+use Rattle.soc_schema.specs.Tables.{FindsKey}
 use Rattle.soc_store.proofs.StoreLemmas.{row_found, row_missing, rows_remove, rows_same, rise_without, place_of}
 use Rattle.soc_store.proofs.rows.Rows.take.Goals as goal
 

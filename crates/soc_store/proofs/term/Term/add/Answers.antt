@@ -1,6 +1,6 @@
 use Rattle.std.proofs.Common.{◌≡◌, ◌≤◌, ◌∙◌, ℕ, List, length, sym, subst, ap}
 use Rattle.std.specs.Prelude.{remove}
-use Rattle.soc_store.specs.Tables.{Rising}
+use Rattle.soc_schema.specs.Tables.{Rising}
 use Rattle.soc_store.specs.Orders.{product_cmp}
 use Rattle.soc_store.specs.declared.counts.ProductCount.{ProductCount}
 use Rattle.std.specs.Option.{option_copied}

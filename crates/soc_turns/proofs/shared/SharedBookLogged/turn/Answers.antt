@@ -5,7 +5,7 @@ use Rattle.soc_turns.proofs.shared.SharedBookLogged.turn.Goals as goal
 pub ask_prepared-requires : goal.ask_prepared-requires
 ask_prepared-requires g c =
     let b = c.args.self.now.book in
-    allowed (g.R.Reporter.row_of b.reporter.now) g.D.Telling.tells b.limits b.ledger b.store b.doubt b.vault.journal (g.D.Disk.state b.vault.disk.now) (g.met.D.Telling.steady b.vault.disk.now) c.args.command c.requires
+    allowed (g.R.Reporter.row_of b.reporter.now) g.D.Telling.tells b.limits b.ledger b.store b.doubt b.vault.journal (g.D.Disk.state b.vault.disk.now) (g.met.D.Telling.steady b.vault.disk.now) (g.R.Reporter.digest_of b.reporter.now) c.args.command c.requires
 
 pub invariant_of-self-clause-stands : goal.invariant_of-self-clause-stands
 invariant_of-self-clause-stands g c =

@@ -1,0 +1,4 @@
+pub mod Cursor
+pub mod inner
+pub mod Names
+pub mod Options

@@ -1,2 +1,0 @@
-pub mod Finds
-mod Digests

@@ -1,7 +1,0 @@
-pub mod Crossing
-pub mod Hosted
-pub mod Hostings
-pub mod Pushed
-pub mod Signatures
-pub mod Storms
-pub mod Sweeps

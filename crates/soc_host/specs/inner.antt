@@ -1,4 +1,0 @@
-pub mod Hosting
-pub mod Serving
-pub mod Storm
-pub mod Sweeping

@@ -1,0 +1,4 @@
+pub mod DumpLemmas
+pub mod MadeLemmas
+pub mod MakeLemmas
+pub mod Pieces

@@ -1,0 +1,4 @@
+pub mod Dump
+pub mod Made
+pub mod Makes
+mod MadeExamples

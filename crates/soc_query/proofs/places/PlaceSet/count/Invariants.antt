@@ -1,6 +1,0 @@
-use Rattle.std.proofs.Common.{◌≡◌, ◌≤◌, take, count_by}
-use Rattle.soc_query.specs.Places.{has}
-use Rattle.soc_query.proofs.places.PlaceSet.count.Given as goal
-
-abbrev pub invariant-loop-place : goal.invariant-loop-place
-invariant-loop-place l = (l.count ≡ count_by (has l.self) (take l.place-index l.places)) × (l.count ≤ l.place-index)

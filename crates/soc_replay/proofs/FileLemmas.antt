@@ -1,0 +1,65 @@
+-- What files say, once they are read and looked at.
+use Rattle.std.proofs.Common.{◌≡◌, ℕ, List, [], ◌∷◌, Option, None, Some, Result, Ok, Err, refl, sym, ap, ◌∙◌, subst}
+use Rattle.std.specs.Prelude.{IfSome, codes, option_map}
+use Rattle.std.specs.Option.{option_or}
+use Rattle.std.specs.Result.{IsErrAnd, IsErrOf}
+use Rattle.soc_siglists.specs.declared.error.ListName.{ListName}
+use Rattle.soc_siglists.specs.Reading.{first_bad}
+use Rattle.soc_report.specs.declared.error.KitError.{KitError}
+use Rattle.soc_report.specs.declared.error.KitError.TheVariants as kit
+use Rattle.soc_report.specs.Kits.{IsKit, bad_pattern, bad_symbols, first_bad_symbols, refusal_of}
+use Rattle.soc_report.specs.Texts.{Files, KitTexts, SymbolText, missing_in, name_of, texts_in, text_at}
+use Rattle.soc_replay.specs.declared.refusal.FilesFault.{FilesFault}
+use Rattle.soc_replay.specs.declared.refusal.FilesFault.TheVariants.{Tree}
+use Rattle.soc_replay.specs.Refusals.{of_kit}
+use Rattle.soc_replay.specs.declared.setup.Setup.{Setup}
+use Rattle.soc_replay.specs.declared.texts.Texts.{Texts}
+use Rattle.soc_replay.specs.Files.{Said, files_say, kit_says, missing_says, setup_says}
+use Rattle.soc_replay.specs.Setup.{setup_of}
+use Rattle.soc_replay.specs.inner.Texts.{AreTexts}
+
+-- ---- a text is never refused for a fault of the tree
+
+no_tree_of : (symbol : SymbolText) (line : Option ℕ) → option_map (λ n. kit.BadLine (name_of symbol.path) n) line ≡ Some kit.TreeFault → ⊥
+no_tree_of symbol None is = cc
+no_tree_of symbol (Some line) is = cc
+
+or_else : {A : Type 0} (first second : Option A) (a : A) → option_or first second ≡ Some a → (first ≡ Some a → ⊥) → (second ≡ Some a → ⊥) → ⊥
+or_else None second a is none other = other is
+or_else (Some b) second a is none other = none is
+
+no_tree_in : (symbols : List SymbolText) → first_bad_symbols symbols ≡ Some kit.TreeFault → ⊥
+no_tree_in [] is = cc
+no_tree_in (symbol ∷ more) is = or_else (bad_symbols symbol) (first_bad_symbols more) kit.TreeFault is (no_tree_of symbol _) (no_tree_in more)
+
+no_tree_by : (bad : Option (ListName × ℕ)) → option_map bad_pattern bad ≡ Some kit.TreeFault → ⊥
+no_tree_by None is = cc
+no_tree_by (Some bad) is = cc
+
+pub no_tree_fault : (texts : KitTexts) → refusal_of texts ≡ Some kit.TreeFault → ⊥
+no_tree_fault texts is =
+    or_else (option_map bad_pattern (first_bad texts.irrelevant texts.prefix texts.sentinel)) (first_bad_symbols texts.symbols) kit.TreeFault is
+    (no_tree_by (first_bad texts.irrelevant texts.prefix texts.sentinel)) (no_tree_in texts.symbols)
+
+pub kit_not_tree : {A : Type 0} (result : Result A FilesFault) (texts : KitTexts) (error : KitError)
+    → IsErrAnd result (λ fault. fault ≡ of_kit error) → IsKit (Err error) texts → IsErrOf result Tree → ⊥
+kit_not_tree (Ok _) texts error never reads is = never
+kit_not_tree (Err fault) texts kit.TreeFault gives reads is = no_tree_fault texts reads
+kit_not_tree (Err fault) texts kit.MakerFault gives reads is = cc
+kit_not_tree (Err fault) texts kit.NoMemory gives reads is = cc
+kit_not_tree (Err fault) texts (kit.Missing name) gives reads is = cc
+kit_not_tree (Err fault) texts (kit.BadLine name line) gives reads is = cc
+kit_not_tree (Err fault) texts (kit.BadPattern list line) gives reads is = cc
+
+-- ---- what is said
+
+pub says_said : (told : Option Files) (texts : Texts) (setup : Setup) → IfSome told (λ files. AreTexts files texts) → setup_of texts.settings texts.tokens ≡ Ok setup → refusal_of texts.kit ≡ None
+    → IfSome told (λ files. files_say files ≡ Ok (record { setup = setup; texts = texts.kit }))
+says_said None texts setup are says none = tt
+says_said (Some files) texts setup are says none =
+    let as_said : setup_of (text_at files (codes "settings.toml")) (text_at files (codes "tokens.toml")) ≡ Ok setup =
+    sym (ap (λ (s : List ℕ). setup_of s (text_at files (codes "tokens.toml"))) are.settings) ∙ (sym (ap (λ (t : List ℕ). setup_of texts.settings t) are.tokens) ∙ says) in
+    ap (λ m. missing_says files m) are.none_missing
+    ∙ (ap (λ (s : Result Setup FilesFault). setup_says (texts_in files) s) as_said
+    ∙ (sym (ap (λ (k : KitTexts). kit_says setup k (refusal_of k)) are.kit)
+    ∙ ap (λ r. kit_says setup texts.kit r) none))

@@ -1,0 +1,10 @@
+pub mod CheckLemmas
+pub mod DocumentLemmas
+pub mod SettingLemmas
+pub mod TextLemmas
+pub mod OpeningLemmas
+pub mod FileLemmas
+pub mod ReplayLemmas
+pub mod RunLemmas
+pub mod ServingLemmas
+pub mod TaskLemmas

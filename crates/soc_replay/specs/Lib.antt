@@ -1,0 +1,15 @@
+pub mod Check
+pub mod Documents
+pub mod Ends
+pub mod Files
+pub mod Opening
+pub mod Refusals
+pub mod Replay
+pub mod Runs
+pub mod Serving
+pub mod Settings
+pub mod Setup
+pub mod Tasks
+pub mod TokenText
+mod SettingExamples
+pub mod inner

@@ -1,0 +1,116 @@
+-- A session over a desk whose log a journal keeps: from the opening of the journal until the reports are kept. This project's
+-- profile.
+use Rattle.std.specs.Prelude.{◌≡◌, ◌⊎◌, ℕ, ◌≤◌, Bool, true, false, is_some, IfSome, IsTrue, List, [], ◌++◌, Option, None, Some}
+use Rattle.soc_raw.specs.Record.{Crash}
+use Rattle.soc_schema.specs.declared.value.Cell.{Cell}
+use Rattle.soc_edge.specs.Disk.{DiskTold, GoesOn}
+use Rattle.soc_edge.specs.Faults.{Rose}
+use Rattle.soc_vault.specs.Openings.{FirstLeaves}
+use Rattle.soc_desk.specs.declared.desk.Reply.{Reply}
+use Rattle.soc_desk.specs.declared.desk.Reply.TheVariants as reply
+use Rattle.soc_desk.specs.declared.desk.Refusal.TheVariants as refusal
+use Rattle.soc_desk.specs.Asks.{IsStoreFault}
+use Rattle.soc_desk.specs.Basis.{Basis}
+use Rattle.soc_desk.specs.Keeps.{KeepAllows, KeepGrows, StepKeep}
+use Rattle.soc_desk.specs.Log.{Change, events}
+use Rattle.soc_desk.specs.State.{State, doubted, Allowed, IsLegalState, settled}
+use Rattle.soc_session.specs.declared.ending.SessionEnd.{SessionEnd}
+use Rattle.soc_session.specs.declared.ending.SessionEnd.TheVariants.{Ended, Closed, Stopped, Refused, ReadFault, WriteFault, TooLong, NoMemory}
+use Rattle.soc_replay.specs.Runs.{Answers, AllowedInRun, RoseBy, store_faults}
+use Rattle.soc_session.specs.Session.{Response, Serves, around}
+use Rattle.soc_replay.specs.declared.ending.Keeping.{Keeping}
+use Rattle.soc_replay.specs.declared.ending.Keeping.TheVariants as K
+use Rattle.soc_replay.specs.declared.setup.Setup.{Setup}
+use Rattle.soc_replay.specs.Opening.{OpensJournal}
+use Rattle.soc_edge.specs.World.{Surroundings}
+
+-- ---- reports that are kept after the session
+
+-- the ends after which reports are kept
+abbrev pub keeps_reports : SessionEnd → Bool
+keeps_reports Ended = true
+keeps_reports Closed = true
+keeps_reports Stopped = true
+keeps_reports Refused = true
+keeps_reports TooLong = true
+keeps_reports ReadFault = false
+keeps_reports WriteFault = false
+keeps_reports NoMemory = false
+
+-- what the desk answered when it was told to keep them
+abbrev pub keep_reply : Keeping → Option Reply
+keep_reply K.Nothing = None
+keep_reply (K.Done count) = Some (reply.Kept count)
+keep_reply K.Fault = Some (reply.Refused refusal.StoreFault)
+keep_reply K.NoMemory = Some (reply.Refused refusal.NoMemory)
+
+-- Reports were kept under this reply: always what the reply and the log tell, and where the disk tells its content a step.
+-- The disk's count of faults was this before.
+pub record KeepsUnder (basis : Basis) (last : State) (faults faults' : ℕ) (said : Reply) (kept : State) : Type 0 where
+  pub piece : List Change
+  pub behind : kept.log ≡ last.log ++ piece
+  pub grows : KeepGrows basis said (events basis last.log) (doubted basis last) (events basis piece) (doubted basis kept)
+  pub legal : IsLegalState basis kept
+  pub fault : IsStoreFault said → Rose faults faults'
+  pub step : IsTrue basis.is_told → StepKeep basis last said kept
+
+-- without a reply nothing is done
+abbrev pub KeepsBy : Basis → State → ℕ → ℕ → Option Reply → State → Type 0
+KeepsBy basis last faults faults' None kept = kept ≡ last
+KeepsBy basis last faults faults' (Some said) kept = KeepsUnder basis last faults faults' said kept
+
+-- ---- stops
+
+-- what a desk goes through: its first state, the responses, its last state, and the one after the keeping
+pub record Course : Type 0 where
+  pub first : State
+  pub responses : List Response
+  pub last : State
+  pub kept : State
+
+-- From this moment on, once the journal's first sync is done or the empty journal is made, each stop leaves what some state
+-- of the run allows, or of the keeping; until then what might have been left before, or the torn creation.
+pub record SurvivesStops (basis : Basis) (before after : DiskTold) (bytes : List ℕ) (course : Course) : Type 0 where
+  pub moment : ℕ
+  pub begins : before.moment ≤ moment
+  pub ends : moment ≤ after.moment
+  pub until : (image : List ℕ) → after.since before.moment image
+      → after.since moment image ⊎ FirstLeaves before.images bytes image
+  pub each : (image : List ℕ) → after.since moment image
+      → AllowedInRun basis course.first course.responses image ⊎ KeepAllows course.last course.kept image
+  pub now : (image : List ℕ) → after.images image → Allowed course.kept image
+
+-- ---- the whole
+
+-- what a desk is served by: the rows of its reports, their digest, and the setup
+pub record Service : Type 0 where
+  pub row_of : Crash → List Cell
+  pub digest : Option (List ℕ)
+  pub setup : Setup
+
+abbrev pub service : (Crash → List Cell) → Option (List ℕ) → Setup → Service
+service row_of digest setup = record { row_of = row_of; digest = digest; setup = setup }
+
+-- The journal is opened, the session's responses answer the input's messages by the setup and by one run of a desk from the
+-- log, and after such an end the reports are kept.
+pub record ServesJournal (by : Service) (before after : Surroundings) (end : SessionEnd) (keeping : Keeping) : Type 0 where
+  pub opening : OpensJournal by.row_of by.digest by.setup.limits before.disk.content
+  -- the session
+  pub last : State
+  pub window : List ℕ
+  pub serves : Serves (Answers opening.basis) by.setup.rules
+      (around before.streams (settled opening.log) before.outlook) (around after.streams last after.outlook) window end
+  -- the keeping, after such an end and after no other
+  pub where_ended : is_some (keep_reply keeping) ≡ keeps_reports end
+  pub kept : State
+  -- the disk's count of faults when the journal was open, and when the session had ended
+  pub opened : ℕ
+  pub served : ℕ
+  pub no_fewer : before.disk.faults ≤ opened
+  pub at_most : served ≤ after.disk.faults
+  pub blames : RoseBy (store_faults serves.responses) opened served
+  pub keeps : KeepsBy opening.basis last served after.disk.faults (keep_reply keeping) kept
+  pub goes_on : GoesOn before.disk after.disk
+  -- every stop
+  pub survives : IfSome before.disk.content (λ bytes. SurvivesStops opening.basis before.disk after.disk bytes
+      (record { first = settled opening.log; responses = serves.responses; last = last; kept = kept }))

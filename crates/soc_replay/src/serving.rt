@@ -1,0 +1,91 @@
+//! One session over the desk that a disk's journal opens, and the reports after it.
+ghost use Rattle.std.specs.Prelude.{◌≡◌, is_some};
+ghost use Rattle.soc_edge.specs.Ahead.{outlook};
+ghost use Rattle.soc_edge.specs.Disk.{DiskFailed, GoesOn};
+ghost use Rattle.soc_edge.specs.Told.{HasCause, NeverFall};
+ghost use Rattle.soc_desk.specs.Basis.{Basis};
+ghost use Rattle.soc_desk.specs.State.{State};
+ghost use Rattle.soc_book.specs.inner.Stands.{Stands};
+ghost use Rattle.soc_replay.specs.Ends.{status_of};
+ghost use Rattle.soc_edge.specs.World.{surroundings};
+ghost use Rattle.soc_replay.specs.Replay.{RunsDesk};
+ghost use Rattle.soc_replay.specs.Serving.{keep_reply, keeps_reports, service};
+ghost use Rattle.soc_replay.specs.inner.Serving.{KeepsDisk};
+
+use crate::ending::{Keeping, RunEnd, keeps_reports};
+use crate::opening::open;
+use crate::setup::Setup;
+use soc_book::Book;
+use soc_desk::{Refusal, Reply};
+use soc_edge::{Clock, Disk, Draws, Sink, Source};
+use soc_http::{Buffer, Routes};
+use soc_schema::Reporter;
+use soc_session::{SessionEnd, session};
+use std::alloc::Global;
+
+/// Opens the desk whose log the disk's journal keeps, answers the messages of the streams' source on their sink, and then
+/// keeps the reports that were made.
+pub(crate) fn serve<R: Reporter, X: Source + Sink, D: Disk, C: Clock, W: Draws>(
+    alloc: Global,
+    setup: &Setup,
+    reporter: &R,
+    streams: &mut X,
+    disk: &mut D,
+    clock: &mut C,
+    draws: &mut W,
+) -> RunEnd
+    ensures runs { RunsDesk (service (R.row_of reporter.now) (R.digest_of reporter.now) setup.now)
+        (surroundings (X.told streams.old) (D.state disk.old) (outlook (C.told clock.old) (W.told draws.old)))
+        (surroundings (X.told streams.new) (D.state disk.new) (outlook (C.told clock.new) (W.told draws.new)))
+        result }
+    ensures goes_on { GoesOn (D.state disk.old) (D.state disk.new) }
+    ensures never_fall { NeverFall (X.told streams.old) (X.told streams.new) }
+    ensures cause { HasCause (status_of result ≡ 6) (status_of result ≡ 7) (X.told streams.old)
+        (X.told streams.new) }
+    ensures disk_cause { status_of result ≡ 4 → DiskFailed (D.state disk.old) (D.state disk.new) }
+{
+    let Ok(routes) = Routes::new(alloc) else {
+        return RunEnd::NoMemory;
+    };
+    let Ok(mut buffer) = Buffer::new(alloc) else {
+        return RunEnd::NoMemory;
+    };
+    let restored = match open(alloc, reporter, setup.limits, streams, disk) {
+        Ok(restored) => restored,
+        Err(end) => return end,
+    };
+    let mut book = Book::over(alloc, disk, reporter, setup.limits, restored);
+    let end = session(
+        alloc,
+        &mut book,
+        streams,
+        &setup.rules,
+        &routes,
+        &mut buffer,
+        clock,
+        draws,
+    );
+    let keeping = keep_after(end, &mut book);
+    let _disk = book.into_disk();
+    RunEnd::Served(end, keeping)
+}
+
+/// Keeps the reports of a run for later ones, where the session's end is one after which they are kept.
+fn keep_after<D: Disk, R: Reporter>(end: SessionEnd, book: &mut Book<'_, D, R>) -> Keeping
+    ensures same_disk { book.new.vault.disk.ghost_name ≡ book.old.vault.disk.ghost_name }
+    ensures where_ended { is_some (keep_reply result) ≡ keeps_reports end }
+    ensures keeps { (basis : Basis) (state : State) → basis.row_of ≡ R.row_of book.old.reporter.now
+        → basis.digest ≡ R.digest_of book.old.reporter.now
+        → Stands basis book.old.limits book.old.ledger book.old.store book.old.doubt book.old.vault.journal (D.state book.old.vault.disk.now) state
+        → (kept : State) × KeepsDisk basis state (D.state book.old.vault.disk.now)
+        (keep_reply result) kept (D.state book.new.vault.disk.now) }
+{
+    if !keeps_reports(end) {
+        return Keeping::Nothing;
+    }
+    match book.keep() {
+        Reply::Kept(count) => Keeping::Done(count),
+        Reply::Refused(Refusal::NoMemory) => Keeping::NoMemory,
+        _ => Keeping::Fault,
+    }
+}

@@ -1,0 +1,125 @@
+-- The service over a listener, by collectors and processors beside each other. This project's profile.
+use Rattle.std.specs.Prelude.{◌≡◌, ◌⊎◌, ℕ, ◌≤◌, IsTrue, List, ◌++◌, Option, None, Some, Ok}
+use Rattle.soc_edge.specs.Disk.{DiskFailed, GoesOn}
+use Rattle.soc_edge.specs.Faults.{Rose}
+use Rattle.soc_edge.specs.Told.{OnlyWrites, WriteFailed, Writes}
+use Rattle.soc_edge.specs.Tree.{OnlyLooks, TreeFailed}
+use Rattle.soc_edge.specs.World.{Outside, Surroundings}
+use Rattle.soc_desk.specs.Basis.{Basis}
+use Rattle.soc_desk.specs.Log.{events}
+use Rattle.soc_desk.specs.State.{State, IsLegalState, Allowed}
+use Rattle.soc_service.specs.declared.change.Change.{Change as Turned}
+use Rattle.soc_service.specs.Changes.{events_in, kept_in}
+use Rattle.soc_turns.specs.Logs.{changes_of}
+use Rattle.soc_words.specs.declared.words.Task.{Task}
+use Rattle.soc_words.specs.declared.words.Task.TheVariants as T
+use Rattle.soc_words.specs.declared.words.Words.{Words}
+use Rattle.soc_replay.specs.declared.ending.RunEnd.{RunEnd}
+use Rattle.soc_replay.specs.declared.ending.RunEnd.TheVariants as R
+use Rattle.soc_replay.specs.Files.{Said, Says}
+use Rattle.soc_replay.specs.Opening.{OpensJournal}
+use Rattle.soc_replay.specs.Replay.{Replays, service_of}
+use Rattle.soc_replay.specs.Serving.{Service}
+use Rattle.soc_replay.specs.Tasks.{TellsHow, WantsMemory}
+use Rattle.soc_serve.specs.declared.ending.HostEnd.{HostEnd}
+use Rattle.soc_serve.specs.declared.ending.HostEnd.TheVariants as H
+use Rattle.soc_serve.specs.Lines.{CutsLines, counts_text}
+use Rattle.soc_serve.specs.Storm.{Storms}
+use Rattle.soc_serve.specs.Sweep.{FailsSweep, Sweeps}
+
+-- ---- once the journal is open
+
+-- the last sweep, and the lines behind it, by the service's end
+abbrev pub Closes : Surroundings → Surroundings → HostEnd → Basis → State → State → Type 0
+Closes before after (H.Before end) basis closed swept = ⊥
+Closes before after (H.Swept fault) basis closed swept =
+    FailsSweep basis closed before.disk fault swept after.disk × (after.streams ≡ before.streams)
+Closes before after (H.Lines fault) basis closed swept =
+    Sweeps basis closed swept × CutsLines before.streams after.streams (counts_text (events basis swept.log)) fault
+Closes before after H.Failed basis closed swept =
+    Sweeps basis closed swept × Writes before.streams after.streams (counts_text (events basis swept.log))
+Closes before after H.Done basis closed swept =
+    Sweeps basis closed swept × Writes before.streams after.streams (counts_text (events basis swept.log))
+
+-- The journal is opened. What all collectors and processors together have added to its log counts so many kept changes and
+-- stops. Then comes the last sweep.
+pub record HostsDesk (by : Service) (kept : ℕ) (before after : Surroundings) (end : HostEnd) : Type 0 where
+  pub opening : OpensJournal by.row_of by.digest by.setup.limits before.disk.content
+  -- what was served
+  pub closed : State
+  pub legal : IsLegalState opening.basis closed
+  pub added : List Turned
+  pub behind : changes_of opening.basis closed.log ≡ changes_of opening.basis opening.log ++ added
+  pub kept_are : kept_in (events_in added) ≡ kept
+  -- the sweep and the lines
+  pub swept : State
+  pub closes : Closes before after end opening.basis closed swept
+  pub goes_on : GoesOn before.disk after.disk
+  pub allowed : IsTrue opening.basis.is_told → (image : List ℕ) → after.disk.images image → Allowed swept image
+
+-- ---- the whole
+
+-- no file is refused, and the desk is hosted by what they say
+pub record HostsBy (kept : ℕ) (before after : Outside) (end : HostEnd) : Type 0 where
+  pub said : Said
+  pub says : Says before.tree.files (Ok said)
+  pub hosts : ∥ HostsDesk (service_of said) kept before.around after.around end ∥₁
+
+-- as a replay ends before its session; the disk is blamed only where it failed
+abbrev pub EndsEarly : Outside → Outside → RunEnd → Type 0
+EndsEarly before after (R.Served end keeping) = ⊥
+EndsEarly before after R.OpenFault = Replays before after R.OpenFault × DiskFailed before.around.disk after.around.disk
+EndsEarly before after end = Replays before after end
+
+abbrev pub Hosts : ℕ → Outside → Outside → HostEnd → Type 0
+Hosts kept before after (H.Before end) = EndsEarly before after end
+Hosts kept before after (H.Swept fault) = HostsBy kept before after (H.Swept fault)
+Hosts kept before after (H.Lines fault) = HostsBy kept before after (H.Lines fault)
+Hosts kept before after H.Failed = HostsBy kept before after H.Failed
+Hosts kept before after H.Done = HostsBy kept before after H.Done
+
+-- the usage line is told
+abbrev pub TellsOnly : Outside → Outside → HostEnd → Type 0
+TellsOnly before after (H.Before end) = TellsHow before after end
+TellsOnly before after _ = ⊥
+
+-- a command, by the service's end; the others are carried by another call
+abbrev pub HostsTask : Words → Task → ℕ → Outside → Outside → HostEnd → Type 0
+HostsTask words T.Serve kept before after end = Hosts kept before after end
+HostsTask words T.Storm kept before after end = Storms words.count before after end
+HostsTask words T.Check kept before after end = TellsOnly before after end
+HostsTask words T.Make kept before after end = TellsOnly before after end
+HostsTask words T.Replay kept before after end = TellsOnly before after end
+
+abbrev pub HostsSaid : Option Words → ℕ → Outside → Outside → HostEnd → Type 0
+HostsSaid None kept before after end = TellsOnly before after end
+HostsSaid (Some words) kept before after end = HostsTask words words.command kept before after end
+
+abbrev pub WantsMemoryFirst : Outside → Outside → HostEnd → Type 0
+WantsMemoryFirst before after (H.Before end) = WantsMemory before after end
+WantsMemoryFirst before after _ = ⊥
+
+-- the service by what its words say, of whose turns so many changes and stops count as kept
+abbrev pub HostsWords : Option Words → ℕ → Outside → Outside → HostEnd → Type 0
+HostsWords said kept before after end = HostsSaid said kept before after end ⊎ WantsMemoryFirst before after end
+
+-- ---- the listener that is handed in
+
+-- only `serve` hands out the connections of the listener that it is given
+abbrev pub IsServe : Option Words → Type 0
+IsServe None = ⊥
+IsServe (Some words) = words.command ≡ T.Serve
+
+-- ---- faults
+
+-- whatever the service did, the files are as they were, nothing was read, and no fault is forgotten
+pub record HostsOn (before after : Outside) : Type 0 where
+  pub tree : OnlyLooks before.tree after.tree
+  pub streams : OnlyWrites before.around.streams after.around.streams
+  pub maker : before.maker ≤ after.maker
+
+-- each status that blames output, tree or maker comes only where that one failed
+pub record HostHasCause (before after : Outside) (status : ℕ) : Type 0 where
+  pub output : status ≡ 7 → WriteFailed before.around.streams after.around.streams
+  pub tree : status ≡ 8 → TreeFailed before.tree after.tree
+  pub maker : status ≡ 11 → Rose before.maker after.maker

@@ -1,0 +1,30 @@
+-- The steps of the last sweep.
+use Rattle.std.specs.Prelude.{ℕ, Result, Ok, Err}
+use Rattle.soc_edge.specs.Disk.{DiskTold}
+use Rattle.soc_desk.specs.Basis.{Basis}
+use Rattle.soc_desk.specs.State.{State}
+use Rattle.soc_desk.specs.declared.desk.Reply.{Reply}
+use Rattle.soc_desk.specs.declared.desk.Reply.TheVariants as R
+use Rattle.soc_desk.specs.declared.desk.Refusal.TheVariants as F
+use Rattle.soc_serve.specs.declared.sweep.SweepFault.{SweepFault}
+use Rattle.soc_serve.specs.declared.sweep.SweepFault.TheVariants as S
+use Rattle.soc_serve.specs.Sweep.{FailsSweep, KeepsAll, Processes}
+
+-- what the answer to a drain, and to the keeping of reports, says of the sweep
+abbrev pub drained : Reply → Result (Unit {0}) SweepFault
+drained (R.Drained count) = Ok tt
+drained (R.Refused F.NoMemory) = Err S.NoMemory
+drained _ = Err S.Disk
+
+abbrev pub kept : Reply → Result (Unit {0}) SweepFault
+kept (R.Kept count) = Ok tt
+kept (R.Refused F.NoMemory) = Err S.NoMemory
+kept _ = Err S.Disk
+
+abbrev pub EndsDrain : Basis → State → DiskTold → Result (Unit {0}) SweepFault → State → DiskTold → Type 0
+EndsDrain basis before disk (Ok done) after disk' = (count : ℕ) × Processes basis before count after
+EndsDrain basis before disk (Err fault) after disk' = FailsSweep basis before disk fault after disk'
+
+abbrev pub EndsKeep : Basis → State → DiskTold → Result (Unit {0}) SweepFault → State → DiskTold → Type 0
+EndsKeep basis before disk (Ok done) after disk' = (count : ℕ) × KeepsAll basis before count after
+EndsKeep basis before disk (Err fault) after disk' = FailsSweep basis before disk fault after disk'

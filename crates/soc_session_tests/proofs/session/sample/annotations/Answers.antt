@@ -1,6 +1,0 @@
-use Rattle.std.proofs.Common.{refl}
-use Rattle.soc_session.proofs.SampleLemmas.{product-annotation}
-use Rattle.soc_session_tests.proofs.session.sample.annotations.Goals as goal
-
-pub returns-in-Ok : goal.returns-in-Ok
-returns-in-Ok c = (refl, product-annotation c.args.caller.permissions c.in-Ok.texts _ c.in-Ok.ensures)

@@ -1,6 +1,0 @@
-use Rattle.std.proofs.Common.{refl}
-use Rattle.soc_session.proofs.SampleLemmas.{product-row}
-use Rattle.soc_session_tests.proofs.session.sample.row.Goals as goal
-
-pub returns-in-Ok : goal.returns-in-Ok
-returns-in-Ok c = (refl, product-row c.args.caller c.in-Ok.row _ c.in-Ok.ensures)

@@ -1,7 +1,0 @@
-use Rattle.std.proofs.Common.{refl}
-use Rattle.soc_schema.specs.Fields.{kind_of, field_entry, field_table}
-use Rattle.soc_session_tests.proofs.session.sample.row_of.Goals as goal
-
-pub set-requires : goal.set-requires
-unfolding kind_of field_entry field_table
-set-requires c = refl

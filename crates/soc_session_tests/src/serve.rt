@@ -1,4 +1,0 @@
-//! The texts that the program reads.
-
-mod settings;
-mod token_text;

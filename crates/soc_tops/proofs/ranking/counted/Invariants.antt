@@ -1,5 +1,0 @@
-use Rattle.soc_tops.proofs.RankLemmas.{Numbers}
-use Rattle.soc_tops.proofs.ranking.counted.Given as goal
-
-abbrev pub invariant-loop-index : goal.invariant-loop-index
-invariant-loop-index l = Numbers l.counts l.index l.ranking.items
