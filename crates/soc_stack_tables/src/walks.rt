@@ -1,11 +1,12 @@
 //! Walks of stacks.
 use crate::dump::dump_of;
 use crate::lists::append;
+use soc_base::Items;
 use soc_dump::Dump;
 use soc_frames::Frame;
 use soc_symfile::SymFile;
 use soc_tables::{Fault, Row};
-use soc_walk::{Frames, Symbols, walk};
+use soc_walk::{Symbols, walk};
 use std::alloc::Global;
 
 /// The symbols of the two modules of `dump.txt`.
@@ -76,7 +77,7 @@ fn walk_by(alloc: Global, dump: &Dump<'_>, xul: &[u8], mozglue: &[u8]) -> Result
     shown(alloc, &frames)
 }
 
-fn shown(alloc: Global, frames: &Frames) -> Result<String, Fault> {
+fn shown(alloc: Global, frames: &Items<Frame>) -> Result<String, Fault> {
     let mut text = String::new(alloc);
     for place in 0..frames.len() {
         append(

@@ -4,9 +4,8 @@ ghost use Rattle.std.specs.Option.{option_copied};
 ghost use Rattle.soc_walk.specs.Views.{frame_copy, name_at, named_copy};
 
 use crate::borrowed::BorrowedFrame;
-use crate::frames::Frames;
 use crate::process::Process;
-use soc_base::{NoMemory, Text};
+use soc_base::{Items, NoMemory, Text};
 use soc_frames::Frame;
 use soc_text::base_name;
 use std::alloc::Global;
@@ -69,10 +68,10 @@ pub fn copy_frames(
     alloc: Global,
     process: &Process<'_>,
     frames: &[BorrowedFrame<'_>],
-) -> Result<Frames, NoMemory>
+) -> Result<Items<Frame>, NoMemory>
     ensures { IfOk result (λ copies. copies ≡ map (frame_copy process.now.loaded) frames.now) }
 {
-    let mut copies = Frames::new(alloc);
+    let mut copies = Items::new(alloc);
     for frame in frames {
         copies.push(process.frame(alloc, frame)?)?;
     }

@@ -4,7 +4,6 @@
 mod architecture;
 mod borrowed;
 mod copies;
-mod frames;
 mod loaded;
 mod machines;
 mod process;
@@ -14,7 +13,6 @@ mod walking;
 
 pub use architecture::Architecture;
 pub use borrowed::BorrowedFrame;
-pub use frames::Frames;
 pub use loaded::Loaded;
 pub use process::Process;
 pub use symbols::Symbols;

@@ -5,11 +5,11 @@ ghost use Rattle.soc_walk.specs.Walk as spec;
 
 use crate::architecture::Architecture;
 use crate::copies::copy_frames;
-use crate::frames::Frames;
 use crate::process::Process;
 use crate::symbols::Symbols;
-use soc_base::NoMemory;
+use soc_base::{Items, NoMemory};
 use soc_dump::{Dump, Thread};
+use soc_frames::Frame;
 use soc_step::PLACES;
 use std::alloc::Global;
 
@@ -60,11 +60,11 @@ pub fn walk<Y: Symbols>(
     dump: &Dump<'_>,
     thread: usize,
     symbols: &Y,
-) -> Result<Frames, NoMemory>
+) -> Result<Items<Frame>, NoMemory>
     ensures { IfOk result (λ frames. frames ≡ spec.frames_of (Y.symbols symbols.now) dump.now thread) }
 {
     let Some(start) = start_of(dump, thread) else {
-        return Ok(Frames::new(alloc));
+        return Ok(Items::new(alloc));
     };
     let process = Process::new(alloc, dump, start.architecture, symbols)?;
     let frames = process.walk(alloc, &start.values)?;
