@@ -1,4 +1,5 @@
-use Rattle.std.proofs.Common.{◌≡◌, ℕ, List, Ok, ap, sym, ◌∙◌}
+use Rattle.std.proofs.Common.{◌≡◌, ℕ, List, Ok, ap, sym, ◌∙◌, arith}
+use Rattle.soc_edge.proofs.Disks.{GoesOn-none}
 use Rattle.soc_replay.specs.Setup.{setup_of}
 use Rattle.soc_replay.proofs.FileLemmas.{kit_not_tree, says_said}
 use Rattle.soc_replay.proofs.ReplayLemmas.{runs_with}
@@ -7,6 +8,14 @@ use Rattle.soc_replay.proofs.replay.run.Goals as goal
 pub returns-in_err-kit-clause-tree_cause : goal.returns-in_err-kit-clause-tree_cause
 returns-in_err-kit-clause-tree_cause g c =
     λ is. absurd (kit_not_tree _ c.in_ok-texts.texts.kit c.in_err-kit.field-0.0 c.from_residual-in_err-kit.ensures.1 c.in_err-kit.ensures.reads is)
+
+pub returns-in_err-kit-clause-runs_on : goal.returns-in_err-kit-clause-runs_on
+returns-in_err-kit-clause-runs_on g c = record {
+  tree = c.in_ok-texts.ensures.looks;
+  streams = record { reads = omega arith; writes = omega arith };
+  maker = c.in_err-kit.ensures.never_fall;
+  disk = GoesOn-none _ (g.met.D.Disk.sound c.args.world.now.disk);
+}
 
 pub returns-clause-runs : goal.returns-clause-runs
 returns-clause-runs g c =
