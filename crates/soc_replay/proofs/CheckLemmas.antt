@@ -1,8 +1,7 @@
 -- A check of a journal, by its end.
-use Rattle.std.proofs.Common.{◌≡◌, ◌⊎◌, ℕ, ◌++◌, is_some, IfSome, List, Option, None, Some, refl, sym, ap, ◌∙◌, subst, inl, inr}
-use Rattle.std.specs.Prelude.{codes, decimal, length}
+use Rattle.std.proofs.Common.{◌≡◌, ℕ, ◌++◌, is_some, IfSome, List, Option, None, refl, sym, ap, ◌∙◌, subst, inl, inr}
+use Rattle.std.specs.Prelude.{codes, length}
 use Rattle.soc_schema.specs.Reports.{bare_row}
-use Rattle.soc_edge.specs.Ahead.{Outlook}
 use Rattle.soc_edge.specs.Disk.{DiskTold, GoesOn, LeavesOnly}
 use Rattle.soc_edge.specs.Told.{Told, Writes, WritesFront}
 use Rattle.soc_ledger.specs.Due.{due_ids}

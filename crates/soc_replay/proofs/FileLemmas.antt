@@ -1,5 +1,5 @@
 -- What files say, once they are read and looked at.
-use Rattle.std.proofs.Common.{◌≡◌, ℕ, List, [], ◌∷◌, Option, None, Some, Result, Ok, Err, refl, sym, ap, ◌∙◌, subst}
+use Rattle.std.proofs.Common.{◌≡◌, ℕ, List, [], ◌∷◌, Option, None, Some, Result, Ok, Err, sym, ap, ◌∙◌}
 use Rattle.std.specs.Prelude.{IfSome, codes, option_map}
 use Rattle.std.specs.Option.{option_or}
 use Rattle.std.specs.Result.{IsErrAnd, IsErrOf}
@@ -8,13 +8,13 @@ use Rattle.soc_siglists.specs.Reading.{first_bad}
 use Rattle.soc_report.specs.declared.error.KitError.{KitError}
 use Rattle.soc_report.specs.declared.error.KitError.TheVariants as kit
 use Rattle.soc_report.specs.Kits.{IsKit, bad_pattern, bad_symbols, first_bad_symbols, refusal_of}
-use Rattle.soc_report.specs.Texts.{Files, KitTexts, SymbolText, missing_in, name_of, texts_in, text_at}
+use Rattle.soc_report.specs.Texts.{Files, KitTexts, SymbolText, name_of, texts_in, text_at}
 use Rattle.soc_replay.specs.declared.refusal.FilesFault.{FilesFault}
 use Rattle.soc_replay.specs.declared.refusal.FilesFault.TheVariants.{Tree}
 use Rattle.soc_replay.specs.Refusals.{of_kit}
 use Rattle.soc_replay.specs.declared.setup.Setup.{Setup}
 use Rattle.soc_replay.specs.declared.texts.Texts.{Texts}
-use Rattle.soc_replay.specs.Files.{Said, files_say, kit_says, missing_says, setup_says}
+use Rattle.soc_replay.specs.Files.{files_say, kit_says, missing_says, setup_says}
 use Rattle.soc_replay.specs.Setup.{setup_of}
 use Rattle.soc_replay.specs.inner.Texts.{AreTexts}
 

@@ -1,5 +1,5 @@
 -- A journal that isn't opened, by the run's end.
-use Rattle.std.proofs.Common.{◌≡◌, ℕ, List, [], Option, IfSome, refl, subst, sym}
+use Rattle.std.proofs.Common.{◌≡◌, ℕ, List, [], IfSome, refl}
 use Rattle.std.specs.Prelude.{◌≢◌}
 use Rattle.soc_edge.specs.Ahead.{Outlook}
 use Rattle.soc_edge.specs.Disk.{DiskTold, GoesOn, LeavesOnly, Looks}

@@ -1,9 +1,9 @@
 -- A session over a book is one over its log, which every stop of the machine outlives.
-use Rattle.std.proofs.Common.{◌≡◌, ◌⊎◌, ℕ, ◌<◌, ◌≤◌, Bool, true, false, IsTrue, is_some, IfSome, List, [], ◌∷◌, ◌++◌, map, Option, None, Some, refl, sym, ap, ◌∙◌, subst, inl, inr, ⊎_elim, arith}
+use Rattle.std.proofs.Common.{◌≡◌, ◌⊎◌, ℕ, ◌≤◌, Bool, true, false, IsTrue, is_some, IfSome, List, [], ◌∷◌, map, Option, None, Some, refl, sym, ap, ◌∙◌, subst, inl, inr, ⊎_elim, arith}
 use Rattle.soc_raw.specs.Record.{Crash}
 use Rattle.soc_schema.specs.declared.value.Cell.{Cell}
 use Rattle.soc_edge.specs.Ahead.{Outlook}
-use Rattle.soc_edge.specs.Disk.{DiskTold, IsDisk, DiskFailed, GoesOn, LeavesOnly, Looks}
+use Rattle.soc_edge.specs.Disk.{DiskTold, IsDisk, DiskFailed, GoesOn}
 use Rattle.soc_edge.specs.Faults.{Rose, last_count}
 use Rattle.soc_edge.proofs.Disks.{GoesOn-append}
 use Rattle.soc_edge.specs.Told.{Told, HasCause, WriteFailed}
@@ -21,12 +21,11 @@ use Rattle.soc_desk.specs.Log.{Change, Kept}
 use Rattle.soc_desk.specs.Opens.{OpensWith, as_told, log_of}
 use Rattle.soc_desk.specs.State.{State, Allowed, entries_of, kept_of, settled}
 use Rattle.soc_book.proofs.Kept.{kept_of-log, told_all}
-use Rattle.soc_book.specs.Keeping.{KeepsReports}
 use Rattle.soc_book.specs.Openings.{IsBasisOf, OpensBook}
 use Rattle.soc_replay.proofs.RunLemmas.{Reaches, at_first, reaches}
 use Rattle.soc_session.specs.declared.ending.SessionEnd.{SessionEnd}
 use Rattle.soc_session.specs.declared.ending.SessionEnd.TheVariants.{Ended, Closed, Stopped, Refused, ReadFault, WriteFault, TooLong, NoMemory}
-use Rattle.soc_replay.specs.Runs.{Answers, AllowedInRun, RoseBy, store_faults}
+use Rattle.soc_replay.specs.Runs.{AllowedInRun, RoseBy, store_faults}
 use Rattle.soc_session.specs.declared.rules.Rules.{Rules}
 use Rattle.soc_session.specs.Desk.{Asking, StepsDesk}
 use Rattle.soc_session.specs.Session.{Around, Response, met, refused, RunsDesk, Serves, around}
@@ -39,7 +38,7 @@ use Rattle.soc_replay.specs.Ends.{served_status, session_status, status_of}
 use Rattle.soc_replay.specs.Opening.{OpensNot}
 use Rattle.soc_edge.specs.World.{Surroundings, surroundings}
 use Rattle.soc_replay.specs.Replay.{RunsDesk as DeskRuns}
-use Rattle.soc_replay.specs.Serving.{KeepsBy, KeepsUnder, ServesJournal, Service, SurvivesStops, keep_reply, keeps_reports, service}
+use Rattle.soc_replay.specs.Serving.{KeepsBy, ServesJournal, Service, SurvivesStops, keep_reply, keeps_reports, service}
 use Rattle.soc_replay.specs.inner.Serving.{KeepsDisk}
 
 -- ---- the basis of a run

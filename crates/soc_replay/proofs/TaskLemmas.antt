@@ -1,5 +1,5 @@
--- A run of the program by what its words say.
-use Rattle.std.proofs.Common.{◌≡◌, ℕ, Option, None, Some, refl, sym, subst, inl, arith}
+-- A check as a run of the program.
+use Rattle.std.proofs.Common.{◌≡◌, ℕ, refl, sym, subst, arith}
 use Rattle.soc_edge.specs.Disk.{DiskFailed}
 use Rattle.soc_edge.specs.Told.{WriteFailed}
 use Rattle.soc_edge.specs.Tree.{TreeTold}
@@ -10,16 +10,8 @@ use Rattle.soc_replay.specs.declared.ending.RunEnd.{RunEnd}
 use Rattle.soc_replay.specs.declared.ending.RunEnd.TheVariants as R
 use Rattle.soc_replay.specs.Check.{Checks}
 use Rattle.soc_replay.specs.Ends.{status_of}
-use Rattle.soc_edge.specs.World.{Outside, RunHasCause, Surroundings}
-use Rattle.soc_replay.specs.Tasks.{RunsSaid, RunsTask, RunsWords, TellsHow}
-
-pub runs_words : (said : Option Words) (words : Words) (before after : Outside) (end : RunEnd) → said ≡ Some words → RunsTask words words.command before after end → RunsWords said before after end
-runs_words said words before after end is runs = inl (subst (λ (s : Option Words). RunsSaid s before after end) (sym is) runs)
-
-pub tells_words : (said : Option Words) (before after : Outside) (end : RunEnd) → said ≡ None → TellsHow before after end → RunsWords said before after end
-tells_words said before after end is tells = inl (subst (λ (s : Option Words). RunsSaid s before after end) (sym is) tells)
-
--- ---- a check
+use Rattle.soc_edge.specs.World.{RunHasCause, Surroundings}
+use Rattle.soc_replay.specs.Tasks.{RunsTask}
 
 pub checks_task : (words : Words) (task : Task) (tree : TreeTold) (maker : ℕ) (before after : Surroundings) (end : RunEnd) → task ≡ T.Check → Checks before after end
     → RunsTask words task (record { tree = tree; maker = maker; around = before }) (record { tree = tree; maker = maker; around = after }) end

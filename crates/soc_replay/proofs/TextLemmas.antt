@@ -1,9 +1,9 @@
 -- The texts of a run, read one after the other from the same tree.
-use Rattle.std.proofs.Common.{◌≡◌, ℕ, List, Option, None, Some, Result, Ok, Err, refl, subst, sym, ◌∙◌}
+use Rattle.std.proofs.Common.{◌≡◌, Option, None, Some, Ok, Err, subst, ◌∙◌}
 use Rattle.std.specs.Prelude.{IfSome, codes}
 use Rattle.soc_report.specs.declared.error.KitError.{KitError}
 use Rattle.soc_report.specs.declared.error.KitError.TheVariants as kit
-use Rattle.soc_report.specs.Texts.{Files, KitTexts, IsReadFrom, text_at}
+use Rattle.soc_report.specs.Texts.{Files, IsReadFrom, text_at}
 use Rattle.soc_replay.specs.Refusals.{of_kit}
 use Rattle.soc_replay.specs.declared.texts.Texts.{Texts}
 use Rattle.soc_replay.specs.inner.Texts.{AreTexts, IsReadFault}

@@ -1,6 +1,6 @@
 -- `replay`: one session over input and output, by the files of the tree, over a desk whose log a journal keeps. This
 -- project's profile.
-use Rattle.std.specs.Prelude.{◌≡◌, ◌⊎◌, ℕ, List, Option, Some, Ok, Err}
+use Rattle.std.specs.Prelude.{◌⊎◌, ℕ, List, Option, Some, Ok, Err}
 use Rattle.sha2.specs.Sha256.{sha256}
 use Rattle.soc_raw.specs.Record.{Crash}
 use Rattle.soc_schema.specs.declared.value.Cell.{Cell}

@@ -14,7 +14,6 @@ use Rattle.soc_desk.specs.Desk.{Step}
 use Rattle.soc_desk.specs.Kinds.{IsReplyTo}
 use Rattle.soc_desk.specs.Log.{events}
 use Rattle.soc_desk.specs.State.{State, IsLegalState, Allowed}
-use Rattle.soc_session.specs.Desk.{Asking}
 use Rattle.soc_session.specs.Session.{Response, met, refused, RunsDesk}
 
 -- what a desk over a journal did with a command, as its log tells: always what its reply says, and a step where the disk

@@ -1,5 +1,5 @@
 -- The texts of a run, as they were read from its files.
-use Rattle.std.specs.Prelude.{◌≡◌, ℕ, List, None, Some, codes, ⊤}
+use Rattle.std.specs.Prelude.{◌≡◌, None, Some, codes, ⊤}
 use Rattle.soc_report.specs.Texts.{Files, missing_in, texts_in, text_at}
 use Rattle.soc_replay.specs.declared.refusal.FileRefusal.{FileRefusal}
 use Rattle.soc_replay.specs.declared.refusal.FileRefusal.TheVariants as F
