@@ -1,5 +1,5 @@
 -- The service by what its words and its files say.
-use Rattle.std.proofs.Common.{◌≡◌, ◌⊎◌, ℕ, List, Option, None, Some, Result, Ok, refl, sym, subst, inl, inr, arith}
+use Rattle.std.proofs.Common.{◌≡◌, ◌⊎◌, ℕ, Option, None, Some, Result, Ok, refl, sym, subst, inl, inr, arith}
 use Rattle.std.specs.Prelude.{IfOk}
 use Rattle.soc_report.specs.Texts.{KitTexts}
 use Rattle.soc_words.specs.declared.words.Task.{Task}

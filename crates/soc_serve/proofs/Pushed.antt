@@ -1,5 +1,5 @@
 -- Lines that are pushed one after another.
-use Rattle.std.proofs.Common.{◌≡◌, ℕ, zero, suc, ◌+◌, ◌<◌, ◌≤◌, List, [], ◌∷◌, ◌++◌, length, map, drop, get_or, refl, sym, ap, ◌∙◌, append_assoc, append-nil, add-one, arith, drop-cons}
+use Rattle.std.proofs.Common.{◌≡◌, ℕ, suc, ◌+◌, ◌<◌, ◌≤◌, List, [], ◌∷◌, ◌++◌, length, map, drop, get_or, refl, sym, ap, ◌∙◌, append_assoc, append-nil, add-one, drop-cons}
 use Rattle.soc_base.proofs.Folk.{drop_past}
 use Rattle.soc_query.specs.declared.answer.Term.{Term}
 use Rattle.soc_serve.specs.Storm.{term_line, term_lines}

@@ -1,13 +1,12 @@
 -- The signatures of a log, in rising order, as a search counts them.
-use Rattle.std.proofs.Common.{◌≡◌, ℕ, zero, suc, ◌<◌, ◌≤◌, Bool, true, false, cond, List, [], ◌∷◌, ◌++◌, length, map, filter, take, Option, Some, None, refl, sym, ap, ◌∙◌, subst, inl, inr, arith}
+use Rattle.std.proofs.Common.{◌≡◌, ℕ, zero, suc, ◌<◌, Bool, true, false, cond, List, [], ◌∷◌, ◌++◌, length, map, filter, take, Some, refl, sym, ap, ◌∙◌, subst, inl, inr, arith}
 use Rattle.std.specs.Prelude.{if◌then◌else◌, slice_get, Result, Ok, codes}
 use Rattle.std.specs.List.{AllByRecursion}
 use Rattle.std.specs.Ordering.{is_eq, is_gt, nat_cmp}
 use Rattle.std.specs.declared.cmp.Ordering.{Ordering}
-use Rattle.std.specs.declared.cmp.Ordering.TheVariants.{Less, Equal, Greater}
+use Rattle.std.specs.declared.cmp.Ordering.TheVariants.{Less}
 use Rattle.std.specs.Cmp.{IsTotalOrder}
 use Rattle.std.proofs.lemmas.Cmp.{on_total}
-use Rattle.std.proofs.lemmas.Bool.{true≢false}
 use Rattle.soc_base.proofs.Folk.{equal_from, some-injective}
 use Rattle.soc_schema.specs.declared.caller.Products.TheVariants.{All as AllProducts}
 use Rattle.soc_schema.specs.declared.permission.Permissions.{Permissions}
@@ -25,7 +24,7 @@ use Rattle.soc_query.specs.declared.answer.Facet.{Facet}
 use Rattle.soc_query.specs.declared.answer.Term.{Term}
 use Rattle.soc_query.specs.Answers.{answer_of, facet_of, matching_rows, terms_of}
 use Rattle.soc_query.specs.Queries.{Asked, query_of}
-use Rattle.soc_search.proofs.SortLemmas.{Up, of_kind, order_kind, order_length, order_up, unique}
+use Rattle.soc_search.proofs.SortLemmas.{Up, order_kind, order_up, unique}
 use Rattle.soc_desk.specs.Basis.{Basis}
 use Rattle.soc_desk.specs.Log.{Change}
 use Rattle.soc_desk.specs.State.{State}

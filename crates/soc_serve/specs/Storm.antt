@@ -19,7 +19,6 @@ use Rattle.soc_desk.specs.State.{State, IsLegalState}
 use Rattle.soc_desk.specs.View.{rows_in, view_of}
 use Rattle.soc_book.specs.Openings.{IsBasisOf}
 use Rattle.soc_made.specs.Made.{made_crash}
-use Rattle.soc_words.specs.declared.words.Words.{Words}
 use Rattle.soc_replay.specs.Check.{count_line}
 use Rattle.soc_replay.specs.Files.{Said, Says}
 use Rattle.soc_edge.specs.World.{Outside, StaysQuiet}
@@ -28,7 +27,7 @@ use Rattle.soc_replay.specs.Tasks.{LeavesTexts}
 use Rattle.soc_serve.specs.declared.ending.HostEnd.{HostEnd}
 use Rattle.soc_serve.specs.declared.ending.HostEnd.TheVariants as H
 use Rattle.soc_serve.specs.declared.lines.LinesFault.TheVariants as L
-use Rattle.soc_serve.specs.Lines.{CutsLines, counts_text}
+use Rattle.soc_serve.specs.Lines.{counts_text}
 use Rattle.soc_serve.specs.Sweep.{Processes}
 
 -- ---- what is sent
