@@ -1,5 +1,6 @@
 pub mod Apart
 pub mod Appends
+pub mod Behinds
 pub mod Bodies
 pub mod Finishes
 pub mod Fronts
@@ -12,6 +13,7 @@ pub mod Options
 pub mod Pieces
 pub mod Ranges
 pub mod Sealed
+pub mod Singles
 pub mod Standing
 pub mod Stops
 pub mod Texts

@@ -1,9 +1,9 @@
 -- Torn ranges that lie within others, and writes one after another: contents, told contents and disks.
-use Rattle.std.proofs.Common.{◌≡◌, ◌⊎◌, inl, inr, ℕ, zero, suc, ◌+◌, ◌-◌, ◌<◌, ◌≤◌, min, Option, Some, None, List, [], ◌∷◌, ◌++◌, length, take, drop, replicate, refl, sym, ◌∙◌, ap, subst, arith}
+use Rattle.std.proofs.Common.{◌≡◌, ◌⊎◌, inl, inr, ℕ, zero, suc, ◌+◌, ◌-◌, ◌<◌, ◌≤◌, min, Option, Some, None, List, [], ◌∷◌, ◌++◌, length, take, drop, replicate, refl, sym, ◌∙◌, ap, subst, arith, append_assoc}
 use Rattle.std.specs.Option.{option_map}
-use Rattle.std.proofs.lemmas.List.{append-nil, length-append, take_all, take_min, take-take, take-append-le, drop_at, take-replicate}
-use Rattle.std.proofs.Math.Seq.{take-append-add}
-use Rattle.soc_edge.proofs.Disks.{take-Tears, drop-Tears, Tears-same, length-front, GoesOn-append, LeavesOnly-weaker, LeavesOnly-append}
+use Rattle.std.proofs.lemmas.List.{append-nil, length-append, take_all, take_min, take-take, take-append-le, take_at, drop_at, drop-drop, take-replicate}
+use Rattle.std.proofs.Math.Seq.{take-append-add, drop-append-add}
+use Rattle.soc_edge.proofs.Disks.{written-within, take-Tears, drop-Tears, Tears-same, length-front, GoesOn-append, LeavesOnly-weaker, LeavesOnly-append}
 use Rattle.soc_edge.specs.Disk.{written, Tears, WhereTold, DiskTold, IsTorn, MayTear}
 
 -- a range within another
@@ -82,6 +82,44 @@ MayTear-append place count before middle after first then = record {
 -- what stands before the place, and zeros
 abbrev pub front_to : List ℕ → ℕ → List ℕ
 front_to content place = take place content ++ replicate (place - length content) 0
+
+written-some : (content : List ℕ) (place : ℕ) (bytes : List ℕ) → 0 < length bytes → written content place bytes ≡ front_to content place ++ (bytes ++ drop (place + length bytes) content)
+written-some content place [] some = absurd (omega (arith, some))
+written-some content place (byte ∷ bytes) some = refl
+
+-- a write over the end of the one before, at least to its end, puts its bytes in place of that end
+pub written-over : (content : List ℕ) (place : ℕ) (start end more : List ℕ) → 0 < length end → length end ≤ length more
+    → written (written content place (start ++ end)) (place + length start) more ≡ written content place (start ++ more)
+written-over content place start end more some longer =
+    let front = front_to content place in
+    let count = length-append start end in
+    let all = length-append start more in
+    let back = drop (place + length (start ++ end)) content in
+    let now = front ++ ((start ++ end) ++ back) in
+    let size : length (front ++ start) ≡ place + length start = omega (arith, length-append front start, length-front content place) in
+    let split : now ≡ (front ++ start) ++ (end ++ back) =
+    ap (λ (x : List ℕ). front ++ x) (append_assoc start end back) ∙ sym (append_assoc front start (end ++ back)) in
+    let regroup : now ≡ (front ++ (start ++ end)) ++ back = sym (append_assoc front (start ++ end) back) in
+    let within : place + length start ≤ length now = omega (arith, size, ap (λ (x : List ℕ). length x) split, length-append (front ++ start) (end ++ back)) in
+    let before : take (place + length start) now ≡ front ++ start = ap (λ (x : List ℕ). take (place + length start) x) split ∙ take_at (front ++ start) (end ++ back) (place + length start) size in
+    let size_too : length (front ++ (start ++ end)) ≡ place + length (start ++ end) = omega (arith, length-append front (start ++ end), length-front content place) in
+    let skip = length more - length end in
+    let sum : place + length start + length more ≡ length (front ++ (start ++ end)) + skip = omega (arith, size_too, count, longer) in
+    let sum_too : place + length (start ++ end) + skip ≡ place + length (start ++ more) = omega (arith, count, all, longer) in
+    let behind : drop (place + length start + length more) now ≡ drop (place + length (start ++ more)) content =
+    ap (λ (n : ℕ). drop n now) sum
+    ∙ (ap (λ (x : List ℕ). drop (length (front ++ (start ++ end)) + skip) x) regroup
+    ∙ (drop-append-add (front ++ (start ++ end)) back skip
+    ∙ (drop-drop skip (place + length (start ++ end)) content
+    ∙ ap (λ (n : ℕ). drop n content) sum_too))) in
+    let rest = drop (place + length (start ++ more)) content in
+    ap (λ (x : List ℕ). written x (place + length start) more) (written-some content place (start ++ end) (omega (arith, count, some)))
+    ∙ (written-within now (place + length start) more within
+    ∙ (ap (λ (x : List ℕ). x ++ (more ++ drop (place + length start + length more) now)) before
+    ∙ (ap (λ (x : List ℕ). (front ++ start) ++ (more ++ x)) behind
+    ∙ (append_assoc front start (more ++ rest)
+    ∙ (ap (λ (x : List ℕ). front ++ x) (sym (append_assoc start more rest))
+    ∙ sym (written-some content place (start ++ more) (omega (arith, all, some, longer))))))))
 
 side : (n : ℕ) → (n ≡ 0) ⊎ (0 < n)
 side zero = inl refl

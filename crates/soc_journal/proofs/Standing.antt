@@ -16,8 +16,8 @@ module _ (entries : List Entry) (bytes : List ℕ) (images now_images : List ℕ
     only = λ image left. rests.only image (no_more image left);
   }
 
-  pub InDoubt-stays : (journal : JournalState) (entry : Entry) → InDoubt journal entries entry bytes images → InDoubt journal entries entry bytes now_images
-  InDoubt-stays journal entry doubts = record {
+  pub InDoubt-stays : (journal : JournalState) (more : List Entry) → InDoubt journal entries more bytes images → InDoubt journal entries more bytes now_images
+  InDoubt-stays journal more doubts = record {
     text = doubts.text;
     current = doubts.current;
     gate_stands = doubts.gate_stands;

@@ -84,3 +84,7 @@ place_behind entries = first_gate + length (entries_text entries)
 -- an entry as it is written: with the closed gate behind it
 abbrev pub sealed : Entry → List ℕ
 sealed entry = entry_text entry ++ closed_gate ∷ []
+
+-- entries as they are written: one behind the other, with the closed gate behind the last
+abbrev pub sealed_all : List Entry → List ℕ
+sealed_all entries = entries_text entries ++ closed_gate ∷ []

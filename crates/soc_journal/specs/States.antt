@@ -2,13 +2,13 @@
 use Rattle.std.specs.Prelude.{◌≡◌, ◌≢◌, ℕ, ◌+◌, Option, Some, None, Result, Ok, Err, List, [], ◌∷◌, ◌++◌, length, slice_get, unwrap_or, ⊤}
 use Rattle.soc_edge.specs.Disk.{Only}
 use Rattle.soc_edge.specs.declared.failed.Failed.{Failed}
-use Rattle.soc_journal.specs.Entries.{Entry, open_gate, first_version, entry_text, place_behind}
+use Rattle.soc_journal.specs.Entries.{Entry, open_gate, first_version, entries_text, place_behind}
 use Rattle.soc_journal.specs.Text.{version_of, JournalText, EitherText}
 use Rattle.soc_journal.specs.declared.settled.Settled.{Settled}
 use Rattle.soc_journal.specs.declared.settled.Settled.TheVariants.{Clean, Kept, Dropped}
 
--- a journal: where its closed gate stands, the most bytes that it may have, and how many bytes the entry in doubt has,
--- where one is
+-- a journal: where its closed gate stands, the most bytes that it may have, and how many bytes the entries in doubt have,
+-- where some are
 pub record JournalState : Type 0 where
   pub gate : ℕ
   pub limit : ℕ
@@ -22,19 +22,19 @@ pub record AtRest (journal : JournalState) (entries : List Entry) (bytes : List 
   pub no_doubt : journal.doubt ≡ None
   pub only : Only bytes images
 
--- the append of an entry behind these has failed: the content and each image have it or don't
-pub record InDoubt (journal : JournalState) (entries : List Entry) (entry : Entry) (bytes : List ℕ) (images : List ℕ → Type 0) : Type 0 where
-  pub text : EitherText entries entry bytes
+-- the append of some more entries behind these has failed: the content and each image have all of them, or none
+pub record InDoubt (journal : JournalState) (entries more : List Entry) (bytes : List ℕ) (images : List ℕ → Type 0) : Type 0 where
+  pub text : EitherText entries more bytes
   pub current : version_of bytes ≢ first_version
   pub gate_stands : journal.gate ≡ place_behind entries
-  pub in_doubt : journal.doubt ≡ Some (length (entry_text entry))
-  pub each : (image : List ℕ) → images image → EitherText entries entry image
+  pub in_doubt : journal.doubt ≡ Some (length (entries_text more))
+  pub each : (image : List ℕ) → images image → EitherText entries more image
 
 -- the gate at this place reads open
 abbrev pub ReadsOpen : List ℕ → ℕ → Type 0
 ReadsOpen bytes place = slice_get bytes place ≡ Some open_gate
 
--- an entry that was kept stands where the gate stood
+-- entries that were kept stand from where the gate stood
 abbrev pub IsKeptAt : ℕ → Settled → Type 0
 IsKeptAt gate Clean = ⊤
 IsKeptAt gate (Kept place) = place ≡ gate
@@ -46,11 +46,11 @@ SettledBy bytes gate Clean = ⊥
 SettledBy bytes gate (Kept place) = ReadsOpen bytes gate
 SettledBy bytes gate Dropped = ¬ (ReadsOpen bytes gate)
 
--- the entries once a doubt on one more is settled
-abbrev pub entries_after : List Entry → Entry → Settled → List Entry
-entries_after entries entry Clean = entries
-entries_after entries entry (Kept place) = entries ++ entry ∷ []
-entries_after entries entry Dropped = entries
+-- the entries once a doubt on some more is settled: all of them were kept, or all are dropped
+abbrev pub entries_after : List Entry → List Entry → Settled → List Entry
+entries_after entries more Clean = entries
+entries_after entries more (Kept place) = entries ++ more
+entries_after entries more Dropped = entries
 
 -- the journal once its doubt is settled, or was not
 abbrev pub journal_after : JournalState → Result Settled Failed → JournalState

@@ -45,9 +45,9 @@ pub record StandsAt (bytes : List ℕ) (place : ℕ) (entry : Entry) : Type 0 wh
   pub whole : bytes ≡ front ++ (entry_text entry ++ rest)
   pub before : length front ≡ place
 
--- the bytes are a journal of these entries, or of these and one more
-abbrev pub EitherText : List Entry → Entry → List ℕ → Type 0
-EitherText entries entry bytes = JournalText entries bytes ⊎ JournalText (entries ++ entry ∷ []) bytes
+-- the bytes are a journal of these entries, or of these and all of some more
+abbrev pub EitherText : List Entry → List Entry → List ℕ → Type 0
+EitherText entries more bytes = JournalText entries bytes ⊎ JournalText (entries ++ more) bytes
 
 -- ---- laws
 

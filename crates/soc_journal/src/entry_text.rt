@@ -2,7 +2,7 @@
 ghost use Rattle.std.specs.Prelude.{◌≡◌, ◌-◌, ◌≤◌, ◌∷◌, length, take, drop, IsTrue, IfOk};
 ghost use Rattle.std.specs.Int.{to_le_bytes, w32};
 ghost use Rattle.soc_raw.specs.RawCrash.{record_text};
-ghost use Rattle.soc_journal.specs.Entries.{IsEntryOf, accept_kind, open_gate, beside_body, has_kind, head_size, second_version, max_body, sealed};
+ghost use Rattle.soc_journal.specs.Entries.{IsEntryOf, accept_kind, open_gate, beside_body, has_kind, head_size, second_version, max_body, entry_text, sealed};
 
 use crate::format::{ACCEPT, CLOSED_GATE, ENTRY_HEAD, OPEN_GATE};
 use soc_base::NoMemory;
@@ -65,6 +65,21 @@ impl EntryText {
         ensures legal { IsEntryOf second_version self.now }
     {
         self.text.as_slice()
+    }
+
+    /// The same without the entry's own gate.
+    pub(crate) fn behind_gate(&self) -> &[u8]
+        ensures { result.now ≡ drop 1 (sealed self.now) }
+    {
+        &self.as_slice()[1..]
+    }
+
+    /// How many bytes the entry has, without the gate behind it.
+    pub fn count(&self) -> u64
+        ensures count { result ≡ length (entry_text self.now) }
+        ensures legal { IsEntryOf second_version self.now }
+    {
+        self.as_slice().len() as u64 - 1
     }
 }
 

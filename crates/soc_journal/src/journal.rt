@@ -1,8 +1,8 @@
 //! A journal that entries are appended to.
-ghost use Rattle.std.specs.Prelude.{◌≡◌, ◌+◌, ◌<◌, ◌≤◌, ◌↔◌, List, Some, None, [], ◌∷◌, ◌++◌, length, IfSome, IsSome, IsSomeAnd, IfOk, OnOk, OnErr, Ok, IsErrOf, IsTrue};
+ghost use Rattle.std.specs.Prelude.{◌≡◌, ◌+◌, ◌-◌, ◌<◌, ◌≤◌, ◌↔◌, List, Some, None, [], ◌∷◌, ◌++◌, length, IfSome, IsSome, IsSomeAnd, IfOk, OnOk, OnErr, Ok, IsErrOf, IsTrue};
 ghost use Rattle.std.specs.Option.{option_map};
 ghost use Rattle.soc_edge.specs.Disk.{written, Tears, WhereTold, Only, LeavesOnly, Looks, MayTear, DiskFailed};
-ghost use Rattle.soc_journal.specs.Entries.{Entry, entry_text, sealed, first_gate, beside_body};
+ghost use Rattle.soc_journal.specs.Entries.{Entry, entry_text, entries_text, sealed, sealed_all, first_gate, beside_body};
 ghost use Rattle.soc_journal.specs.Text.{empty_journal, EitherText};
 ghost use Rattle.soc_journal.specs.States.{AtRest, InDoubt, IsKeptAt, ReadsOpen, SettledBy, entries_after, journal_after};
 
@@ -11,6 +11,7 @@ use crate::error::AppendError;
 use crate::format::{CLOSED_GATE, EMPTY_JOURNAL, FIRST_GATE, OPEN_GATE};
 use crate::reading::reads_piece;
 use crate::settled::Settled;
+use crate::staging::{length_within, stage};
 use crate::writing::write_and_sync;
 use soc_edge::{Disk, Failed};
 use std::marker::Model;
@@ -63,7 +64,7 @@ impl Journal {
         self.doubt.is_some()
     }
 
-    /// Appends an entry, by two writes and two syncs at most, and answers its place. It takes no memory.
+    /// Appends an entry: `append_all` of that one. It is two writes and two syncs at most.
     ///
     /// `JournalFull` comes exactly where the place of the closed gate, 7 and the body's length together are over the
     /// limit; then the disk isn't touched. After `StoreFault` the journal is in doubt.
@@ -92,31 +93,78 @@ impl Journal {
         // After `StoreFault` the content and each image have it or don't.
         ensures in_doubt { IsErrOf result AppendError.StoreFault → IfSome (D.state disk.old).content (λ bytes.
             (entries : List Entry) → AtRest self.old entries bytes (D.state disk.old).images
-            → IsSomeAnd (D.state disk.new).content (λ now. InDoubt self.new entries entry.now now (D.state disk.new).images)) }
+            → IsSomeAnd (D.state disk.new).content (λ now. InDoubt self.new entries (entry.now ∷ []) now (D.state disk.new).images)) }
 
         // A stop at any moment of the call leaves the entries from before it, or those and this one.
         ensures any_moment { IfSome (D.state disk.old).content (λ bytes.
             (entries : List Entry) → AtRest self.old entries bytes (D.state disk.old).images
-            → LeavesOnly (D.state disk.old) (D.state disk.new) (EitherText entries entry.now)) }
+            → LeavesOnly (D.state disk.old) (D.state disk.new) (EitherText entries (entry.now ∷ []))) }
 
         ensures calls { (D.state disk.new).calls ≤ (D.state disk.old).calls + 4 }
         ensures cause { IsErrOf result AppendError.StoreFault → DiskFailed (D.state disk.old) (D.state disk.new) }
     {
-        let text = entry.as_slice();
-        if !self.has_room(text.len()) {
+        self.append_all(disk, std::slice::from_ref(entry))
+    }
+
+    /// Appends entries, all of them or none, by a write for each, one more for the gate of the first, and two syncs at most,
+    /// and answers the place of the first. It takes no memory.
+    ///
+    /// All are written behind the closed gate, the gates of all but the first open; they count once that of the first is
+    /// opened. `JournalFull` comes exactly where the place of the closed gate, the entries' bytes and one more closed gate
+    /// together are over the limit; then the disk isn't touched. After `StoreFault` the journal is in doubt.
+    pub fn append_all<D: Disk>(
+        &mut self,
+        disk: &mut D,
+        entries: &[EntryText],
+    ) -> Result<u64, AppendError>
+        requires settled { self.old.doubt ≡ None }
+        requires some { 0 < length entries.now }
+
+        ensures full { IsErrOf result AppendError.JournalFull ↔ (self.old.limit < self.old.gate + length (sealed_all entries.now)) }
+        ensures full_journal { IsErrOf result AppendError.JournalFull → self.new ≡ self.old }
+        ensures full_disk { IsErrOf result AppendError.JournalFull → disk.new ≡ disk.old }
+
+        ensures place { IfOk result (λ place. place ≡ self.old.gate) }
+        ensures journal { OnOk result (self.new ≡ record self.old { gate = self.old.gate + length (entries_text entries.now) }) }
+        ensures doubt { IsErrOf result AppendError.StoreFault → self.new ≡ record self.old { doubt = Some (length (entries_text entries.now)) } }
+
+        // The entries, with the closed gate behind the last, are written where the closed gate stood; nothing else ever is.
+        ensures content { OnOk result ((D.state disk.new).content
+            ≡ option_map (λ bytes. written bytes self.old.gate (sealed_all entries.now)) (D.state disk.old).content) }
+        ensures torn { WhereTold (Tears self.old.gate (length (sealed_all entries.now))) (D.state disk.old).content (D.state disk.new).content }
+        ensures tears { MayTear self.old.gate (length (sealed_all entries.now)) (D.state disk.old) (D.state disk.new) }
+
+        // At `Ok` the content and each image have all of them.
+        ensures acknowledged { OnOk result (IfSome (D.state disk.old).content (λ bytes.
+            (before : List Entry) → AtRest self.old before bytes (D.state disk.old).images
+            → IsSomeAnd (D.state disk.new).content (λ now. AtRest self.new (before ++ entries.now) now (D.state disk.new).images))) }
+
+        // After `StoreFault` the content and each image have all of them, or none.
+        ensures in_doubt { IsErrOf result AppendError.StoreFault → IfSome (D.state disk.old).content (λ bytes.
+            (before : List Entry) → AtRest self.old before bytes (D.state disk.old).images
+            → IsSomeAnd (D.state disk.new).content (λ now. InDoubt self.new before entries.now now (D.state disk.new).images)) }
+
+        // A stop at any moment of the call leaves the entries from before it, or those and all of these.
+        ensures any_moment { IfSome (D.state disk.old).content (λ bytes.
+            (before : List Entry) → AtRest self.old before bytes (D.state disk.old).images
+            → LeavesOnly (D.state disk.old) (D.state disk.new) (EitherText before entries.now)) }
+
+        ensures calls { (D.state disk.new).calls ≤ (D.state disk.old).calls + length entries.now + 3 }
+        ensures cause { IsErrOf result AppendError.StoreFault → DiskFailed (D.state disk.old) (D.state disk.new) }
+    {
+        let Some(count) = length_within(entries, self.room()) else {
             return Err(AppendError::JournalFull);
-        }
+        };
         let place = self.gate;
-        let count = text.len() as u64 - 1;
         self.doubt = Some(count);
-        write_and_sync(disk, place + 1, &text[1..])?;
+        stage(disk, place, entries)?;
         write_and_sync(disk, place, &[OPEN_GATE])?;
         self.gate = place + count;
         self.doubt = None;
         Ok(place)
     }
 
-    /// Settles a doubt: syncs, and looks whether the gate before the entry in doubt reads open. It takes no memory.
+    /// Settles a doubt: syncs, and looks whether the gate before the entries in doubt reads open. It takes no memory.
     ///
     /// `Clean` comes exactly where there is no doubt; then the disk isn't touched. After `Failed` the doubt stays.
     pub fn mend<D: Disk>(&mut self, disk: &mut D) -> Result<Settled, Failed>
@@ -125,17 +173,17 @@ impl Journal {
         ensures place { IfOk result (IsKeptAt self.old.gate) }
         ensures journal { self.new ≡ journal_after self.old result }
 
-        // It is kept exactly where the gate reads open.
+        // They are kept, all of them, exactly where the gate reads open.
         ensures settled { IsSome self.old.doubt → IfOk result (λ settled.
             IfSome (D.state disk.old).content (λ bytes. SettledBy bytes self.old.gate settled)) }
 
         // Then the content and each image agree with the answer.
         ensures agrees { IfOk result (λ settled. IfSome (D.state disk.old).content (λ bytes.
-            (entries : List Entry) (entry : Entry) → InDoubt self.old entries entry bytes (D.state disk.old).images
-            → AtRest self.new (entries_after entries entry settled) bytes (D.state disk.new).images)) }
+            (entries more : List Entry) → InDoubt self.old entries more bytes (D.state disk.old).images
+            → AtRest self.new (entries_after entries more settled) bytes (D.state disk.new).images)) }
         ensures still_in_doubt { OnErr result (IfSome (D.state disk.old).content (λ bytes.
-            (entries : List Entry) (entry : Entry) → InDoubt self.old entries entry bytes (D.state disk.old).images
-            → InDoubt self.new entries entry bytes (D.state disk.new).images)) }
+            (entries more : List Entry) → InDoubt self.old entries more bytes (D.state disk.old).images
+            → InDoubt self.new entries more bytes (D.state disk.new).images)) }
 
         ensures disk_stays { Looks (D.state disk.old) (D.state disk.new) }
         ensures calls { (D.state disk.new).calls ≤ (D.state disk.old).calls + 2 }
@@ -173,11 +221,11 @@ impl Journal {
         self.gate
     }
 
-    /// Whether the text of an entry fits the limit behind the closed gate.
-    fn has_room(&self, count: usize) -> bool
-        ensures { IsTrue result ↔ (self.now.gate + count ≤ self.now.limit) }
+    /// How many bytes the limit leaves from the closed gate on.
+    pub fn room(&self) -> u64
+        ensures { result ≡ self.now.limit - self.now.gate }
     {
-        self.gate <= self.limit && count as u64 <= self.limit - self.gate
+        self.limit.saturating_sub(self.gate)
     }
 }
 

@@ -15,6 +15,7 @@ mod mark;
 mod opening;
 mod reading;
 mod settled;
+mod staging;
 mod writing;
 
 pub use entry_text::EntryText;

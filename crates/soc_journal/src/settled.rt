@@ -1,12 +1,12 @@
 //! How a doubt ends.
 
-/// What became of the entry whose append had failed.
+/// What became of the entries whose append had failed.
 #[derive(Clone, Copy, Debug, PartialEq, Eq)]
 pub enum Settled {
     /// There was no doubt.
     Clean,
-    /// The entry is in the journal, at this place.
+    /// All of them are in the journal, the first at this place.
     Kept { place: u64 },
-    /// It isn't, and never will be.
+    /// None of them is, and none ever will be.
     Dropped,
 }
