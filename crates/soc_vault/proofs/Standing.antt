@@ -1,5 +1,5 @@
 -- Where the entries of a vault stand, and what stays where nothing was written.
-use Rattle.std.proofs.Common.{◌≡◌, ◌≢◌, inl, inr, ℕ, ◌+◌, ◌≤◌, Bool, IsTrue, ◌↔◌, Option, Some, None, IfSome, IsSomeAnd, Result, Ok, Err, OnOk, MatchResult, List, [], ◌∷◌, ◌++◌, length, take, drop, refl, sym, ◌∙◌, ap, subst, arith, append_assoc, length-append}
+use Rattle.std.proofs.Common.{◌≡◌, ◌≢◌, inl, inr, ℕ, ◌+◌, ◌<◌, ◌≤◌, Bool, IsTrue, ◌↔◌, Option, Some, None, IfSome, IsSomeAnd, Result, Ok, Err, OnOk, MatchResult, List, [], ◌∷◌, ◌++◌, length, take, drop, refl, sym, ◌∙◌, ap, subst, arith, append_assoc, length-append}
 use Rattle.std.specs.List.{AllByRecursion}
 use Rattle.std.proofs.lemmas.Bool.Decides.{nat_tests}
 use Rattle.std.proofs.lemmas.Grind.{flat_map-append}
@@ -10,11 +10,11 @@ use Rattle.soc_journal.specs.Bodies.{StandsBefore, ReadsFrom}
 use Rattle.soc_journal.specs.Entries.{Entry, IsEntryOf, has_kind, second_version, head_size, entry_text, entries_text, place_behind}
 use Rattle.soc_journal.specs.Openings.{Counts}
 use Rattle.soc_journal.specs.States.{JournalState, AtRest, InDoubt}
-use Rattle.soc_journal.specs.Text.{JournalText, StandsAt, IsOneEntry}
+use Rattle.soc_journal.specs.Text.{JournalText, EitherText, StandsAt, IsOneEntry}
 use Rattle.soc_journal.specs.declared.error.ReadError.{ReadError}
 use Rattle.soc_journal.specs.declared.error.ReadError.TheVariants.{StoreFault, Altered, NoMemory}
 use Rattle.soc_journal.proofs.Standing.{AtRest-stays, InDoubt-stays}
-use Rattle.soc_vault.specs.Vaults.{Means, IsAt, GivesEntry}
+use Rattle.soc_vault.specs.Vaults.{Means, StandsFor, IsAt, GivesEntry}
 
 -- ---- what is told
 
@@ -22,7 +22,7 @@ IsSomeAnd_then : {X : Type 0} (told : Option X) {P Q : X → Type 0} → IsSomeA
 IsSomeAnd_then None some then = some
 IsSomeAnd_then (Some x) some then = then x some
 
-IsSomeAnd_with : {X : Type 0} (told : Option X) {P Q : X → Type 0} (R : Type 0) → IsSomeAnd told P → IfSome told Q → ((x : X) → P x → Q x → R) → R
+pub IsSomeAnd_with : {X : Type 0} (told : Option X) {P Q : X → Type 0} (R : Type 0) → IsSomeAnd told P → IfSome told Q → ((x : X) → P x → Q x → R) → R
 IsSomeAnd_with None R some also then = absurd some
 IsSomeAnd_with (Some x) R some also then = then x some also
 
@@ -32,15 +32,24 @@ module _ (before after : DiskTold) (looks : Looks before after) (journal : Journ
       let P : Option (List ℕ) → Type 0 = λ told. IsSomeAnd told (λ bytes. AtRest journal entries bytes after.images) in
       subst P (sym looks.same) (IsSomeAnd_then before.content means (λ bytes rests. AtRest-stays entries bytes before.images after.images looks.images journal rests))
 
-  InDoubt-looks : (entry : Entry) → IsSomeAnd before.content (λ bytes. InDoubt journal entries entry bytes before.images) → IsSomeAnd after.content (λ bytes. InDoubt journal entries entry bytes after.images)
-  InDoubt-looks entry means =
-      let P : Option (List ℕ) → Type 0 = λ told. IsSomeAnd told (λ bytes. InDoubt journal entries entry bytes after.images) in
-      subst P (sym looks.same) (IsSomeAnd_then before.content means (λ bytes doubts. InDoubt-stays entries bytes before.images after.images looks.images journal entry doubts))
+  InDoubt-looks : (more : List Entry) → IsSomeAnd before.content (λ bytes. InDoubt journal entries more bytes before.images) → IsSomeAnd after.content (λ bytes. InDoubt journal entries more bytes after.images)
+  InDoubt-looks more means =
+      let P : Option (List ℕ) → Type 0 = λ told. IsSomeAnd told (λ bytes. InDoubt journal entries more bytes after.images) in
+      subst P (sym looks.same) (IsSomeAnd_then before.content means (λ bytes doubts. InDoubt-stays entries bytes before.images after.images looks.images journal more doubts))
 
 -- what a vault means stays where nothing was written
-pub Means-looks : (before after : DiskTold) (journal : JournalState) (entries : List Entry) (doubt : Option Entry) → Looks before after → Means before journal entries doubt → Means after journal entries doubt
-Means-looks before after journal entries None looks means = AtRest-looks before after looks journal entries means
-Means-looks before after journal entries (Some entry) looks means = InDoubt-looks before after looks journal entries entry means
+pub Means-looks : (before after : DiskTold) (journal : JournalState) (entries : List Entry) (doubt : List Entry) → Looks before after → Means before journal entries doubt → Means after journal entries doubt
+Means-looks before after journal entries [] looks means = AtRest-looks before after looks journal entries means
+Means-looks before after journal entries (first ∷ more) looks means = InDoubt-looks before after looks journal entries (first ∷ more) means
+
+-- what is known of some entries in doubt
+pub Means-doubt : (disk : DiskTold) (journal : JournalState) (entries more : List Entry) → 0 < length more → IsSomeAnd disk.content (λ bytes. InDoubt journal entries more bytes disk.images) → Means disk journal entries more
+Means-doubt disk journal entries [] some means = absurd (omega (arith, some))
+Means-doubt disk journal entries (first ∷ more) some means = means
+
+pub either_stands : (entries more : List Entry) (image : List ℕ) → 0 < length more → EitherText entries more image → StandsFor entries more image
+either_stands entries [] image some either = absurd (omega (arith, some))
+either_stands entries (first ∷ more) image some either = either
 
 -- ---- where an entry stands
 
@@ -94,28 +103,28 @@ module _ (one : IsOneEntry) (bytes : List ℕ) where
         let P : List Entry → Type 0 = λ x. JournalText x bytes in
         at_place (stands_among at.before entry at.behind journal.gate (subst P at.whole text) ends_before)
 
-    -- one more entry stands behind the others
-    stands_with : (more : Entry) → JournalText (entries ++ more ∷ []) bytes → StandsBefore bytes place journal.gate entry
+    -- some more entries stand behind the others
+    stands_with : (more : List Entry) → JournalText (entries ++ more) bytes → StandsBefore bytes place journal.gate entry
     stands_with more text =
         let P : List Entry → Type 0 = λ x. JournalText x bytes in
-        let whole : entries ++ more ∷ [] ≡ at.before ++ entry ∷ (at.behind ++ more ∷ []) =
-        ap (λ (x : List Entry). x ++ more ∷ []) at.whole ∙ append_assoc at.before (entry ∷ at.behind) (more ∷ []) in
-        at_place (stands_among at.before entry (at.behind ++ more ∷ []) journal.gate (subst P whole text) ends_before)
+        let whole : entries ++ more ≡ at.before ++ entry ∷ (at.behind ++ more) =
+        ap (λ (x : List Entry). x ++ more) at.whole ∙ append_assoc at.before (entry ∷ at.behind) more in
+        at_place (stands_among at.before entry (at.behind ++ more) journal.gate (subst P whole text) ends_before)
 
-  stands_in_doubt : (journal : JournalState) (entries : List Entry) (more : Entry) (images : List ℕ → Type 0) (place : ℕ) (entry : Entry) → InDoubt journal entries more bytes images → IsAt entries place entry
+  stands_in_doubt : (journal : JournalState) (entries more : List Entry) (images : List ℕ → Type 0) (place : ℕ) (entry : Entry) → InDoubt journal entries more bytes images → IsAt entries place entry
       → StandsBefore bytes place journal.gate entry
   stands_in_doubt journal entries more images place entry doubts at = elim doubts.text [
     | inl before ↦ stands_of journal entries place entry doubts.gate_stands at before
-    | inr with_it ↦ stands_with journal entries place entry doubts.gate_stands at more with_it
+    | inr with_them ↦ stands_with journal entries place entry doubts.gate_stands at more with_them
   ]
 
 -- what a disk that tells is known to hold of an entry
-pub of_entry : IsOneEntry → (disk : DiskTold) (journal : JournalState) (Q : List ℕ → Type 0) (R : Type 0) (entries : List Entry) (doubt : Option Entry) (place : ℕ) (entry : Entry) → Means disk journal entries doubt
+pub of_entry : IsOneEntry → (disk : DiskTold) (journal : JournalState) (Q : List ℕ → Type 0) (R : Type 0) (entries : List Entry) (doubt : List Entry) (place : ℕ) (entry : Entry) → Means disk journal entries doubt
     → IsAt entries place entry → IfSome disk.content Q → ((bytes : List ℕ) → StandsBefore bytes place journal.gate entry → Q bytes → R) → R
-of_entry one disk journal Q R entries None place entry means at told then = IsSomeAnd_with disk.content R means told (λ bytes rests q.
+of_entry one disk journal Q R entries [] place entry means at told then = IsSomeAnd_with disk.content R means told (λ bytes rests q.
     then bytes (stands_of one bytes journal entries place entry rests.gate_stands at rests.text) q)
-of_entry one disk journal Q R entries (Some more) place entry means at told then = IsSomeAnd_with disk.content R means told (λ bytes doubts q.
-    then bytes (stands_in_doubt one bytes journal entries more disk.images place entry doubts at) q)
+of_entry one disk journal Q R entries (first ∷ more) place entry means at told then = IsSomeAnd_with disk.content R means told (λ bytes doubts q.
+    then bytes (stands_in_doubt one bytes journal entries (first ∷ more) disk.images place entry doubts at) q)
 
 -- what a journal's read answers, as one statement
 pub gives_entry : (told : Option (List ℕ)) (place gate : ℕ) (answer : Result (List ℕ) ReadError) → IfSome told (λ bytes. (entry : Entry) → StandsBefore bytes place gate entry → MatchResult answer (λ body. body ≡ entry.body) (λ error. error ≢ Altered))

@@ -43,7 +43,7 @@ pub record Opens (was_given : ℕ → List Entry → Type 0) (limit : ℕ) (befo
   pub given : was_given start entries
   pub journal_is : journal ≡ record { gate = place_from start entries; limit = limit; doubt = None }
   pub found : IfSome before.content (λ bytes. AreEntriesOf bytes entries)
-  pub means : IfSome before.content (λ bytes. Means after journal entries None)
+  pub means : IfSome before.content (λ bytes. Means after journal entries [])
   pub stands : IfSome before.content (λ bytes. StandsSince before after bytes entries)
 
 -- the bytes break the grammar first at this place, and no entry was refused: all that stand before it were given, and taken

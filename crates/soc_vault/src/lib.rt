@@ -1,7 +1,7 @@
 //! The vault: the entries that a desk keeps on a disk. It knows nothing of what they mean.
 //!
-//! It holds the lent disk and the journal on it. An entry whose write failed is in doubt until the vault has settled whether
-//! the disk has it, and nothing else is kept before.
+//! It holds the lent disk and the journal on it. Entries whose write failed are in doubt until the vault has settled whether
+//! the disk has all of them or none, and nothing else is kept before.
 #![tactic(auto)]
 
 mod laws;

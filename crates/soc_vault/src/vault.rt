@@ -1,9 +1,9 @@
 //! The lent disk and the journal on it.
-ghost use Rattle.std.specs.Prelude.{◌≡◌, ◌≢◌, ◌+◌, ◌<◌, ◌≤◌, ◌↔◌, ℕ, List, Option, Some, None, [], ◌∷◌, ◌++◌, length, take, drop, IsSome, IfOk, IfSome, OnOk, OnErr, Ok, IsErrOf, IsTrue, MatchResult};
+ghost use Rattle.std.specs.Prelude.{◌≡◌, ◌≢◌, ◌+◌, ◌-◌, ◌<◌, ◌≤◌, ◌↔◌, ℕ, List, Some, None, [], ◌∷◌, ◌++◌, length, take, drop, IsSome, IfOk, IfSome, OnOk, OnErr, Ok, IsErrOf, IsTrue, MatchResult};
 ghost use Rattle.std.specs.Int.{div_ceil};
 ghost use Rattle.soc_edge.specs.Disk.{LeavesOnly, Looks, GoesOn, DiskFailed};
 ghost use Rattle.soc_journal.specs.Bodies.{ReadsFrom, piece_size};
-ghost use Rattle.soc_journal.specs.Entries.{Entry, entry_text, beside_body, head_size};
+ghost use Rattle.soc_journal.specs.Entries.{Entry, entry_text, entries_text, sealed_all, beside_body, head_size};
 ghost use Rattle.soc_journal.specs.States.{IsKeptAt, journal_after};
 ghost use Rattle.soc_vault.specs.Vaults.{Means, StandsFor, IsAt, GivesEntry, settled_entries};
 
@@ -31,15 +31,22 @@ impl<'a, D: Disk> Vault<'a, D> {
         Vault { disk, journal }
     }
 
-    /// Whether the write of an entry failed and isn't settled.
+    /// Whether a write of entries failed and isn't settled.
     pub fn is_in_doubt(&self) -> bool
         ensures { IsTrue result ↔ IsSome self.now.journal.doubt }
     {
         self.journal.in_doubt()
     }
 
-    /// Settles a doubt, by two calls of the disk: then the entry in doubt is kept, at a place, or it is dropped. Without a
-    /// doubt it does nothing.
+    /// How many bytes the limit leaves from the closed gate on.
+    pub fn room(&self) -> u64
+        ensures { result ≡ self.now.journal.limit - self.now.journal.gate }
+    {
+        self.journal.room()
+    }
+
+    /// Settles a doubt, by two calls of the disk: then the entries in doubt are kept, from a place on, or all are dropped.
+    /// Without a doubt it does nothing.
     ///
     /// `Clean` comes exactly where there is no doubt. After `Failed` the doubt stays.
     pub fn settle(&mut self) -> Result<Settled, Failed>
@@ -48,10 +55,10 @@ impl<'a, D: Disk> Vault<'a, D> {
         ensures clean_disk { self.old.journal.doubt ≡ None → self.new.disk.now ≡ self.old.disk.now }
         ensures place { IfOk result (IsKeptAt self.old.journal.gate) }
         ensures journal { self.new.journal ≡ journal_after self.old.journal result }
-        ensures settled { IfOk result (λ settled. (entries : List Entry) (doubt : Option Entry)
+        ensures settled { IfOk result (λ settled. (entries : List Entry) (doubt : List Entry)
             → Means (D.state self.old.disk.now) self.old.journal entries doubt
-            → Means (D.state self.new.disk.now) self.new.journal (settled_entries entries doubt settled) None) }
-        ensures still_in_doubt { OnErr result ((entries : List Entry) (doubt : Option Entry)
+            → Means (D.state self.new.disk.now) self.new.journal (settled_entries entries doubt settled) []) }
+        ensures still_in_doubt { OnErr result ((entries : List Entry) (doubt : List Entry)
             → Means (D.state self.old.disk.now) self.old.journal entries doubt
             → Means (D.state self.new.disk.now) self.new.journal entries doubt) }
         ensures disk_stays { Looks (D.state self.old.disk.now) (D.state self.new.disk.now) }
@@ -79,20 +86,56 @@ impl<'a, D: Disk> Vault<'a, D> {
             ≡ record self.old.journal { doubt = Some (length (entry_text entry.now)) } }
 
         // It stands behind the entries, acknowledged: each image that a stop may leave has it.
-        ensures kept { OnOk result ((entries : List Entry) → Means (D.state self.old.disk.now) self.old.journal entries None
-            → Means (D.state self.new.disk.now) self.new.journal (entries ++ entry.now ∷ []) None) }
+        ensures kept { OnOk result ((entries : List Entry) → Means (D.state self.old.disk.now) self.old.journal entries []
+            → Means (D.state self.new.disk.now) self.new.journal (entries ++ entry.now ∷ []) []) }
         ensures in_doubt { IsErrOf result AppendError.StoreFault → (entries : List Entry)
-            → Means (D.state self.old.disk.now) self.old.journal entries None
-            → Means (D.state self.new.disk.now) self.new.journal entries (Some entry.now) }
+            → Means (D.state self.old.disk.now) self.old.journal entries []
+            → Means (D.state self.new.disk.now) self.new.journal entries (entry.now ∷ []) }
 
         // A stop at any moment of the call leaves the entries from before it, or those and this one.
-        ensures any_moment { (entries : List Entry) → Means (D.state self.old.disk.now) self.old.journal entries None
-            → LeavesOnly (D.state self.old.disk.now) (D.state self.new.disk.now) (StandsFor entries (Some entry.now)) }
+        ensures any_moment { (entries : List Entry) → Means (D.state self.old.disk.now) self.old.journal entries []
+            → LeavesOnly (D.state self.old.disk.now) (D.state self.new.disk.now) (StandsFor entries (entry.now ∷ [])) }
         ensures goes_on { GoesOn (D.state self.old.disk.now) (D.state self.new.disk.now) }
         ensures calls { (D.state self.new.disk.now).calls ≤ (D.state self.old.disk.now).calls + 4 }
         ensures cause { IsErrOf result AppendError.StoreFault → DiskFailed (D.state self.old.disk.now) (D.state self.new.disk.now) }
     {
         self.journal.append(self.disk, entry)
+    }
+
+    /// Keeps entries behind all others, all of them or none, by a write for each, one more and two syncs at most, and answers
+    /// the place of the first. It takes no memory.
+    ///
+    /// `JournalFull` comes exactly where the closed gate's place, the entries' bytes and one more closed gate together are
+    /// over the limit; then nothing is done. After `StoreFault` the entries are in doubt.
+    pub fn keep_all(&mut self, entries: &[EntryText]) -> Result<u64, AppendError>
+        requires settled { self.old.journal.doubt ≡ None }
+        requires some { 0 < length entries.now }
+        ensures same_disk { self.new.disk.ghost_name ≡ self.old.disk.ghost_name }
+        ensures full { IsErrOf result AppendError.JournalFull
+            ↔ (self.old.journal.limit < self.old.journal.gate + length (sealed_all entries.now)) }
+        ensures full_journal { IsErrOf result AppendError.JournalFull → self.new.journal ≡ self.old.journal }
+        ensures full_disk { IsErrOf result AppendError.JournalFull → self.new.disk.now ≡ self.old.disk.now }
+        ensures place { IfOk result (λ place. place ≡ self.old.journal.gate) }
+        ensures journal { OnOk result (self.new.journal
+            ≡ record self.old.journal { gate = self.old.journal.gate + length (entries_text entries.now) }) }
+        ensures doubt { IsErrOf result AppendError.StoreFault → self.new.journal
+            ≡ record self.old.journal { doubt = Some (length (entries_text entries.now)) } }
+
+        // They stand behind the others, acknowledged: each image that a stop may leave has all of them.
+        ensures kept { OnOk result ((before : List Entry) → Means (D.state self.old.disk.now) self.old.journal before []
+            → Means (D.state self.new.disk.now) self.new.journal (before ++ entries.now) []) }
+        ensures in_doubt { IsErrOf result AppendError.StoreFault → (before : List Entry)
+            → Means (D.state self.old.disk.now) self.old.journal before []
+            → Means (D.state self.new.disk.now) self.new.journal before entries.now }
+
+        // A stop at any moment of the call leaves the entries from before it, or those and all of these.
+        ensures any_moment { (before : List Entry) → Means (D.state self.old.disk.now) self.old.journal before []
+            → LeavesOnly (D.state self.old.disk.now) (D.state self.new.disk.now) (StandsFor before entries.now) }
+        ensures goes_on { GoesOn (D.state self.old.disk.now) (D.state self.new.disk.now) }
+        ensures calls { (D.state self.new.disk.now).calls ≤ (D.state self.old.disk.now).calls + length entries.now + 3 }
+        ensures cause { IsErrOf result AppendError.StoreFault → DiskFailed (D.state self.old.disk.now) (D.state self.new.disk.now) }
+    {
+        self.journal.append_all(self.disk, entries)
     }
 
     /// The body of the entry at a place, by two calls of the disk. `Altered` comes exactly where no entry that ends at or
@@ -102,11 +145,11 @@ impl<'a, D: Disk> Vault<'a, D> {
     pub fn read(&mut self, alloc: Global, place: u64) -> Result<Bytes, ReadError>
         ensures same_disk { self.new.disk.ghost_name ≡ self.old.disk.ghost_name }
         ensures journal_stays { self.new.journal ≡ self.old.journal }
-        ensures body { (entries : List Entry) (doubt : Option Entry) (entry : Entry)
+        ensures body { (entries : List Entry) (doubt : List Entry) (entry : Entry)
             → Means (D.state self.old.disk.now) self.old.journal entries doubt → IsAt entries place entry
             → MatchResult result (λ body. body ≡ entry.body) (λ error. error ≢ ReadError.Altered) }
         ensures found { IfSome (D.state self.old.disk.now).content (λ bytes. GivesEntry bytes place self.old.journal.gate result) }
-        ensures entries_stay { (entries : List Entry) (doubt : Option Entry)
+        ensures entries_stay { (entries : List Entry) (doubt : List Entry)
             → Means (D.state self.old.disk.now) self.old.journal entries doubt
             → Means (D.state self.new.disk.now) self.new.journal entries doubt }
         ensures disk_stays { Looks (D.state self.old.disk.now) (D.state self.new.disk.now) }
@@ -125,11 +168,11 @@ impl<'a, D: Disk> Vault<'a, D> {
             IsTrue holds ↔ ReadsFrom bytes place text.now)) }
 
         // Behind the body may stand anything.
-        ensures holds { IfOk result (λ holds. (entries : List Entry) (doubt : Option Entry) (entry : Entry) (at skip : ℕ)
+        ensures holds { IfOk result (λ holds. (entries : List Entry) (doubt : List Entry) (entry : Entry) (at skip : ℕ)
             → Means (D.state self.old.disk.now) self.old.journal entries doubt → IsAt entries at entry
             → place ≡ at + (head_size + skip) → skip ≤ length entry.body
             → (more : List ℕ) × (IsTrue holds ↔ (take (length text.now) (drop skip entry.body ++ more) ≡ text.now))) }
-        ensures entries_stay { (entries : List Entry) (doubt : Option Entry)
+        ensures entries_stay { (entries : List Entry) (doubt : List Entry)
             → Means (D.state self.old.disk.now) self.old.journal entries doubt
             → Means (D.state self.new.disk.now) self.new.journal entries doubt }
         ensures disk_stays { Looks (D.state self.old.disk.now) (D.state self.new.disk.now) }
