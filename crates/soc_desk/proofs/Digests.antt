@@ -47,7 +47,7 @@ module _ (basis : Basis) (log : List Change) (raw : RawCrash) (held : Crash) (re
 
   decides_so : Step basis (settled log) (C.Submit raw) reply after → (reply ≡ R.Refused (F.OtherContent raw.id)) ⊎ (reply ≡ R.Refused F.NoMemory)
   decides_so (inl refused) = inr refused.0
-  decides_so (inr (inl (doubt, rest))) = absurd (true_is_not_false (sym doubt))
+  decides_so (inr (inl (doubt, rest))) = absurd (doubt refl)
   decides_so (inr (inr step)) =
       let same : step.log ≡ log = step.settles in
       elim step.decides [

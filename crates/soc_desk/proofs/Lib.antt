@@ -3,6 +3,7 @@ pub mod Drained
 pub mod Dues
 pub mod Fields
 pub mod Found
+pub mod Lasting
 pub mod Logs
 pub mod Steps
 pub mod Unseen

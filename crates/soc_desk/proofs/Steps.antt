@@ -1,5 +1,5 @@
 -- What each command appends to the log, from its step.
-use Rattle.std.proofs.Common.{◌≡◌, ◌⊎◌, inl, inr, ℕ, ◌<◌, Bool, true, false, not, ◌&&◌, IsTrue, List, [], ◌∷◌, ◌++◌, length, map, take, Option, Some, None, IfSome, IsSome, IsSomeAnd, MatchOption, sym, ap, subst, ◌∙◌, refl, arith}
+use Rattle.std.proofs.Common.{◌≡◌, ◌≢◌, ◌⊎◌, inl, inr, ℕ, ◌<◌, Bool, true, false, not, ◌&&◌, IsTrue, List, [], ◌∷◌, ◌++◌, length, map, take, Option, Some, None, IfSome, IsSome, IsSomeAnd, MatchOption, sym, ap, subst, ◌∙◌, refl, arith}
 use Rattle.std.specs.Prelude.{bytes_eq, is_some, slice_get, if◌then◌else◌, ⊤}
 use Rattle.std.specs.Option.{option_map, option_map_or, option_and_then}
 use Rattle.std.proofs.lemmas.List.{append-nil, map-append, append_assoc}
@@ -39,10 +39,10 @@ module _ (basis : Basis) (before : State) where
   abbrev ev : List Event
   ev = events basis before.log
 
-  abbrev in_doubt : Option Kept → Option Event
-  in_doubt doubt = option_map (λ change. event_of basis (keep change)) doubt
+  abbrev in_doubt : List Kept → List Event
+  in_doubt doubt = map (λ change. event_of basis (keep change)) doubt
 
-  abbrev doubt_now : Option Event
+  abbrev doubt_now : List Event
   doubt_now = doubted basis before
 
   -- nothing is appended
@@ -198,25 +198,37 @@ module _ (basis : Basis) (before : State) where
 
   -- ---- commands that write
 
+  -- the events of the changes in doubt
+  events_in_doubt : (doubt : List Kept) → events basis (map keep doubt) ≡ in_doubt doubt
+  events_in_doubt [] = refl
+  events_in_doubt (change ∷ doubt) = ap (λ (x : List Event). event_of basis (keep change) ∷ x) (events_in_doubt doubt)
+
   -- behind a doubt that was kept, or without one
-  behind : (Adds : List Event → List Event → Type 0) (command : Command) (reply : Reply) (after : State) (log : List Change) (own : List Change) (doubt : Option Kept)
+  behind : (Adds : List Event → List Event → Type 0) (command : Command) (reply : Reply) (after : State) (log : List Change) (own : List Change) (doubt : List Kept)
       → ((piece : List Event) → BehindDoubt ev (in_doubt doubt) piece Adds → Grows basis ev doubt_now command reply piece (doubted basis after)) → Settles before.log doubt log → after.log ≡ log ++ own → Adds (events basis log) (events basis own)
       → Gains basis before command reply after
-  behind Adds command reply after log own None grows settles is adds =
+  behind Adds command reply after log own [] grows settles is adds =
       record { piece = own; behind = is ∙ ap (λ l. l ++ own) settles; grows = grows (events basis own) (subst (λ l. Adds (events basis l) (events basis own)) settles adds) }
-  behind Adds command reply after log own (Some change) grows (inl kept) is adds = record {
-    piece = keep change ∷ own;
-    behind = is ∙ (ap (λ l. l ++ own) kept ∙ append_assoc before.log (keep change ∷ []) own);
-    grows = grows (events basis (keep change ∷ own))
-        (inr (events basis own, refl, subst (λ l. Adds l (events basis own)) (ap (events basis) kept ∙ map-append (event_of basis) before.log (keep change ∷ [])) adds));
-  }
-  behind Adds command reply after log own (Some change) grows (inr dropped) is adds =
+  behind Adds command reply after log own (first ∷ more) grows (inl kept) is adds =
+      let changes = map keep (first ∷ more) in
+      let told = events_in_doubt (first ∷ more) in
+      record {
+        piece = changes ++ own;
+        behind = is ∙ (ap (λ l. l ++ own) kept ∙ append_assoc before.log changes own);
+        grows = grows (events basis (changes ++ own))
+            (inr (
+              events basis own,
+              map-append (event_of basis) changes own ∙ ap (λ (x : List Event). x ++ events basis own) told,
+              subst (λ l. Adds l (events basis own)) (ap (events basis) kept ∙ (map-append (event_of basis) before.log changes ∙ ap (λ (x : List Event). ev ++ x) told)) adds,
+            ));
+      }
+  behind Adds command reply after log own (first ∷ more) grows (inr dropped) is adds =
       record { piece = own; behind = is ∙ ap (λ l. l ++ own) dropped; grows = grows (events basis own) (inl (subst (λ l. Adds (events basis l) (events basis own)) dropped adds)) }
 
-  legal_settled : (log : List Change) (doubt : Option Kept) → IsLegal basis before.log → IfSome doubt (λ change. IsLegal basis (before.log ++ keep change ∷ [])) → Settles before.log doubt log → IsLegal basis log
-  legal_settled log None legal doubtful settles = subst (IsLegal basis) (sym settles) legal
-  legal_settled log (Some change) legal doubtful (inl kept) = subst (IsLegal basis) (sym kept) doubtful
-  legal_settled log (Some change) legal doubtful (inr dropped) = subst (IsLegal basis) (sym dropped) legal
+  legal_settled : (log : List Change) (doubt : List Kept) → IsLegal basis before.log → IsLegal basis (before.log ++ map keep doubt) → Settles before.log doubt log → IsLegal basis log
+  legal_settled log [] legal doubtful settles = subst (IsLegal basis) (sym settles) legal
+  legal_settled log (first ∷ more) legal doubtful (inl kept) = subst (IsLegal basis) (sym kept) doubtful
+  legal_settled log (first ∷ more) legal doubtful (inr dropped) = subst (IsLegal basis) (sym dropped) legal
 
 -- not one of the replies that change nothing, not even the doubt
 abbrev IsPlain : Reply → Type 0
@@ -224,46 +236,46 @@ IsPlain (R.Refused F.NoMemory) = ⊥
 IsPlain (R.Refused (F.NoPermission name)) = ⊥
 IsPlain _ = ⊤
 
-plain_writes : (log : List Event) (doubt : Option Event) (piece : List Event) (reply : Reply) (after : Option Event) (Adds : List Event → List Event → Type 0) → IsPlain reply → BehindDoubt log doubt piece Adds
+plain_writes : (log : List Event) (doubt : List Event) (piece : List Event) (reply : Reply) (after : List Event) (Adds : List Event → List Event → Type 0) → IsPlain reply → BehindDoubt log doubt piece Adds
     → Writes log doubt piece reply after Adds
 plain_writes log doubt piece (R.Refused F.NoMemory) after Adds plain behind = absurd plain
 plain_writes log doubt piece (R.Refused (F.NoPermission name)) after Adds plain behind = absurd plain
 plain_writes log doubt piece (R.Refused F.StoreFault) after Adds plain behind = inr behind
 plain_writes log doubt piece _ after Adds plain behind = behind
 
-mapped_some : {A B : Type 0} (f : A → B) (o : Option A) → IsSome o → IsSome (option_map f o)
-mapped_some f None some = some
-mapped_some f (Some x) some = refl
+mapped_some : {A B : Type 0} (f : A → B) (xs : List A) → xs ≢ [] → map f xs ≢ []
+mapped_some f [] some = absurd (some refl)
+mapped_some f (x ∷ xs) some = λ is. cc
 
 module _ (basis : Basis) (log : List Change) where
   -- each way that a decision may end has P, with what is in doubt afterwards and what it appends
-  abbrev Meets : Decision → (Reply → Option Event → List Event → Type 0) → Type 0
-  Meets (answers said) P = P said None []
+  abbrev Meets : Decision → (Reply → List Event → List Event → Type 0) → Type 0
+  Meets (answers said) P = P said [] []
   Meets (appends change written) P =
-      P written None (event_of basis (keep change) ∷ []) × P (R.Refused F.StoreFault) (Some (event_of basis (keep change))) [] × P (R.Refused F.JournalFull) None []
+      P written [] (event_of basis (keep change) ∷ []) × P (R.Refused F.StoreFault) (event_of basis (keep change) ∷ []) [] × P (R.Refused F.JournalFull) [] []
 
-  abbrev Ends : (Reply → Option Event → List Event → Type 0) → Reply → State → Type 0
+  abbrev Ends : (Reply → List Event → List Event → Type 0) → Reply → State → Type 0
   Ends P reply after = (own : List Change) × (after.log ≡ log ++ own) × P reply (doubted basis after) (events basis own)
 
-  nothing_more : (P : Reply → Option Event → List Event → Type 0) (said reply : Reply) (after state : State) → reply ≡ said → after ≡ state → state.log ≡ log → P said (doubted basis state) [] → Ends P reply after
+  nothing_more : (P : Reply → List Event → List Event → Type 0) (said reply : Reply) (after state : State) → reply ≡ said → after ≡ state → state.log ≡ log → P said (doubted basis state) [] → Ends P reply after
   nothing_more P said reply after state is same here holds = (
     [],
     ap (λ (s : State). s.log) same ∙ (here ∙ sym (append-nil log)),
     subst (λ (s : State). P reply (doubted basis s) []) (sym same) (subst (λ r. P r (doubted basis state) []) (sym is) holds),
   )
 
-  appended : (P : Reply → Option Event → List Event → Type 0) (change : Kept) (written reply : Reply) (after : State) (b : Bool)
-      → IfElse b (((reply ≡ written) × (after ≡ settled (log ++ keep change ∷ []))) ⊎ ((reply ≡ R.Refused F.StoreFault) × (after ≡ record { log = log; doubt = Some change })))
+  appended : (P : Reply → List Event → List Event → Type 0) (change : Kept) (written reply : Reply) (after : State) (b : Bool)
+      → IfElse b (((reply ≡ written) × (after ≡ settled (log ++ keep change ∷ []))) ⊎ ((reply ≡ R.Refused F.StoreFault) × (after ≡ record { log = log; doubt = change ∷ [] })))
       ((reply ≡ R.Refused F.JournalFull) × (after ≡ settled log)) → Meets (appends change written) P → Ends P reply after
   appended P change written reply after true (inl (is, same)) meets = (
     keep change ∷ [],
     ap (λ (s : State). s.log) same,
-    subst (λ (s : State). P reply (doubted basis s) (event_of basis (keep change) ∷ [])) (sym same) (subst (λ r. P r None (event_of basis (keep change) ∷ [])) (sym is) meets.0),
+    subst (λ (s : State). P reply (doubted basis s) (event_of basis (keep change) ∷ [])) (sym same) (subst (λ r. P r [] (event_of basis (keep change) ∷ [])) (sym is) meets.0),
   )
-  appended P change written reply after true (inr (is, same)) meets = nothing_more P (R.Refused F.StoreFault) reply after (record { log = log; doubt = Some change }) is same refl meets.1
+  appended P change written reply after true (inr (is, same)) meets = nothing_more P (R.Refused F.StoreFault) reply after (record { log = log; doubt = change ∷ [] }) is same refl meets.1
   appended P change written reply after false (is, same) meets = nothing_more P (R.Refused F.JournalFull) reply after (settled log) is same refl meets.2
 
-  decided : (P : Reply → Option Event → List Event → Type 0) (d : Decision) (reply : Reply) (after : State) → Decides basis log d reply after → Meets d P → Ends P reply after
+  decided : (P : Reply → List Event → List Event → Type 0) (d : Decision) (reply : Reply) (after : State) → Decides basis log d reply after → Meets d P → Ends P reply after
   decided P (answers said) reply after (is, same) meets = nothing_more P said reply after (settled log) is same refl meets
   decided P (appends change written) reply after ends meets = appended P change written reply after (has_room basis log change) ends meets
 
@@ -273,7 +285,7 @@ module _ (basis : Basis) (log : List Change) where
   -- ---- a submission
 
   module _ (raw : Crash) (told : AreTold (accepted_of log)) where
-    abbrev Submitted : Reply → Option Event → List Event → Type 0
+    abbrev Submitted : Reply → List Event → List Event → Type 0
     Submitted reply after own = Submits basis raw.id reply after now own × IsPlain reply
 
     held_now : (o : Crash) → raw_of log raw.id ≡ Some o → was_withdrawn now raw.id ≡ false → is_held now raw.id ≡ true
@@ -327,7 +339,7 @@ module _ (basis : Basis) (log : List Change) where
 
 module _ (basis : Basis) (before : State) (legal : IsLegalState basis before) (is_told : IsTrue basis.is_told) where
   -- a settled log decides so, and its reply is appended behind a doubt that was kept
-  ends_behind : (Adds : Reply → Option Event → List Event → List Event → Type 0) (command : Command) (reply : Reply) (after : State) (log : List Change) → Settles before.log before.doubt log
+  ends_behind : (Adds : Reply → List Event → List Event → List Event → Type 0) (command : Command) (reply : Reply) (after : State) (log : List Change) → Settles before.log before.doubt log
       → ((piece : List Event) → Writes (ev basis before) (doubt_now basis before) piece reply (doubted basis after) (Adds reply (doubted basis after))
       → Grows basis (ev basis before) (doubt_now basis before) command reply piece (doubted basis after))
       → Ends basis log (λ r a own. Adds r a (events basis log) own × IsPlain r) reply after → Gains basis before command reply after
@@ -342,10 +354,10 @@ module _ (basis : Basis) (before : State) (legal : IsLegalState basis before) (i
   told_settled log settles = (legal_settled basis before log before.doubt legal.log legal.doubt settles).told is_told
 
   -- of a command that writes: what each settled log decides is met by what the command adds
-  writing : (Adds : Reply → Option Event → List Event → List Event → Type 0) (command : Command) (reply : Reply) (after : State)
-      → ((r : Reply) (piece : List Event) (a : Option Event) → Writes (ev basis before) (doubt_now basis before) piece r a (Adds r a) → Grows basis (ev basis before) (doubt_now basis before) command r piece a)
+  writing : (Adds : Reply → List Event → List Event → List Event → Type 0) (command : Command) (reply : Reply) (after : State)
+      → ((r : Reply) (piece : List Event) (a : List Event) → Writes (ev basis before) (doubt_now basis before) piece r a (Adds r a) → Grows basis (ev basis before) (doubt_now basis before) command r piece a)
       → ((log : List Change) → Settles before.log before.doubt log → IsSomeAnd (decide basis log command) (λ d. Meets basis log d (λ r a own. Adds r a (events basis log) own × IsPlain r)))
-      → ((log : List Change) → FailsRead basis log command reply after → (reply ≡ R.Refused F.StoreFault) × (after ≡ settled log) × Adds (R.Refused F.StoreFault) None (events basis log) [])
+      → ((log : List Change) → FailsRead basis log command reply after → (reply ≡ R.Refused F.StoreFault) × (after ≡ settled log) × Adds (R.Refused F.StoreFault) [] (events basis log) [])
       → StepWriting basis before command reply after → Gains basis before command reply after
   writing Adds command reply after grows meets reads step =
       permitted basis before (lacked command) command reply after _ (λ name. grows (R.Refused (F.NoPermission name)) [] (doubt_now basis before) (refl, refl)) (elim [

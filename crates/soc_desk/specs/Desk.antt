@@ -1,7 +1,7 @@
 -- The desk: one command, one step. A step settles a doubt where it writes, decides by the log, and changes it. This
 -- project's profile. The relation speaks of disks that tell their content; what holds over any disk stands in `Kinds` and
 -- `Grows`.
-use Rattle.std.specs.Prelude.{◌≡◌, ◌⊎◌, ℕ, ◌<◌, Bool, true, false, if◌then◌else◌, IsTrue, List, [], ◌∷◌, ◌++◌, length, map, take, Option, None, Some, IsSome, IsSomeAnd, MatchOption}
+use Rattle.std.specs.Prelude.{◌≡◌, ◌≢◌, ◌⊎◌, ℕ, ◌<◌, Bool, true, false, if◌then◌else◌, IsTrue, List, [], ◌∷◌, ◌++◌, length, map, take, Option, None, Some, IsSomeAnd, MatchOption}
 use Rattle.soc_raw.specs.RawCrash.{crash_of}
 use Rattle.sha2.specs.Sha256.{sha256}
 use Rattle.soc_raw.specs.Record.{Crash, content_text}
@@ -42,7 +42,7 @@ abbrev pub Appends : Basis → List Change → Kept → Reply → Reply → Stat
 Appends basis log change written reply after =
     IfElse (has_room basis log change)
     (((reply ≡ written) × (after ≡ settled (log ++ keep change ∷ [])))
-    ⊎ ((reply ≡ R.Refused F.StoreFault) × (after ≡ record { log = log; doubt = Some change })))
+    ⊎ ((reply ≡ R.Refused F.StoreFault) × (after ≡ record { log = log; doubt = change ∷ [] })))
     ((reply ≡ R.Refused F.JournalFull) × (after ≡ settled log))
 
 -- a settled log is answered as it decides
@@ -69,7 +69,7 @@ pub record SettlesAndDecides (basis : Basis) (before : State) (command : Command
 
 -- a failed mend leaves the state
 abbrev pub FailsMend : State → Reply → State → Type 0
-FailsMend before reply after = IsSome before.doubt × Refuses before F.StoreFault reply after
+FailsMend before reply after = (before.doubt ≢ []) × Refuses before F.StoreFault reply after
 
 abbrev pub StepWriting : Basis → State → Command → Reply → State → Type 0
 StepWriting basis before command reply after =

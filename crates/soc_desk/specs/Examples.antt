@@ -26,7 +26,7 @@ use Rattle.soc_desk.specs.Keeps.{StepKeep, ids_to_keep}
 use Rattle.soc_desk.specs.Opens.{as_told, log_of}
 use Rattle.soc_desk.specs.Log.{Kept, accept, ask, withdraw, report, Change, keep, done, stop, Accepted, KeptReport, crashes_of, row_in, events}
 use Rattle.soc_desk.specs.Reads.{read_reply}
-use Rattle.soc_desk.specs.State.{State, settled, doubted, kept_of}
+use Rattle.soc_desk.specs.State.{State, settled, doubted, Settles, kept_of}
 use Rattle.soc_desk.specs.View.{view_of}
 use Rattle.soc_desk.specs.declared.desk.Command.TheVariants as C
 use Rattle.soc_desk.specs.declared.desk.Reply.{Reply}
@@ -241,7 +241,7 @@ operator = record { permissions = record { protected_data = true; view_rawdump =
 turned : Step basis (settled log) (C.Turn operator) (R.Turned (Some first)) (settled (log ++ done first ∷ []))
 turned = inl (refl, refl)
 
-grown_by_a_turn : Grows basis (events basis log) None (C.Turn operator) (R.Turned (Some first)) (E.Done first ∷ []) None
+grown_by_a_turn : Grows basis (events basis log) [] (C.Turn operator) (R.Turned (Some first)) (E.Done first ∷ []) []
 grown_by_a_turn = ((refl, refl), refl)
 
 turn_without_a_permission : Step basis (settled log) (C.Turn caller) (R.Refused (F.NoPermission Operate)) (settled log)
@@ -254,7 +254,7 @@ drained = (refl, refl)
 drained_once : Step basis (settled asked) (C.Drain operator) (R.Refused F.StoreFault) (settled (asked ++ done second ∷ []))
 drained_once = (1, lit< tt, refl)
 
-grown_by_a_failed_drain : Grows basis (events basis asked) None (C.Drain operator) (R.Refused F.StoreFault) (E.Done second ∷ []) None
+grown_by_a_failed_drain : Grows basis (events basis asked) [] (C.Drain operator) (R.Refused F.StoreFault) (E.Done second ∷ []) []
 grown_by_a_failed_drain = ((1, lit< tt, refl), refl)
 
 stops_once : Step basis (settled log) (C.Stop operator) R.Stopping (settled (log ++ stop ∷ []))
@@ -275,7 +275,7 @@ asks_for_it = inr (inr (record { log = log; settles = refl; decides = inl (inl (
 
 -- its write failed, so it is in doubt; the next command finds it there or not
 abbrev in_doubt : State
-in_doubt = record { log = log; doubt = Some (ask second) }
+in_doubt = record { log = log; doubt = ask second ∷ [] }
 
 fails_to_ask : Step basis (settled log) (C.Priority caller second) (R.Refused F.StoreFault) in_doubt
 unfolding entry_text record_of head_text content_text
@@ -288,43 +288,43 @@ was_not_there : Step basis in_doubt (C.Priority caller second) (R.Asked true tru
 unfolding entry_text record_of head_text content_text
 was_not_there = inr (inr (record { log = log; settles = inr refl; decides = inl (inl (refl, refl)) }))
 
-grown_behind_a_doubt : Grows basis (events basis log) (doubted basis in_doubt) (C.Priority caller second) (R.Asked false false) (E.Asked second ∷ []) None
+grown_behind_a_doubt : Grows basis (events basis log) (doubted basis in_doubt) (C.Priority caller second) (R.Asked false false) (E.Asked second ∷ []) []
 grown_behind_a_doubt = inr ([], refl, (refl, refl, refl, refl))
 
-grown_into_a_doubt : Grows basis (events basis log) None (C.Priority caller second) (R.Refused F.StoreFault) [] (Some (E.Asked second))
+grown_into_a_doubt : Grows basis (events basis log) [] (C.Priority caller second) (R.Refused F.StoreFault) [] (E.Asked second ∷ [])
 grown_into_a_doubt = inr ((refl, refl, refl), refl)
 
 -- nothing else is in doubt afterwards, and a read leaves no doubt
-another_doubt : Grows basis (events basis log) None (C.Priority caller second) (R.Refused F.StoreFault) [] (Some (E.Withdrawn first)) → ⊥
-another_doubt (inl (some, stays)) = never some
+another_doubt : Grows basis (events basis log) [] (C.Priority caller second) (R.Refused F.StoreFault) [] (E.Withdrawn first ∷ []) → ⊥
+another_doubt (inl (some, stays)) = some refl
 another_doubt (inr ((held, idle, doubt), same)) = cc
 
-doubt_by_a_read : (reply : Reply) → Grows basis (events basis log) None (C.Raw caller second) reply [] (Some (E.Withdrawn first)) → ⊥
+doubt_by_a_read : (reply : Reply) → Grows basis (events basis log) [] (C.Raw caller second) reply [] (E.Withdrawn first ∷ []) → ⊥
 doubt_by_a_read reply (reads, (same, doubt)) = cc
 
 -- nothing but the change in doubt stands before a command's own
-grown_without_a_doubt : Grows basis (events basis log) None (C.Priority caller second) (R.Asked true true) (E.Done first ∷ E.Asked second ∷ []) None → ⊥
+grown_without_a_doubt : Grows basis (events basis log) [] (C.Priority caller second) (R.Asked true true) (E.Done first ∷ E.Asked second ∷ []) [] → ⊥
 grown_without_a_doubt (held, idle, same, clear) = cc
 
 no_mend : Step basis in_doubt (C.Withdraw operator first) (R.Refused F.StoreFault) in_doubt
-no_mend = inr (inl (refl, (refl, refl)))
+no_mend = inr (inl (λ is. cc, (refl, refl)))
 
 withdraws_it : Step basis (settled log) (C.Withdraw operator first) R.Withdrawn (settled (log ++ keep (withdraw first) ∷ []))
 unfolding entry_text record_of head_text content_text
 withdraws_it = inr (inr (record { log = log; settles = refl; decides = inl (inl (refl, refl)) }))
 
 -- there are too many crashes at the limit, and not before
-too_many_at_the_limit : (raw : RawCrash) → IsTrue (is_new (events basis log) raw.id) → Grows basis (events basis log) None (C.Submit raw) (R.Refused F.TooManyCrashes) [] None
+too_many_at_the_limit : (raw : RawCrash) → IsTrue (is_new (events basis log) raw.id) → Grows basis (events basis log) [] (C.Submit raw) (R.Refused F.TooManyCrashes) [] []
 too_many_at_the_limit raw new = ((new, refl, refl), refl)
 
-too_many_before_it : (raw : RawCrash) → Grows basis (events basis (accepted firefox ∷ [])) None (C.Submit raw) (R.Refused F.TooManyCrashes) [] None → ⊥
+too_many_before_it : (raw : RawCrash) → Grows basis (events basis (accepted firefox ∷ [])) [] (C.Submit raw) (R.Refused F.TooManyCrashes) [] [] → ⊥
 too_many_before_it raw ((new, full, clear), same) = never full
 
-stored_at_the_limit : (raw : RawCrash) (due : Bool) → Grows basis (events basis log) None (C.Submit raw) (R.Stored raw.id due) (E.Accepted raw.id ∷ []) None → ⊥
+stored_at_the_limit : (raw : RawCrash) (due : Bool) → Grows basis (events basis log) [] (C.Submit raw) (R.Stored raw.id due) (E.Accepted raw.id ∷ []) [] → ⊥
 stored_at_the_limit raw due (new, few, same, clear) = never few
 
 -- a full journal shows only where the ask would have been written
-full_for_a_due_crash : Grows basis (events basis log) None (C.Priority caller first) (R.Refused F.JournalFull) [] None → ⊥
+full_for_a_due_crash : Grows basis (events basis log) [] (C.Priority caller first) (R.Refused F.JournalFull) [] [] → ⊥
 full_for_a_due_crash ((held, idle, clear), same) = never idle
 
 -- a journal without room
@@ -333,10 +333,10 @@ unfolding entry_text record_of head_text content_text
 no_room = inr (inr (record { log = log; settles = refl; decides = inl (refl, refl) }))
 
 -- a caller that sees every product finds each held crash
-not_found_though_held : Grows basis (events basis log) None (C.Raw caller second) (R.Refused F.NoCrash) [] None → ⊥
+not_found_though_held : Grows basis (events basis log) [] (C.Raw caller second) (R.Refused F.NoCrash) [] [] → ⊥
 not_found_though_held (gone, stays) = never (gone refl)
 
-not_found_by_another : Grows basis (events basis log) None (C.Raw limited first) (R.Refused F.NoCrash) [] None
+not_found_by_another : Grows basis (events basis log) [] (C.Raw limited first) (R.Refused F.NoCrash) [] []
 not_found_by_another = (λ all. absurd (never all), (refl, refl))
 
 -- a lacked permission is said before memory is wanted
@@ -386,7 +386,17 @@ own_report = record { id = first; digest = replicate 32 1; row = bare_row firefo
 
 keeps_one : StepKeep basis (settled reported) (R.Kept 1) (settled (reported ++ keep (report own_report) ∷ []))
 unfolding entry_text record_of head_text content_text
-keeps_one = inr (record { log = reported; settles = refl; keeps = inr (inr (refl, refl)) })
+keeps_one = inr (record { log = reported; settles = refl; keeps = (refl, refl) })
+
+-- the write of two reports failed, so both are in doubt; the next command finds both there, or none
+abbrev two_in_doubt : State
+two_in_doubt = record { log = reported; doubt = report own_report ∷ ask second ∷ [] }
+
+both_were_there : Settles two_in_doubt.log two_in_doubt.doubt (reported ++ keep (report own_report) ∷ keep (ask second) ∷ [])
+both_were_there = inl refl
+
+none_was_there : Settles two_in_doubt.log two_in_doubt.doubt reported
+none_was_there = inr refl
 
 -- ---- opening
 

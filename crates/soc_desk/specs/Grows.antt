@@ -1,6 +1,6 @@
 -- What a command's reply says of the log, and what the command adds to it, without contents. It holds whatever the disk
 -- tells.
-use Rattle.std.specs.Prelude.{◌≡◌, ◌⊎◌, ℕ, ◌<◌, nat_le, Bool, true, false, not, ◌||◌, ◌&&◌, IsTrue, List, [], ◌∷◌, ◌++◌, length, map, take, Option, None, Some, IsSome, slice_get, ⊤}
+use Rattle.std.specs.Prelude.{◌≡◌, ◌≢◌, ◌⊎◌, ℕ, ◌<◌, nat_le, Bool, true, false, not, ◌||◌, ◌&&◌, IsTrue, List, [], ◌∷◌, ◌++◌, length, map, take, Option, None, Some, slice_get, ⊤}
 use Rattle.soc_schema.specs.declared.caller.Caller.{Caller}
 use Rattle.soc_schema.specs.declared.caller.Products.{Products}
 use Rattle.soc_schema.specs.declared.caller.Products.TheVariants.{All, Some as Only}
@@ -40,77 +40,78 @@ abbrev pub is_due_or_reported : List Event → List ℕ → Bool
 is_due_or_reported log id = is_due log id || has_report log id
 
 -- the write of this event failed, so that it is in doubt afterwards
-abbrev pub InDoubt : Event → Option Event → Type 0
-InDoubt event after = after ≡ Some event
+abbrev pub InDoubt : Event → List Event → Type 0
+InDoubt event after = after ≡ event ∷ []
 
 -- A submission of an id is refused: what the log says then, and what is in doubt afterwards. Its write failed, or the disk
 -- did where the content was to be compared.
-abbrev pub SubmitRefused : Basis → List ℕ → Refusal → Option Event → List Event → Type 0
-SubmitRefused basis id (F.OtherContent other) after log = IsTrue (is_held log id) × (after ≡ None)
-SubmitRefused basis id (F.Withdrawn other) after log = IsTrue (was_withdrawn log id) × (after ≡ None)
-SubmitRefused basis id F.TooManyCrashes after log = IsTrue (is_new log id) × IsTrue (is_full basis log) × (after ≡ None)
-SubmitRefused basis id F.JournalFull after log = IsTrue (is_new log id) × IsTrue (not (is_full basis log)) × (after ≡ None)
+abbrev pub SubmitRefused : Basis → List ℕ → Refusal → List Event → List Event → Type 0
+SubmitRefused basis id (F.OtherContent other) after log = IsTrue (is_held log id) × (after ≡ [])
+SubmitRefused basis id (F.Withdrawn other) after log = IsTrue (was_withdrawn log id) × (after ≡ [])
+SubmitRefused basis id F.TooManyCrashes after log = IsTrue (is_new log id) × IsTrue (is_full basis log) × (after ≡ [])
+SubmitRefused basis id F.JournalFull after log = IsTrue (is_new log id) × IsTrue (not (is_full basis log)) × (after ≡ [])
 SubmitRefused basis id F.StoreFault after log =
-    (IsTrue (is_new log id) × IsTrue (not (is_full basis log)) × InDoubt (E.Accepted id) after) ⊎ (IsTrue (is_held log id) × (after ≡ None))
+    (IsTrue (is_new log id) × IsTrue (not (is_full basis log)) × InDoubt (E.Accepted id) after) ⊎ (IsTrue (is_held log id) × (after ≡ []))
 SubmitRefused basis id _ after log = ⊥
 
 -- what a submission of an id adds
-abbrev pub Submits : Basis → List ℕ → Reply → Option Event → List Event → List Event → Type 0
-Submits basis id (R.Stored other due) after log own = IsTrue (is_new log id) × IsTrue (not (is_full basis log)) × (own ≡ E.Accepted id ∷ []) × (after ≡ None)
-Submits basis id (R.Repeated other) after log own = IsTrue (is_held log id) × (own ≡ []) × (after ≡ None)
+abbrev pub Submits : Basis → List ℕ → Reply → List Event → List Event → List Event → Type 0
+Submits basis id (R.Stored other due) after log own = IsTrue (is_new log id) × IsTrue (not (is_full basis log)) × (own ≡ E.Accepted id ∷ []) × (after ≡ [])
+Submits basis id (R.Repeated other) after log own = IsTrue (is_held log id) × (own ≡ []) × (after ≡ [])
 Submits basis id (R.Refused refusal) after log own = SubmitRefused basis id refusal after log × (own ≡ [])
 Submits basis id _ after log own = ⊥
 
 -- an ask that is passed over where the crash is due or has a report, refused: a full journal or a failed write shows only
 -- where it isn't
-abbrev pub PriorityRefused : Caller → List ℕ → Refusal → Option Event → List Event → Type 0
-PriorityRefused caller id F.NoCrash after log = IsGone caller id log × (after ≡ None)
-PriorityRefused caller id F.JournalFull after log = IsTrue (is_held log id) × IsTrue (not (is_due_or_reported log id)) × (after ≡ None)
+abbrev pub PriorityRefused : Caller → List ℕ → Refusal → List Event → List Event → Type 0
+PriorityRefused caller id F.NoCrash after log = IsGone caller id log × (after ≡ [])
+PriorityRefused caller id F.JournalFull after log = IsTrue (is_held log id) × IsTrue (not (is_due_or_reported log id)) × (after ≡ [])
 PriorityRefused caller id F.StoreFault after log = IsTrue (is_held log id) × IsTrue (not (is_due_or_reported log id)) × InDoubt (E.Asked id) after
 PriorityRefused caller id _ after log = ⊥
 
 -- what such an ask adds
-abbrev pub Prioritises : Caller → List ℕ → Reply → Option Event → List Event → List Event → Type 0
+abbrev pub Prioritises : Caller → List ℕ → Reply → List Event → List Event → List Event → Type 0
 Prioritises caller id (R.Asked true due) after log own =
-    IsTrue (is_held log id) × IsTrue (not (is_due_or_reported log id)) × (own ≡ E.Asked id ∷ []) × (after ≡ None)
-Prioritises caller id (R.Asked false due) after log own = IsTrue (is_held log id) × IsTrue (is_due_or_reported log id) × (own ≡ []) × (after ≡ None)
+    IsTrue (is_held log id) × IsTrue (not (is_due_or_reported log id)) × (own ≡ E.Asked id ∷ []) × (after ≡ [])
+Prioritises caller id (R.Asked false due) after log own = IsTrue (is_held log id) × IsTrue (is_due_or_reported log id) × (own ≡ []) × (after ≡ [])
 Prioritises caller id (R.Refused refusal) after log own = PriorityRefused caller id refusal after log × (own ≡ [])
 Prioritises caller id _ after log own = ⊥
 
 -- this change of a held crash, refused: a full journal or a failed write shows only where the crash is held
-abbrev pub ChangeRefused : Event → Caller → List ℕ → Refusal → Option Event → List Event → Type 0
-ChangeRefused event caller id F.NoCrash after log = IsGone caller id log × (after ≡ None)
-ChangeRefused event caller id F.JournalFull after log = IsTrue (is_held log id) × (after ≡ None)
+abbrev pub ChangeRefused : Event → Caller → List ℕ → Refusal → List Event → List Event → Type 0
+ChangeRefused event caller id F.NoCrash after log = IsGone caller id log × (after ≡ [])
+ChangeRefused event caller id F.JournalFull after log = IsTrue (is_held log id) × (after ≡ [])
 ChangeRefused event caller id F.StoreFault after log = IsTrue (is_held log id) × InDoubt event after
 ChangeRefused event caller id _ after log = ⊥
 
-abbrev pub Reprocesses : Caller → List ℕ → Reply → Option Event → List Event → List Event → Type 0
-Reprocesses caller id (R.Asked asked due) after log own = IsTrue (is_held log id) × (own ≡ E.Asked id ∷ []) × (after ≡ None)
+abbrev pub Reprocesses : Caller → List ℕ → Reply → List Event → List Event → List Event → Type 0
+Reprocesses caller id (R.Asked asked due) after log own = IsTrue (is_held log id) × (own ≡ E.Asked id ∷ []) × (after ≡ [])
 Reprocesses caller id (R.Refused refusal) after log own = ChangeRefused (E.Asked id) caller id refusal after log × (own ≡ [])
 Reprocesses caller id _ after log own = ⊥
 
-abbrev pub Withdraws : Caller → List ℕ → Reply → Option Event → List Event → List Event → Type 0
-Withdraws caller id R.Withdrawn after log own = IsTrue (is_held log id) × (own ≡ E.Withdrawn id ∷ []) × (after ≡ None)
+abbrev pub Withdraws : Caller → List ℕ → Reply → List Event → List Event → List Event → Type 0
+Withdraws caller id R.Withdrawn after log own = IsTrue (is_held log id) × (own ≡ E.Withdrawn id ∷ []) × (after ≡ [])
 Withdraws caller id (R.Refused refusal) after log own = ChangeRefused (E.Withdrawn id) caller id refusal after log × (own ≡ [])
 Withdraws caller id _ after log own = ⊥
 
 -- ---- with the doubt
 
--- behind the change in doubt, where it was kept, or without it
-abbrev pub BehindDoubt : List Event → Option Event → List Event → (List Event → List Event → Type 0) → Type 0
-BehindDoubt log None piece Adds = Adds log piece
-BehindDoubt log (Some doubt) piece Adds = Adds log piece ⊎ ((own : List Event) × (piece ≡ doubt ∷ own) × Adds (log ++ doubt ∷ []) own)
+-- behind the changes in doubt, where they were kept, all of them, or without any
+abbrev pub BehindDoubt : List Event → List Event → List Event → (List Event → List Event → Type 0) → Type 0
+BehindDoubt log [] piece Adds = Adds log piece
+BehindDoubt log (first ∷ more) piece Adds =
+    Adds log piece ⊎ ((own : List Event) × (piece ≡ (first ∷ more) ++ own) × Adds (log ++ first ∷ more) own)
 
 -- the doubt wasn't settled, and stays
-abbrev pub StaysInDoubt : Option Event → List Event → Option Event → Type 0
+abbrev pub StaysInDoubt : List Event → List Event → List Event → Type 0
 StaysInDoubt doubt piece after = (piece ≡ []) × (after ≡ doubt)
 
 -- Where an allocation failed, nothing was settled either. Where the disk failed, there may have been a doubt that it failed to
 -- settle.
-abbrev pub Writes : List Event → Option Event → List Event → Reply → Option Event → (List Event → List Event → Type 0) → Type 0
+abbrev pub Writes : List Event → List Event → List Event → Reply → List Event → (List Event → List Event → Type 0) → Type 0
 Writes log doubt piece (R.Refused F.NoMemory) after Adds = StaysInDoubt doubt piece after
 Writes log doubt piece (R.Refused (F.NoPermission name)) after Adds = StaysInDoubt doubt piece after
-Writes log doubt piece (R.Refused F.StoreFault) after Adds = (IsSome doubt × StaysInDoubt doubt piece after) ⊎ BehindDoubt log doubt piece Adds
+Writes log doubt piece (R.Refused F.StoreFault) after Adds = ((doubt ≢ []) × StaysInDoubt doubt piece after) ⊎ BehindDoubt log doubt piece Adds
 Writes log doubt piece reply after Adds = BehindDoubt log doubt piece Adds
 
 -- ---- commands that process
@@ -190,9 +191,9 @@ Fetches log id _ = ⊥
 
 -- ---- every command
 
--- The events that a command adds under its reply to a log with an event in doubt, what is in doubt afterwards, and what the
+-- The events that a command adds under its reply to a log with events in doubt, what is in doubt afterwards, and what the
 -- reply says of the log.
-abbrev pub Grows : Basis → List Event → Option Event → Command → Reply → List Event → Option Event → Type 0
+abbrev pub Grows : Basis → List Event → List Event → Command → Reply → List Event → List Event → Type 0
 Grows basis log doubt (C.Submit raw) reply piece after = Writes log doubt piece reply after (Submits basis raw.id reply after)
 Grows basis log doubt (C.Priority caller id) reply piece after = Writes log doubt piece reply after (Prioritises caller id reply after)
 Grows basis log doubt (C.Reprocess caller id) reply piece after = Writes log doubt piece reply after (Reprocesses caller id reply after)

@@ -1,6 +1,6 @@
 -- How the reports of a run are kept for later runs: the doubt is settled, and then each crash that has a report, isn't due
 -- and has no report of the run's digest behind its last acceptance or asking gets one appended. This project's profile.
-use Rattle.std.specs.Prelude.{◌≡◌, ◌⊎◌, ℕ, ◌+◌, Bool, not, nat_lt, ◌&&◌, ◌||◌, if◌then◌else◌, List, [], ◌∷◌, ◌++◌, length, filter, Option, None, Some, IsSome, is_some, MatchOption, map, true, ⊤}
+use Rattle.std.specs.Prelude.{◌≡◌, ◌≢◌, ◌⊎◌, ℕ, Bool, not, nat_lt, ◌&&◌, ◌||◌, if◌then◌else◌, List, [], ◌∷◌, ◌++◌, length, filter, Option, is_some, map, true, ⊤}
 use Rattle.std.specs.Option.{option_map, option_map_or, option_and_then}
 use Rattle.soc_journal.specs.Entries.{max_body}
 use Rattle.soc_ledger.specs.declared.event.Event.{Event}
@@ -12,7 +12,7 @@ use Rattle.soc_desk.specs.declared.desk.Reply.{Reply}
 use Rattle.soc_desk.specs.declared.desk.Reply.TheVariants as R
 use Rattle.soc_desk.specs.declared.desk.Refusal.TheVariants as F
 use Rattle.soc_desk.specs.Basis.{Basis}
-use Rattle.soc_desk.specs.Desk.{IfElse, FailsMend}
+use Rattle.soc_desk.specs.Desk.{FailsMend}
 use Rattle.soc_desk.specs.Grows.{BehindDoubt, StaysInDoubt}
 use Rattle.soc_desk.specs.Log.{Kept, KeptReport, report, Change, keep, events, row_in}
 use Rattle.soc_desk.specs.State.{State, settled, Settles, body_of, has_room, kept_of, StandsFor, Allowed}
@@ -36,30 +36,39 @@ report_of basis log id =
 abbrev pub is_passed_over : Basis → List Change → KeptReport → Bool
 is_passed_over basis log made = nat_lt max_body (length (body_of (report made))) || not (has_room basis log (report made))
 
--- the reports of these crashes are appended in order, until memory is wanted or a write fails
-abbrev pub KeepsEach : Basis → List Change → List (List ℕ) → ℕ → Reply → State → Type 0
-KeepsEach basis log [] count reply after = (reply ≡ R.Kept count) × (after ≡ settled log)
-KeepsEach basis log (id ∷ ids) count reply after =
-    ((reply ≡ R.Refused F.NoMemory) × (after ≡ settled log))
-    ⊎ MatchOption (report_of basis log id) (KeepsEach basis log ids count reply after) (λ made.
-    IfElse (is_passed_over basis log made) (KeepsEach basis log ids count reply after)
-    (((reply ≡ R.Refused F.StoreFault) × (after ≡ record { log = log; doubt = Some (report made) }))
-    ⊎ KeepsEach basis (log ++ keep (report made) ∷ []) ids (count + 1) reply after))
+-- the reports that are kept of these crashes, in order: each that isn't passed over, behind those before it
+abbrev pub to_append : Basis → List Change → List (List ℕ) → List Kept
+to_append basis log [] = []
+to_append basis log (id ∷ ids) =
+    option_map_or (λ made.
+    if is_passed_over basis log made then to_append basis log ids else report made ∷ to_append basis (log ++ keep (report made) ∷ []) ids)
+    (report_of basis log id) (to_append basis log ids)
+
+-- All of these are appended, and the answer has their number; or the first of them, until memory for more runs out; or the
+-- first of them, and the one write of some that follow fails.
+abbrev pub KeepsFirst : List Change → List Kept → Reply → State → Type 0
+KeepsFirst log all (R.Kept count) after = (count ≡ length all) × (after ≡ settled (log ++ map keep all))
+KeepsFirst log all (R.Refused F.NoMemory) after =
+    (first : List Kept) × (rest : List Kept) × (all ≡ first ++ rest) × (rest ≢ []) × (after ≡ settled (log ++ map keep first))
+KeepsFirst log all (R.Refused F.StoreFault) after =
+    (first : List Kept) × (failed : List Kept) × (rest : List Kept) × (all ≡ first ++ (failed ++ rest)) × (failed ≢ [])
+    × (after ≡ record { log = log ++ map keep first; doubt = failed })
+KeepsFirst log all _ after = ⊥
 
 -- the doubt is settled, and the settled log's reports are kept
 pub record SettlesAndKeeps (basis : Basis) (before : State) (reply : Reply) (after : State) : Type 0 where
   pub log : List Change
   pub settles : Settles before.log before.doubt log
-  pub keeps : KeepsEach basis log (ids_to_keep basis log) 0 reply after
+  pub keeps : KeepsFirst log (to_append basis log (ids_to_keep basis log)) reply after
 
 abbrev pub StepKeep : Basis → State → Reply → State → Type 0
 StepKeep basis before reply after = FailsMend before reply after ⊎ SettlesAndKeeps basis before reply after
 
 -- ---- stops
 
--- the kept changes, and the doubt where there is one
+-- the kept changes, and those in doubt
 abbrev pub kept_with_doubt : State → List Kept
-kept_with_doubt state = kept_of state.log ++ option_map_or (λ change. change ∷ []) state.doubt []
+kept_with_doubt state = kept_of state.log ++ state.doubt
 
 -- the image stands for the first of these changes, and has all that were there before
 pub record StandsBetween (before after : List Kept) (image : List ℕ) : Type 0 where
@@ -81,23 +90,24 @@ IsPartOf (own ∷ owns) [] = ⊥
 IsPartOf (own ∷ owns) (id ∷ ids) = ((own ≡ id) × IsPartOf owns ids) ⊎ IsPartOf (own ∷ owns) ids
 
 -- The answer has the number of these reports that were appended, and then nothing is in doubt; or memory was wanted; or the
--- write of one more failed, which is in doubt.
-abbrev pub EndsReports : Basis → Reply → List Event → List (List ℕ) → Option Event → Type 0
-EndsReports basis (R.Kept count) log ids after = (count ≡ length ids) × (after ≡ None)
-EndsReports basis (R.Refused F.NoMemory) log ids after = after ≡ None
+-- one write of those of some crashes that follow failed, and all of them are in doubt.
+abbrev pub EndsReports : Basis → Reply → List Event → List (List ℕ) → List Event → Type 0
+EndsReports basis (R.Kept count) log ids after = (count ≡ length ids) × (after ≡ [])
+EndsReports basis (R.Refused F.NoMemory) log ids after = after ≡ []
 EndsReports basis (R.Refused F.StoreFault) log ids after =
-    (id : List ℕ) × IsPartOf (ids ++ id ∷ []) (to_keep_of basis log) × (after ≡ Some (E.Reported id true))
+    (failed : List (List ℕ)) × (failed ≢ []) × IsPartOf (ids ++ failed) (to_keep_of basis log)
+    × (after ≡ map (λ id. E.Reported id true) failed)
 EndsReports basis _ log ids after = ⊥
 
 -- of crashes whose reports are to be kept, some in their order are reported by the run's own lists and symbols
-pub record Reports (basis : Basis) (reply : Reply) (after : Option Event) (log own : List Event) : Type 0 where
+pub record Reports (basis : Basis) (reply : Reply) (after : List Event) (log own : List Event) : Type 0 where
   pub ids : List (List ℕ)
   pub among : IsPartOf ids (to_keep_of basis log)
   pub own_is : own ≡ map (λ id. E.Reported id true) ids
   pub ends : EndsReports basis reply log ids after
 
--- what keeping reports adds, behind the change in doubt, where it was kept, or without it; or the doubt couldn't be settled
-abbrev pub KeepGrows : Basis → Reply → List Event → Option Event → List Event → Option Event → Type 0
+-- what keeping reports adds, behind the changes in doubt, where they were kept, or without any; or the doubt couldn't be settled
+abbrev pub KeepGrows : Basis → Reply → List Event → List Event → List Event → List Event → Type 0
 KeepGrows basis (R.Refused F.StoreFault) log doubt piece after =
-    (IsSome doubt × StaysInDoubt doubt piece after) ⊎ BehindDoubt log doubt piece (Reports basis (R.Refused F.StoreFault) after)
+    ((doubt ≢ []) × StaysInDoubt doubt piece after) ⊎ BehindDoubt log doubt piece (Reports basis (R.Refused F.StoreFault) after)
 KeepGrows basis reply log doubt piece after = BehindDoubt log doubt piece (Reports basis reply after)

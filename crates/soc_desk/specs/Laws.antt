@@ -1,5 +1,5 @@
 -- What follows from the desk's definitions, for every log.
-use Rattle.std.specs.Prelude.{◌≡◌, ◌≢◌, ◌⊎◌, Some, ℕ, Bool, false, not, ◌&&◌, ◌||◌, IsTrue, List, [], ◌∷◌, ◌++◌, map, reverse, None, IfSome, IsSomeAnd, is_some, if◌then◌else◌, bytes_eq, ⊤}
+use Rattle.std.specs.Prelude.{◌≡◌, ◌≢◌, ◌⊎◌, Option, Some, ℕ, Bool, true, false, not, ◌&&◌, ◌||◌, IsTrue, List, [], ◌∷◌, ◌++◌, map, reverse, None, IfSome, IsSomeAnd, is_some, if◌then◌else◌, bytes_eq, ⊤}
 use Rattle.std.specs.List.{AllByRecursion, list_any}
 use Rattle.std.specs.Option.{option_map}
 use Rattle.sha2.specs.Sha256.{sha256}
@@ -11,22 +11,24 @@ use Rattle.soc_schema.specs.declared.caller.Caller.{Caller}
 use Rattle.soc_schema.specs.declared.value.Cell.{Cell}
 use Rattle.soc_schema.specs.Permits.{shows, granted_cells}
 use Rattle.soc_schema.specs.Reports.{product_of}
+use Rattle.soc_edge.specs.Disk.{DiskTold, GoesOn, LeavesOnly}
 use Rattle.soc_ledger.specs.declared.event.Event.{Event}
 use Rattle.soc_ledger.specs.declared.event.Event.TheVariants as E
 use Rattle.soc_ledger.specs.Due.{due_ids, is_due, is_due_at_once, due_since_back}
 use Rattle.soc_ledger.specs.Events.{is_held, was_accepted, was_withdrawn}
 use Rattle.soc_ledger.specs.Legal.{IsLegal as AreLegal}
 use Rattle.soc_desk.specs.declared.desk.Command.{Command}
-use Rattle.soc_desk.specs.declared.desk.Command.TheVariants.{Submit}
+use Rattle.soc_desk.specs.declared.desk.Command.TheVariants as C
 use Rattle.soc_desk.specs.declared.desk.Reply.{Reply}
-use Rattle.soc_desk.specs.declared.desk.Reply.TheVariants.{Refused}
+use Rattle.soc_desk.specs.declared.desk.Reply.TheVariants as R
 use Rattle.soc_desk.specs.declared.desk.Refusal.TheVariants.{OtherContent, NoMemory}
 use Rattle.soc_desk.specs.Asks.{Gains}
 use Rattle.soc_desk.specs.Basis.{Basis}
+use Rattle.soc_desk.specs.Decisions.{accepting}
 use Rattle.soc_desk.specs.Desk.{Step}
-use Rattle.soc_desk.specs.Log.{Accepted, accept, ask, withdraw, report, Change, keep, done, stop, events, raw_of, row_in, IsLegal}
+use Rattle.soc_desk.specs.Log.{Accepted, Kept, accept, ask, withdraw, report, Change, keep, done, stop, events, raw_of, row_in, IsLegal}
 use Rattle.soc_desk.specs.Reads.{read_reply}
-use Rattle.soc_desk.specs.State.{State, IsLegalState, settled}
+use Rattle.soc_desk.specs.State.{State, StandsFor, IsLegalState, kept_of, settled}
 use Rattle.soc_desk.specs.View.{view_of}
 
 -- ---- which crashes a caller sees
@@ -124,9 +126,35 @@ DrainsAll = (basis : Basis) (log : List Change) → IsDrained basis log (log ++ 
 abbrev pub DigestsDecide : Type 0
 DigestsDecide = (basis : Basis) (log : List Change) (raw : RawCrash) (held : Crash) (reply : Reply) (after : State)
     → IsTrue (is_held (events basis log) raw.id) → raw_of log raw.id ≡ Some held → sha256 (content_text held) ≢ sha256 (content_text (crash_of raw))
-    → Step basis (settled log) (Submit raw) reply after → (reply ≡ Refused (OtherContent raw.id)) ⊎ (reply ≡ Refused NoMemory)
+    → Step basis (settled log) (C.Submit raw) reply after → (reply ≡ R.Refused (OtherContent raw.id)) ⊎ (reply ≡ R.Refused NoMemory)
 
 -- the log before a step is a front of the one after it, and what is behind it is what the command adds
 abbrev pub StepsGrow : Type 0
 StepsGrow = (basis : Basis) (before : State) (command : Command) (reply : Reply) (after : State) → IsTrue basis.is_told
     → IsLegalState basis before → Step basis before command reply after → Gains basis before command reply after
+
+-- the change whose writing a reply acknowledges
+abbrev pub acknowledged : Command → Reply → Option Kept
+acknowledged (C.Submit raw) (R.Stored id due) = Some (accepting (crash_of raw))
+acknowledged (C.Priority caller id) (R.Asked true due) = Some (ask id)
+acknowledged (C.Reprocess caller id) (R.Asked asked due) = Some (ask id)
+acknowledged (C.Withdraw caller id) R.Withdrawn = Some (withdraw id)
+acknowledged _ _ = None
+
+-- an acknowledged change is the log's last
+abbrev pub Acknowledges : Type 0
+Acknowledges = (basis : Basis) (before : State) (command : Command) (reply : Reply) (after : State) → Step basis before command reply after
+    → IfSome (acknowledged command reply) (λ change. (log : List Change) × (after.log ≡ log ++ keep change ∷ []))
+
+-- ---- stops
+
+-- the image stands for these changes, or for these and others behind them
+abbrev pub HasAll : List Kept → List ℕ → Type 0
+HasAll changes image = (more : List Kept) × StandsFor image (changes ++ more)
+
+-- The log still has what it had, and so does each image that a stop from the moment before until the one after may leave.
+pub record Lasts (before : State) (disk : DiskTold) (after : State) (disk' : DiskTold) : Type 0 where
+  pub more : List Change
+  pub behind : after.log ≡ before.log ++ more
+  pub goes_on : GoesOn disk disk'
+  pub leaves : LeavesOnly disk disk' (HasAll (kept_of before.log))

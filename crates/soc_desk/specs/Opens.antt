@@ -31,10 +31,11 @@ pub record AreChanges (basis : Basis) (entries : List Entry) (kept : List Kept) 
   pub legal : IsLegal (told basis) (log_of kept)
   pub few : length (accepted_of (log_of kept)) ≤ MOST_CRASHES
 
--- the log that a desk opens with over these entries
+-- the log that a desk opens with over these entries: that of the one list of changes whose entries they are
 pub record OpensWith (basis : Basis) (entries : List Entry) (log : List Change) : Type 0 where
   pub kept : List Kept
   pub are : AreChanges basis entries kept
+  pub only : (others : List Kept) → AreChanges basis entries others → others ≡ kept
   pub log_is : log ≡ log_of (map (as_told basis.is_told) kept)
 
 -- the entry is no change that may follow these

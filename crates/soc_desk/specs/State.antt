@@ -1,6 +1,6 @@
 -- The state of a desk: a log, and a doubt.
-use Rattle.std.specs.Prelude.{◌≡◌, ◌⊎◌, ℕ, ◌+◌, Bool, nat_le, List, [], ◌∷◌, ◌++◌, length, map, filter_map, Option, None, Some, IfSome, IsSomeAnd}
-use Rattle.std.specs.Option.{option_map, option_map_or}
+use Rattle.std.specs.Prelude.{◌≡◌, ◌⊎◌, ℕ, ◌+◌, Bool, nat_le, List, [], ◌∷◌, ◌++◌, length, map, filter_map, Option, None, Some}
+use Rattle.std.specs.Option.{option_map_or}
 use Rattle.soc_raw.specs.Record.{record_of}
 use Rattle.soc_schema.specs.RowText.{row_text}
 use Rattle.soc_edge.specs.Disk.{DiskTold, LeavesOnly}
@@ -10,27 +10,27 @@ use Rattle.soc_ledger.specs.declared.event.Event.{Event}
 use Rattle.soc_desk.specs.Basis.{Basis}
 use Rattle.soc_desk.specs.Log.{Kept, accept, ask, withdraw, report, Change, keep, done, stop, event_of, IsLegal}
 
--- a log, and the kept change whose write failed and which may stand in the journal or not
+-- a log, and the kept changes whose one write failed: all of them stand in the journal, or none
 pub record State : Type 0 where
   pub log : List Change
-  pub doubt : Option Kept
+  pub doubt : List Kept
 
 abbrev pub settled : List Change → State
-settled log = record { log = log; doubt = None }
+settled log = record { log = log; doubt = [] }
 
--- the change in doubt without its content
-abbrev pub doubted : Basis → State → Option Event
-doubted basis state = option_map (λ change. event_of basis (keep change)) state.doubt
+-- the changes in doubt without their contents
+abbrev pub doubted : Basis → State → List Event
+doubted basis state = map (λ change. event_of basis (keep change)) state.doubt
 
 -- the log is legal, and so it is with the doubt
 pub record IsLegalState (basis : Basis) (state : State) : Type 0 where
   pub log : IsLegal basis state.log
-  pub doubt : IfSome state.doubt (λ change. IsLegal basis (state.log ++ keep change ∷ []))
+  pub doubt : IsLegal basis (state.log ++ map keep state.doubt)
 
--- the log once a doubt is settled: the change is there, or it is forgotten
-abbrev pub Settles : List Change → Option Kept → List Change → Type 0
-Settles log None after = after ≡ log
-Settles log (Some change) after = (after ≡ log ++ keep change ∷ []) ⊎ (after ≡ log)
+-- the log once a doubt is settled: all changes in doubt are there, or all are forgotten
+abbrev pub Settles : List Change → List Kept → List Change → Type 0
+Settles log [] after = after ≡ log
+Settles log (first ∷ more) after = (after ≡ log ++ map keep (first ∷ more)) ⊎ (after ≡ log)
 
 -- ---- the journal
 
@@ -74,10 +74,9 @@ has_room basis log change =
 abbrev pub StandsFor : List ℕ → List Kept → Type 0
 StandsFor image changes = JournalText (entries_of changes) image
 
--- what an image may stand for: the kept changes, and with a doubt also those and the doubt
+-- what an image may stand for: the kept changes, or those and the whole doubt
 abbrev pub Allowed : State → List ℕ → Type 0
-Allowed state image =
-    StandsFor image (kept_of state.log) ⊎ IsSomeAnd state.doubt (λ change. StandsFor image (kept_of state.log ++ change ∷ []))
+Allowed state image = StandsFor image (kept_of state.log) ⊎ StandsFor image (kept_of state.log ++ state.doubt)
 
 -- each image that a stop may leave from the moment before until the one after is allowed in one of these states
 abbrev pub Survives : DiskTold → DiskTold → State → State → Type 0

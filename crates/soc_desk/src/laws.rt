@@ -1,5 +1,13 @@
 //! Laws of the desk's definitions.
-ghost use Rattle.soc_desk.specs.Laws.{HidesCrashes, KeepsViews, HidesFields, ReadsShowTheView, DueByHistory, DrainsAll, DigestsDecide, StepsGrow};
+ghost use Rattle.std.specs.Prelude.{IsTrue};
+ghost use Rattle.soc_desk.specs.Asks.{Asks};
+ghost use Rattle.soc_desk.specs.Basis.{Basis};
+ghost use Rattle.soc_desk.specs.Laws.{HidesCrashes, KeepsViews, HidesFields, ReadsShowTheView, DueByHistory, DrainsAll, DigestsDecide, StepsGrow, Acknowledges, Lasts};
+ghost use Rattle.soc_desk.specs.State.{State};
+ghost use Rattle.soc_desk.specs.declared.desk.Command.{Command};
+ghost use Rattle.soc_desk.specs.declared.desk.Receipt.{Receipt};
+
+use soc_edge::Disk;
 
 /// Hidden, withdrawn and absent crashes are in no view.
 pub fn hides_crashes()
@@ -39,4 +47,18 @@ pub fn digests_decide()
 /// What a step appends to the log is what its command adds under its reply.
 pub fn steps_grow()
     ensures { StepsGrow }
+{}
+
+/// A change whose writing was acknowledged is the last of the log.
+pub fn acknowledges()
+    ensures { Acknowledges }
+{}
+
+/// What the log keeps lasts over a command, in every image that a stop may leave, and so over commands that follow one
+/// another.
+pub fn changes_last<D: Disk>()
+    ensures asked { (basis : Basis) (before after : State) (command : Command) (receipt : Receipt) (disk disk' : D) → IsTrue basis.is_told
+        → Asks basis before (D.state disk) command receipt after (D.state disk') → Lasts before (D.state disk) after (D.state disk') }
+    ensures goes_on { (first second third : State) (disk disk' disk'' : D) → Lasts first (D.state disk) second (D.state disk')
+        → Lasts second (D.state disk') third (D.state disk'') → Lasts first (D.state disk) third (D.state disk'') }
 {}
