@@ -41,7 +41,7 @@ module _ (basis : Basis) (limits : Limits) (ledger : LedgerState) (rows : List (
   now = events basis log
 
   pub allowed : IsTrue basis.is_told → (image : List ℕ) → disk.images image → Allowed (settled log) image
-  allowed is_told image left = images_allowed basis journal disk log None (stands.told is_told) image left
+  allowed is_told image left = images_allowed basis journal disk log [] (stands.told is_told) image left
 
   pub held_log : (id : List ℕ) (number : ℕ) → IsHeldAs ledger id number → is_held now id ≡ true
   held_log id number held = held_now basis log ledger rows stands.legal.log stands.holds id true held.held
@@ -70,7 +70,7 @@ module _ (basis : Basis) (limits : Limits) (ledger : LedgerState) (rows : List (
   -- ---- crashes that aren't seen
 
   module _ (sound : IsDisk disk) (command : Command) (decision : Decision) (is : decide basis log command ≡ Some (if_seen basis log caller id decision)) (kind : IsReplyTo command (R.Refused F.NoCrash))
-      (adds : IsGone caller id before → Adds basis command (R.Refused F.NoCrash) None before []) where
+      (adds : IsGone caller id before → Adds basis command (R.Refused F.NoCrash) [] before []) where
     not_seen : Sees ledger caller id (Err F.NoCrash) → IsDecided basis log disk command (R.Refused F.NoCrash) (settled log) disk
     not_seen unseen = answered basis log disk disk command (R.Refused F.NoCrash) (Looks-none disk sound) (allowed basis limits ledger rows pending journal disk log stands) kind tt (λ never. absurd never) (adds (subst (IsGone caller id) stands.holds.events_are (unseen_gone ledger caller id unseen)))
         (λ is_told. decided_as basis log disk disk command (answers (R.Refused F.NoCrash)) (R.Refused F.NoCrash) (settled log) (is ∙ ap (λ (d : Decision). Some d) (unseen_decides decision unseen is_told)) (refl, refl))

@@ -1,17 +1,18 @@
 -- One more change that may follow a legal log, and what legal logs tell of their crashes.
-use Rattle.std.proofs.Common.{◌≡◌, IsTrue, List, [], ◌∷◌, ◌++◌, map, reverse, Some, IfSome, IsSome, sym, ap, subst, ◌∙◌, refl}
+use Rattle.std.proofs.Common.{◌≡◌, inl, inr, ℕ, IsTrue, List, [], ◌∷◌, ◌++◌, map, reverse, IfSome, IsSome, sym, ap, subst, ◌∙◌, refl}
 use Rattle.std.specs.List.{AllByRecursion}
 use Rattle.std.proofs.lemmas.List.Elements.{filter_map-append}
-use Rattle.std.proofs.lemmas.List.{map-append}
+use Rattle.std.proofs.lemmas.List.{append-nil, append_assoc, map-append}
 use Rattle.soc_raw.specs.CrashId.{IsId}
 use Rattle.soc_raw.specs.Record.{IsCrash}
+use Rattle.soc_ledger.specs.declared.event.Event.{Event}
 use Rattle.soc_ledger.specs.Events.{accepted_ids}
-use Rattle.soc_ledger.specs.Legal.{IsLegalNext, IsLegal as AreLegal}
+use Rattle.soc_ledger.specs.Legal.{IsLegalBack, IsLegalNext, IsLegal as AreLegal}
 use Rattle.soc_ledger.proofs.Lists.{all-more}
 use Rattle.soc_ledger.proofs.Logs.{legal-more}
 use Rattle.soc_desk.specs.Basis.{Basis}
 use Rattle.soc_desk.specs.Log.{Change, Kept, Accepted, accept, ask, withdraw, report, keep, done, stop, accepted_in, accepted_of, event_of, events, IsSound, AreSoundBack, IsLegal}
-use Rattle.soc_desk.specs.State.{IsLegalState, settled, entry_of, entries_of, kept_in, kept_of}
+use Rattle.soc_desk.specs.State.{IsLegalState, Allowed, StandsFor, settled, entry_of, entries_of, kept_in, kept_of}
 use Rattle.soc_desk.proofs.Logs.{events-more, reverse-cons, reverse-more, reverse-twice}
 use Rattle.soc_desk.proofs.Found.{AreTold}
 
@@ -24,6 +25,26 @@ kept-more log change = filter_map-append kept_in log (keep change ∷ [])
 pub entries-more : (log : List Change) (change : Kept) → entries_of (kept_of (log ++ keep change ∷ [])) ≡ entries_of (kept_of log) ++ entry_of change ∷ []
 entries-more log change = ap entries_of (kept-more log change) ∙ map-append entry_of (kept_of log) (change ∷ [])
 
+-- the same of some more changes
+kept_of-keep : (changes : List Kept) → kept_of (map keep changes) ≡ changes
+kept_of-keep [] = refl
+kept_of-keep (change ∷ changes) = ap (λ (k : List Kept). change ∷ k) (kept_of-keep changes)
+
+pub kept-all : (log : List Change) (changes : List Kept) → kept_of (log ++ map keep changes) ≡ kept_of log ++ changes
+kept-all log changes = filter_map-append kept_in log (map keep changes) ∙ ap (λ (k : List Kept). kept_of log ++ k) (kept_of-keep changes)
+
+pub entries-all : (log : List Change) (changes : List Kept) → entries_of (kept_of (log ++ map keep changes)) ≡ entries_of (kept_of log) ++ entries_of changes
+entries-all log changes = ap entries_of (kept-all log changes) ∙ map-append entry_of (kept_of log) changes
+
+pub events-all : (basis : Basis) (changes : List Kept) → events basis (map keep changes) ≡ map (λ (change : Kept). event_of basis (keep change)) changes
+events-all basis [] = refl
+events-all basis (change ∷ changes) = ap (λ (es : List Event). event_of basis (keep change) ∷ es) (events-all basis changes)
+
+-- what a state without a doubt allows
+pub allowed-plain : (log : List Change) (image : List ℕ) → Allowed (settled log) image → StandsFor image (kept_of log)
+allowed-plain log image (inl text) = text
+allowed-plain log image (inr text) = subst (λ (k : List Kept). StandsFor image k) (append-nil (kept_of log)) text
+
 module _ (basis : Basis) (log : List Change) (change : Change) where
   pub legal-next : IsLegal basis log → IsLegalNext (events basis log) (event_of basis change) → IsSound log change → (IsTrue basis.is_told → AreTold (accepted_of (change ∷ [])))
       → IsLegal basis (log ++ change ∷ [])
@@ -33,11 +54,32 @@ module _ (basis : Basis) (log : List Change) (change : Change) where
     told = λ is_told. subst AreTold (sym (accepted-more log change)) (all-more (λ (crash : Accepted). IsSome crash.raw) (accepted_of log) (accepted_of (change ∷ [])) (legal.told is_told) (told is_told));
   }
 
-pub settled-legal : (basis : Basis) (log : List Change) → IsLegal basis log → IsLegalState basis (settled log)
-settled-legal basis log legal = record { log = legal; doubt = tt }
+-- a front of a legal log is legal
+front_all : {X : Type 0} (P : X → Type 0) (xs ys : List X) → AllByRecursion P (xs ++ ys) → AllByRecursion P xs
+front_all P [] ys all = tt
+front_all P (x ∷ xs) ys all = (all.0, front_all P xs ys all.1)
 
-pub doubt-legal : (basis : Basis) (log : List Change) (change : Kept) → IsLegal basis log → IsLegal basis (log ++ keep change ∷ []) → IsLegalState basis (record { log = log; doubt = Some change })
-doubt-legal basis log change legal next = record { log = legal; doubt = next }
+pub legal-before : (basis : Basis) (log : List Change) (change : Change) → IsLegal basis (log ++ change ∷ []) → IsLegal basis log
+legal-before basis log change legal =
+    let back : IsLegalBack (event_of basis change ∷ reverse (events basis log)) =
+    subst IsLegalBack (ap reverse (events-more basis log change) ∙ reverse-more (events basis log) (event_of basis change)) legal.events_legal in
+    let sound : AreSoundBack (change ∷ reverse log) = subst AreSoundBack (reverse-more log change) legal.sound in
+    record {
+      events_legal = back.1;
+      sound = sound.1;
+      told = λ is_told. front_all (λ (crash : Accepted). IsSome crash.raw) (accepted_of log) (accepted_of (change ∷ [])) (subst AreTold (accepted-more log change) (legal.told is_told));
+    }
+
+pub legal-front : (basis : Basis) (log more : List Change) → IsLegal basis (log ++ more) → IsLegal basis log
+legal-front basis log [] legal = subst (IsLegal basis) (append-nil log) legal
+legal-front basis log (change ∷ more) legal =
+    legal-before basis log change (legal-front basis (log ++ change ∷ []) more (subst (IsLegal basis) (sym (append_assoc log (change ∷ []) more)) legal))
+
+pub settled-legal : (basis : Basis) (log : List Change) → IsLegal basis log → IsLegalState basis (settled log)
+settled-legal basis log legal = record { log = legal; doubt = subst (IsLegal basis) (sym (append-nil log)) legal }
+
+pub doubt-legal : (basis : Basis) (log : List Change) (changes : List Kept) → IsLegal basis log → IsLegal basis (log ++ map keep changes) → IsLegalState basis (record { log = log; doubt = changes })
+doubt-legal basis log changes legal next = record { log = legal; doubt = next }
 
 -- ---- the accepted crashes
 

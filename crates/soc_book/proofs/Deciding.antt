@@ -1,6 +1,5 @@
 -- What a command that writes does, from what it settles, decides and appends.
-use Rattle.std.proofs.Common.{◌≡◌, ◌⊎◌, inl, inr, ℕ, ◌<◌, ◌≤◌, Bool, true, false, IsTrue, List, [], ◌∷◌, ◌++◌, Option, Some, None, IsSome, IsSomeAnd, MatchOption, Result, Ok, Err, sym, ap, subst, ◌∙◌, refl, arith, append_assoc}
-use Rattle.std.specs.Option.{option_map}
+use Rattle.std.proofs.Common.{◌≡◌, ◌≢◌, ◌⊎◌, inl, inr, ℕ, ◌<◌, ◌≤◌, Bool, true, false, IsTrue, List, [], ◌∷◌, ◌++◌, map, Option, Some, None, IsSomeAnd, MatchOption, Result, Ok, Err, sym, ap, subst, ◌∙◌, refl, arith, append_assoc}
 use Rattle.std.proofs.lemmas.List.{append-nil, map-append}
 use Rattle.soc_raw.specs.declared.raw_crash.RawCrash.{RawCrash}
 use Rattle.soc_schema.specs.declared.caller.Caller.{Caller}
@@ -24,14 +23,14 @@ use Rattle.soc_desk.specs.Log.{Change, Kept, keep, event_of, events}
 use Rattle.soc_desk.specs.State.{State, doubted, settled, Settles, kept_of, has_room, StandsFor, Allowed, Survives}
 use Rattle.soc_book.specs.inner.Does.{Adds, Does, IsDecided, IsSettledReply}
 use Rattle.soc_book.specs.inner.Pieces.{Begins, IsAppended, IsWritten, RepliesAs}
-use Rattle.soc_book.proofs.Changes.{kept-more}
+use Rattle.soc_book.proofs.Changes.{allowed-plain, events-all, kept-all}
 
 -- ---- the commands that write
 
 -- what is known of each command that writes
 pub record IsWriting (basis : Basis) (command : Command) : Type 0 where
   pub step : (before : State) (reply : Reply) (after : State) → StepWriting basis before command reply after → Step basis before command reply after
-  pub grows : (log : List Event) (doubt : Option Event) (reply : Reply) (piece : List Event) (after : Option Event) → Writes log doubt piece reply after (Adds basis command reply after) → Grows basis log doubt command reply piece after
+  pub grows : (log : List Event) (doubt : List Event) (reply : Reply) (piece : List Event) (after : List Event) → Writes log doubt piece reply after (Adds basis command reply after) → Grows basis log doubt command reply piece after
   pub no_memory : lacked command ≡ None → IsReplyTo command (R.Refused F.NoMemory)
   pub store_fault : lacked command ≡ None → IsReplyTo command (R.Refused F.StoreFault)
   pub journal_full : lacked command ≡ None → IsReplyTo command (R.Refused F.JournalFull)
@@ -104,51 +103,58 @@ failed_later disk middle disk' goes_on (inl rose) =
 failed_later disk middle disk' goes_on (inr last) = inr last
 
 -- what stands once a doubt is settled was allowed before
-allowed_settled : (log : List Change) (doubt : Option Kept) (log' : List Change) → Settles log doubt log' → (image : List ℕ) → Allowed (settled log') image → Allowed (record { log = log; doubt = doubt }) image
-allowed_settled log None log' same image (inl text) = inl (subst (λ (l : List Change). StandsFor image (kept_of l)) same text)
-allowed_settled log (Some change) log' (inl kept) image (inl text) =
-    inr (subst (λ (ks : List Kept). StandsFor image ks) (kept-more log change) (subst (λ (l : List Change). StandsFor image (kept_of l)) kept text))
-allowed_settled log (Some change) log' (inr dropped) image (inl text) = inl (subst (λ (l : List Change). StandsFor image (kept_of l)) dropped text)
-allowed_settled log None log' same image (inr never) = absurd never
-allowed_settled log (Some change) log' settles image (inr never) = absurd never
+stood_settled : (log : List Change) (doubt : List Kept) (log' : List Change) → Settles log doubt log' → (image : List ℕ) → StandsFor image (kept_of log') → Allowed (record { log = log; doubt = doubt }) image
+stood_settled log [] log' same image text = inl (subst (λ (l : List Change). StandsFor image (kept_of l)) same text)
+stood_settled log (first ∷ more) log' (inl kept) image text =
+    inr (subst (λ (ks : List Kept). StandsFor image ks) (kept-all log (first ∷ more)) (subst (λ (l : List Change). StandsFor image (kept_of l)) kept text))
+stood_settled log (first ∷ more) log' (inr dropped) image text = inl (subst (λ (l : List Change). StandsFor image (kept_of l)) dropped text)
+
+allowed_settled : (log : List Change) (doubt : List Kept) (log' : List Change) → Settles log doubt log' → (image : List ℕ) → Allowed (settled log') image → Allowed (record { log = log; doubt = doubt }) image
+allowed_settled log doubt log' settles image allowed = stood_settled log doubt log' settles image (allowed-plain log' image allowed)
 
 -- what is appended behind a doubt that was kept, or without one
-gains_behind : (basis : Basis) (before : State) (doubt : Option Kept) (log own : List Change) (after : State) (command : Command) (reply : Reply) (Adding : List Event → List Event → Type 0)
-    → ((piece : List Event) → BehindDoubt (events basis before.log) (option_map (λ change. event_of basis (keep change)) doubt) piece Adding → Grows basis (events basis before.log) (doubted basis before) command reply piece (doubted basis after))
+gains_behind : (basis : Basis) (before : State) (doubt : List Kept) (log own : List Change) (after : State) (command : Command) (reply : Reply) (Adding : List Event → List Event → Type 0)
+    → ((piece : List Event) → BehindDoubt (events basis before.log) (map (λ change. event_of basis (keep change)) doubt) piece Adding → Grows basis (events basis before.log) (doubted basis before) command reply piece (doubted basis after))
     → Settles before.log doubt log → after.log ≡ log ++ own → Adding (events basis log) (events basis own) → Gains basis before command reply after
-gains_behind basis before None log own after command reply Adding grows same behind adds = record {
+gains_behind basis before [] log own after command reply Adding grows same behind adds = record {
   piece = own;
   behind = behind ∙ ap (λ (l : List Change). l ++ own) same;
   grows = grows (events basis own) (subst (λ (l : List Change). Adding (events basis l) (events basis own)) same adds);
 }
-gains_behind basis before (Some change) log own after command reply Adding grows (inl kept) behind adds = record {
-  piece = keep change ∷ own;
-  behind = behind ∙ (ap (λ (l : List Change). l ++ own) kept ∙ append_assoc before.log (keep change ∷ []) own);
-  grows = grows (events basis (keep change ∷ own))
-      (inr (events basis own, refl, subst (λ (l : List Event). Adding l (events basis own)) (ap (events basis) kept ∙ map-append (event_of basis) before.log (keep change ∷ [])) adds));
-}
-gains_behind basis before (Some change) log own after command reply Adding grows (inr dropped) behind adds = record {
+gains_behind basis before (first ∷ more) log own after command reply Adding grows (inl kept) behind adds =
+    let changes = map keep (first ∷ more) in
+    let told = events-all basis (first ∷ more) in
+    record {
+      piece = changes ++ own;
+      behind = behind ∙ (ap (λ (l : List Change). l ++ own) kept ∙ append_assoc before.log changes own);
+      grows = grows (events basis (changes ++ own)) (inr (
+        events basis own,
+        map-append (event_of basis) changes own ∙ ap (λ (l : List Event). l ++ events basis own) told,
+        subst (λ (l : List Event). Adding l (events basis own)) (ap (events basis) kept ∙ (map-append (event_of basis) before.log changes ∙ ap (λ (l : List Event). events basis before.log ++ l) told)) adds,
+      ));
+    }
+gains_behind basis before (first ∷ more) log own after command reply Adding grows (inr dropped) behind adds = record {
   piece = own;
   behind = behind ∙ ap (λ (l : List Change). l ++ own) dropped;
   grows = grows (events basis own) (inl (subst (λ (l : List Change). Adding (events basis l) (events basis own)) dropped adds));
 }
 
-plain_writes : (log : List Event) (doubt : Option Event) (piece : List Event) (reply : Reply) (after : Option Event) (Adding : List Event → List Event → Type 0) → IsSettledReply reply → BehindDoubt log doubt piece Adding
+plain_writes : (log : List Event) (doubt : List Event) (piece : List Event) (reply : Reply) (after : List Event) (Adding : List Event → List Event → Type 0) → IsSettledReply reply → BehindDoubt log doubt piece Adding
     → Writes log doubt piece reply after Adding
 plain_writes log doubt piece (R.Refused F.NoMemory) after Adding plain behind = absurd plain
 plain_writes log doubt piece (R.Refused (F.NoPermission name)) after Adding plain behind = absurd plain
 plain_writes log doubt piece (R.Refused F.StoreFault) after Adding plain behind = inr behind
 plain_writes log doubt piece _ after Adding plain behind = behind
 
--- a doubt is one of an event
-pub mapped_some : {A B : Type 0} (f : A → B) (o : Option A) → IsSome o → IsSome (option_map f o)
-mapped_some f None some = some
-mapped_some f (Some x) some = refl
+-- a doubt is one of events
+pub mapped_some : {A B : Type 0} (f : A → B) (xs : List A) → xs ≢ [] → map f xs ≢ []
+mapped_some f [] some = absurd (some refl)
+mapped_some f (x ∷ xs) some = λ is. cc
 
 -- nothing of the doubt was kept
-pub without_doubt : (log : List Event) (doubt : Option Event) (piece : List Event) (Adding : List Event → List Event → Type 0) → Adding log piece → BehindDoubt log doubt piece Adding
-without_doubt log None piece Adding adds = adds
-without_doubt log (Some event) piece Adding adds = inl adds
+pub without_doubt : (log : List Event) (doubt : List Event) (piece : List Event) (Adding : List Event → List Event → Type 0) → Adding log piece → BehindDoubt log doubt piece Adding
+without_doubt log [] piece Adding adds = adds
+without_doubt log (event ∷ more) piece Adding adds = inl adds
 
 -- ---- before the log decides
 
@@ -186,7 +192,7 @@ module _ (basis : Basis) (command : Command) (writing : IsWriting basis command)
   wants_memory permitted =
       early (R.Refused F.NoMemory) (writing.no_memory permitted) (refl, refl) (λ never. absurd never) (allowed_step (R.Refused F.NoMemory) before permitted (inl (refl, refl)))
 
-  pub fails_mend : lacked command ≡ None → IsSome before.doubt → DiskFailed disk disk' → Does basis before disk command (R.Refused F.StoreFault) before disk'
+  pub fails_mend : lacked command ≡ None → before.doubt ≢ [] → DiskFailed disk disk' → Does basis before disk command (R.Refused F.StoreFault) before disk'
   fails_mend permitted doubt failed = early (R.Refused F.StoreFault) (writing.store_fault permitted)
       (inl (mapped_some (λ change. event_of basis (keep change)) before.doubt doubt, (refl, refl))) (λ is. failed)
       (allowed_step (R.Refused F.StoreFault) before permitted (inr (inl (doubt, (refl, refl)))))
@@ -242,7 +248,7 @@ module _ (basis : Basis) (command : Command) (writing : IsWriting basis command)
 module _ (basis : Basis) (log : List Change) (disk disk' : DiskTold) (command : Command) where
   -- an answer: nothing is written
   pub answered : (said : Reply) → Looks disk disk' → (IsTrue basis.is_told → (image : List ℕ) → disk.images image → Allowed (settled log) image) → IsReplyTo command said → IsSettledReply said
-      → (IsStoreFault said → DiskFailed disk disk') → Adds basis command said None (events basis log) []
+      → (IsStoreFault said → DiskFailed disk disk') → Adds basis command said [] (events basis log) []
       → (IsTrue basis.is_told → IsSomeAnd (decide basis log command) (λ decision. Decides basis log decision said (settled log)) ⊎ FailsRead basis log command said (settled log))
       → IsDecided basis log disk command said (settled log) disk'
   answered said looks allowed kind plain fault adds decides = record {
@@ -271,16 +277,16 @@ module _ (basis : Basis) (log : List Change) (disk disk' : DiskTold) (command : 
     pub full_kind : IsReplyTo command (R.Refused F.JournalFull)
     pub plain : IsSettledReply written
     pub no_fault : IsStoreFault written → ⊥
-    pub adds : Adds basis command written None (events basis log) (event_of basis (keep change) ∷ [])
-    pub fault_adds : Adds basis command (R.Refused F.StoreFault) (Some (event_of basis (keep change))) (events basis log) []
-    pub full_adds : Adds basis command (R.Refused F.JournalFull) None (events basis log) []
+    pub adds : Adds basis command written [] (events basis log) (event_of basis (keep change) ∷ [])
+    pub fault_adds : Adds basis command (R.Refused F.StoreFault) (event_of basis (keep change) ∷ []) (events basis log) []
+    pub full_adds : Adds basis command (R.Refused F.JournalFull) [] (events basis log) []
 
   module _ (change told : Kept) (written : Reply) (may : MayAppend change written) (same : IsTrue basis.is_told → change ≡ told) (is : IsTrue basis.is_told → decide basis log command ≡ Some (appends told written)) where
     decides_to : (b : Bool) (reply : Reply) (after : State) → IsTrue basis.is_told → has_room basis log change ≡ b
-        → IfElse b (((reply ≡ written) × (after ≡ settled (log ++ keep change ∷ []))) ⊎ ((reply ≡ R.Refused F.StoreFault) × (after ≡ record { log = log; doubt = Some change })))
+        → IfElse b (((reply ≡ written) × (after ≡ settled (log ++ keep change ∷ []))) ⊎ ((reply ≡ R.Refused F.StoreFault) × (after ≡ record { log = log; doubt = change ∷ [] })))
         ((reply ≡ R.Refused F.JournalFull) × (after ≡ settled log)) → IsSomeAnd (decide basis log command) (λ d. Decides basis log d reply after) ⊎ FailsRead basis log command reply after
     decides_to b reply after is_told room ends =
-        let P : Bool → Type 0 = λ x. IfElse x (((reply ≡ written) × (after ≡ settled (log ++ keep change ∷ []))) ⊎ ((reply ≡ R.Refused F.StoreFault) × (after ≡ record { log = log; doubt = Some change })))
+        let P : Bool → Type 0 = λ x. IfElse x (((reply ≡ written) × (after ≡ settled (log ++ keep change ∷ []))) ⊎ ((reply ≡ R.Refused F.StoreFault) × (after ≡ record { log = log; doubt = change ∷ [] })))
         ((reply ≡ R.Refused F.JournalFull) × (after ≡ settled log)) in
         let here : Appends basis log change written reply after = subst P (sym room) ends in
         decided_as (appends told written) reply after (is is_told) (subst (λ (k : Kept). Appends basis log k written reply after) (same is_told) here)
@@ -292,7 +298,7 @@ module _ (basis : Basis) (log : List Change) (disk disk' : DiskTold) (command : 
       own = keep change ∷ [];
       behind = ap (λ (s : State). s.log) did.ends.0;
       adds = subst (λ (s : State). Adds basis command reply (doubted basis s) (events basis log) (event_of basis (keep change) ∷ [])) (sym did.ends.0)
-          (subst (λ (r : Reply). Adds basis command r None (events basis log) (event_of basis (keep change) ∷ [])) (sym said) may.adds);
+          (subst (λ (r : Reply). Adds basis command r [] (events basis log) (event_of basis (keep change) ∷ [])) (sym said) may.adds);
       goes_on = did.goes_on;
       fault = λ fault. absurd (may.no_fault (subst IsStoreFault said fault));
       decides = λ is_told. decides_to true reply after is_told (did.ends.1 is_told) (inl (said, did.ends.0));
@@ -304,7 +310,7 @@ module _ (basis : Basis) (log : List Change) (disk disk' : DiskTold) (command : 
       own = [];
       behind = ap (λ (s : State). s.log) did.ends.0 ∙ sym (append-nil log);
       adds = subst (λ (s : State). Adds basis command reply (doubted basis s) (events basis log) []) (sym did.ends.0)
-          (subst (λ (r : Reply). Adds basis command r (Some (event_of basis (keep change))) (events basis log) []) (sym said) may.fault_adds);
+          (subst (λ (r : Reply). Adds basis command r (event_of basis (keep change) ∷ []) (events basis log) []) (sym said) may.fault_adds);
       goes_on = did.goes_on;
       fault = λ fault. did.ends.1;
       decides = λ is_told. decides_to true reply after is_told (did.ends.2 is_told) (inr (said, did.ends.0));
@@ -316,7 +322,7 @@ module _ (basis : Basis) (log : List Change) (disk disk' : DiskTold) (command : 
       own = [];
       behind = ap (λ (s : State). s.log) did.ends.0 ∙ sym (append-nil log);
       adds = subst (λ (s : State). Adds basis command reply (doubted basis s) (events basis log) []) (sym did.ends.0)
-          (subst (λ (r : Reply). Adds basis command r None (events basis log) []) (sym said) may.full_adds);
+          (subst (λ (r : Reply). Adds basis command r [] (events basis log) []) (sym said) may.full_adds);
       goes_on = did.goes_on;
       fault = λ fault. absurd (subst IsStoreFault said fault);
       decides = λ is_told. decides_to false reply after is_told (did.ends.1 is_told) (said, did.ends.0);

@@ -1,5 +1,5 @@
 -- What is kept of each accepted crash at its number.
-use Rattle.std.proofs.Common.{◌≡◌, ℕ, zero, suc, ◌<◌, Bool, true, false, cond, ◌||◌, List, [], ◌∷◌, ◌++◌, length, map, Option, Some, None, IfSome, IsSome, sym, ap, subst, ◌∙◌, refl, append_assoc, arith}
+use Rattle.std.proofs.Common.{◌≡◌, ℕ, zero, suc, ◌<◌, true, false, cond, ◌||◌, List, [], ◌∷◌, ◌++◌, length, map, Option, Some, None, IfSome, IsSome, sym, ap, subst, ◌∙◌, refl, append_assoc, arith}
 use Rattle.std.specs.Prelude.{bytes_eq, slice_get}
 use Rattle.std.specs.List.{AllByRecursion, find}
 use Rattle.std.specs.Option.{option_map_or, option_and_then}

@@ -3,6 +3,7 @@ pub mod Changes
 pub mod Deciding
 pub mod Dispatch
 pub mod Filing
+pub mod Gatherings
 pub mod Keepings
 pub mod Kept
 pub mod Listings

@@ -23,7 +23,7 @@ use Rattle.soc_vault.specs.Vaults.{Means}
 use Rattle.soc_desk.specs.declared.desk.Limits.{Limits}
 use Rattle.soc_desk.specs.declared.desk.Refusal.TheVariants as F
 use Rattle.soc_desk.specs.Basis.{Basis}
-use Rattle.soc_desk.specs.Log.{Change, Accepted, Kept, accepted_of, events, raw_of, row_in, IsLegal}
+use Rattle.soc_desk.specs.Log.{Change, Accepted, accepted_of, events, raw_of, row_in, IsLegal}
 use Rattle.soc_desk.specs.State.{State, Allowed, Survives, entry_of, entries_of, kept_of}
 use Rattle.soc_desk.specs.View.{seen_of, view_of, is_in}
 use Rattle.soc_desk.proofs.Logs.{accepted_apart}
@@ -136,30 +136,25 @@ module _ (basis : Basis) (limits : Limits) (ledger : LedgerState) (rows : List (
 
   -- ---- stops
 
-  image_of : (entries : List Entry) (doubt : Option Entry) → Means disk journal entries doubt → (image : List ℕ) → disk.images image → JournalText entries image ⊎ IsSomeAnd doubt (λ entry. JournalText (entries ++ entry ∷ []) image)
-  image_of entries None means image may =
-      elim disk.content as (λ o. IsSomeAnd o (λ bytes. AtRest journal entries bytes disk.images) → JournalText entries image ⊎ ⊥) [
+  image_of : (entries doubt : List Entry) → Means disk journal entries doubt → (image : List ℕ) → disk.images image → JournalText entries image ⊎ JournalText (entries ++ doubt) image
+  image_of entries [] means image may =
+      elim disk.content as (λ o. IsSomeAnd o (λ bytes. AtRest journal entries bytes disk.images) → JournalText entries image ⊎ JournalText (entries ++ []) image) [
         | None ↦ λ never. absurd never
         | Some bytes ↦ λ rests. inl (JournalText-each journal entries bytes disk.images rests image may)
       ] means
-  image_of entries (Some entry) means image may =
-      elim disk.content as (λ o. IsSomeAnd o (λ bytes. InDoubt journal entries entry bytes disk.images) → JournalText entries image ⊎ JournalText (entries ++ entry ∷ []) image) [
+  image_of entries (first ∷ more) means image may =
+      elim disk.content as (λ o. IsSomeAnd o (λ bytes. InDoubt journal entries (first ∷ more) bytes disk.images) → JournalText entries image ⊎ JournalText (entries ++ first ∷ more) image) [
         | None ↦ λ never. absurd never
         | Some bytes ↦ λ doubts. doubts.each image may
       ] means
-
-  with_doubt : (kept : List Kept) (doubt : Option Kept) (image : List ℕ) → IsSomeAnd (option_map entry_of doubt) (λ entry. JournalText (entries_of kept ++ entry ∷ []) image)
-      → IsSomeAnd doubt (λ change. JournalText (entries_of (kept ++ change ∷ [])) image)
-  with_doubt kept None image never = never
-  with_doubt kept (Some change) image text = subst (λ l. JournalText l image) (sym (map-append entry_of kept (change ∷ []))) text
 
   -- each image that a stop may leave is allowed
   pub allowed_now : IsTrue basis.is_told → (image : List ℕ) → disk.images image → Allowed state image
   allowed_now is_told image may =
       ⊎_elim
       (λ (text : JournalText (entries_of (kept_of state.log)) image). inl text)
-      (λ (text : IsSomeAnd (option_map entry_of state.doubt) (λ entry. JournalText (entries_of (kept_of state.log) ++ entry ∷ []) image)). inr (with_doubt (kept_of state.log) state.doubt image text))
-      (image_of (entries_of (kept_of state.log)) (option_map entry_of state.doubt) (stands.told is_told).means image may)
+      (λ (text : JournalText (entries_of (kept_of state.log) ++ entries_of state.doubt) image). inr (subst (λ l. JournalText l image) (sym (map-append entry_of (kept_of state.log) state.doubt)) text))
+      (image_of (entries_of (kept_of state.log)) (entries_of state.doubt) (stands.told is_told).means image may)
 
   -- looking at the disk leaves what was allowed
   pub survives_looking : (disk' : DiskTold) (after : State) → IsTrue basis.is_told → Looks disk disk' → Survives disk disk' state after

@@ -1,5 +1,5 @@
 -- What a book opens with, from what its journal's entries gave.
-use Rattle.std.proofs.Common.{◌≡◌, ℕ, ◌<◌, ◌^◌, Bool, true, false, IsTrue, List, map, Option, Some, None, IfSome, IsSome, IsSomeAnd, inl, inr, sym, ap, subst, ◌∙◌, refl, arith}
+use Rattle.std.proofs.Common.{◌≡◌, ℕ, ◌<◌, ◌^◌, Bool, true, false, IsTrue, List, [], map, Option, Some, None, IfSome, IsSome, IsSomeAnd, inl, inr, sym, ap, subst, ◌∙◌, refl, arith}
 use Rattle.std.proofs.lemmas.Option.{IfSome_then}
 use Rattle.soc_raw.specs.Record.{Crash}
 use Rattle.soc_schema.specs.declared.value.Cell.{Cell}
@@ -84,8 +84,8 @@ module _ (own : Option (List ℕ)) (ledger : LedgerState) (rows : Rows) (limits 
   abbrev log : List Change
   log = log_of (map (as_told basis.is_told) opens.given.kept)
 
-  means : IsTrue basis.is_told → Means after journal opens.entries None
-  means is_told = some_told before.content (Means after journal opens.entries None) (is.tells is_told) opens.means (λ bytes here. here)
+  means : IsTrue basis.is_told → Means after journal opens.entries []
+  means is_told = some_told before.content (Means after journal opens.entries []) (is.tells is_told) opens.means (λ bytes here. here)
 
   begins : IsTrue basis.is_told → opens.start ≡ first_gate
   begins is_told =
@@ -107,7 +107,7 @@ module _ (own : Option (List ℕ)) (ledger : LedgerState) (rows : Rows) (limits 
     limit = ap (λ (j : JournalState). j.limit) opens.journal_is ∙ (limit_is ∙ sym is.bytes);
     short = let same = is.bytes in omega (arith, same, limit_is, small);
     told = λ is_told. record {
-      means = subst (λ (es : List Entry). Means after journal es None) (sym (all_by basis.is_told is_told)) (means is_told);
+      means = subst (λ (es : List Entry). Means after journal es []) (sym (all_by basis.is_told is_told)) (means is_told);
       fits = tt;
     };
   }
@@ -117,7 +117,7 @@ module _ (own : Option (List ℕ)) (ledger : LedgerState) (rows : Rows) (limits 
     entries = opens.entries;
     log = log;
     found = opens.found;
-    opens = record { kept = opens.given.kept; are = opens.given.are basis; log_is = refl };
+    opens = record { kept = opens.given.kept; are = opens.given.are basis; only = opens.given.only basis; log_is = refl };
     now = stands;
     stands = opens.stands;
   }

@@ -1,9 +1,9 @@
 -- The tables once a change is added to them stand for the log with that change.
-use Rattle.std.proofs.Common.{◌≡◌, ◌≢◌, ℕ, ◌+◌, ◌<◌, ◌^◌, Bool, true, false, IsTrue, List, [], ◌∷◌, ◌++◌, length, map, Option, Some, None, IfSome, IsSome, sym, ap, subst, ◌∙◌, refl, arith, length-append, inl, inr}
-use Rattle.std.specs.Prelude.{bytes_eq, is_some}
+use Rattle.std.proofs.Common.{◌≡◌, ◌≢◌, ℕ, ◌+◌, ◌<◌, ◌^◌, Bool, true, false, not, ◌&&◌, IsTrue, List, [], ◌∷◌, ◌++◌, length, map, Option, Some, None, IfSome, IsSome, sym, ap, subst, ◌∙◌, refl, arith, length-append, inl, inr}
+use Rattle.std.specs.Prelude.{bytes_eq, is_some, if◌then◌else◌}
 use Rattle.std.specs.Option.{option_map, option_map_or}
 use Rattle.std.proofs.lemmas.Bool.{cases_lt}
-use Rattle.std.proofs.lemmas.List.{append-nil}
+use Rattle.std.proofs.lemmas.List.{append-nil, append_assoc}
 use Rattle.std.proofs.lemmas.Option.{IfSome_then}
 use Rattle.std.proofs.lemmas.Slice.Eq.{bytes_eq-Decides}
 use Rattle.soc_raw.specs.Record.{Crash, head_text, content_text, record_of}
@@ -13,11 +13,12 @@ use Rattle.soc_journal.specs.Entries.{Entry, head_size, place_behind}
 use Rattle.soc_ledger.specs.declared.crash.Filed.{Filed}
 use Rattle.soc_ledger.specs.declared.event.Event.{Event}
 use Rattle.soc_ledger.specs.declared.event.Event.TheVariants as E
-use Rattle.soc_ledger.specs.Due.{is_due}
+use Rattle.soc_ledger.specs.Due.{due_after, due_since, is_due}
 use Rattle.soc_ledger.specs.Events.{was_accepted, accepted_ids, is_among}
 use Rattle.soc_ledger.specs.State.{LedgerState, id_of, with_event}
 use Rattle.soc_ledger.proofs.Lists.{AreDistinct, true_is_not_false, same_text, all-weaker}
 use Rattle.soc_ledger.proofs.Logs.{distinct_ids, not_true}
+use Rattle.soc_ledger.proofs.More.{due_since-more}
 use Rattle.soc_store.specs.Stored.{row_at, without_row}
 use Rattle.soc_store.proofs.StoreLemmas.{rise_without}
 use Rattle.soc_desk.specs.Basis.{Basis}
@@ -28,8 +29,8 @@ use Rattle.soc_book.specs.declared.book.Change.{Change as Pending}
 use Rattle.soc_book.specs.declared.book.Change.TheVariants as P
 use Rattle.soc_book.specs.declared.submission.NewCrash.{NewCrash}
 use Rattle.soc_book.specs.inner.Books.{Tells}
-use Rattle.soc_book.specs.inner.Stands.{Fits, IsFiledAt, Pushes, IsFiledOf, IsFiled, AreFiled, HasRow, HasRows, Holds, IsPending}
-use Rattle.soc_book.proofs.Changes.{accepted-more, entries-more, ids_of-log}
+use Rattle.soc_book.specs.inner.Stands.{ArePending, AreReports, Fits, IsFiledAt, Pushes, IsFiledOf, IsFiled, AreFiled, HasRow, HasRows, Holds, IsPending, with_reports}
+use Rattle.soc_book.proofs.Changes.{accepted-more, entries-more, ids_of-log, legal-front}
 use Rattle.soc_book.proofs.Filing.{AreFiled-more, AreFiled-push, filed_ids, id_of-front, id_of-last, among_ids, distinct_numbers}
 use Rattle.soc_book.proofs.Rows.{row_accept, row_ask, row_new, row_others, row_report, row_withdrawn, row_at-others, row_at-taken, no_row_past, all_left}
 
@@ -215,7 +216,66 @@ module _ (basis : Basis) (log : List Change) (ledger : LedgerState) (rows : List
   pushed (P.Withdraw number) (withdraw id) place ledger' rows' fits is placed (same_ledger, same_rows) =
       subst (λ x. Holds basis (log ++ keep (withdraw x) ∷ []) ledger' rows') is
       (moved (log ++ keep (withdraw (id_of ledger number)) ∷ []) (with_event ledger (E.Withdrawn (id_of ledger number))) ledger' (without_row number rows) rows' same_ledger same_rows (pushed_withdraw number fits.1))
-  pushed (P.Report number) (report made) place ledger' rows' fits is placed (same_ledger, same_rows) =
-      moved (log ++ keep (report made) ∷ []) (with_event ledger (E.Reported (id_of ledger number) true)) ledger' rows rows' same_ledger same_rows
-      (pushed_report made (id_of ledger number) is.0 is.1 (not_true (is_due now made.id) is.2))
   pushed _ _ place ledger' rows' fits is placed pushes = absurd is
+
+-- ---- reports, one behind the other
+
+idle_reported : (basis : Basis) (log : List Change) (made : KeptReport) (id : List ℕ) → is_due (events basis log) id ≡ false → is_due (events basis (log ++ keep (report made) ∷ [])) id ≡ false
+idle_reported basis log made id idle =
+    let event = E.Reported made.id (is_own basis made.digest) in
+    ap (λ l. is_due l id) (events-more basis log (keep (report made)))
+    ∙ (ap is_some (due_since-more (events basis log) event id)
+    ∙ ap is_some (ap (due_after id event (length (events basis log))) (none_due (due_since (events basis log) id) idle) ∙ still (bytes_eq made.id id && is_own basis made.digest))) where
+      none_due : (o : Option ℕ) → is_some o ≡ false → o ≡ None
+      none_due None none = refl
+      none_due (Some place) none = absurd (true_is_not_false none)
+
+      still : (b : Bool) → ◌≡◌ {A = Option ℕ} (if b then None else None) None
+      still true = refl
+      still false = refl
+
+later_reports : (basis : Basis) (log : List Change) (made : KeptReport) (ledger : LedgerState) (event : Event) (numbers : List ℕ) (changes : List Kept) → AreReports basis log ledger numbers changes
+    → AreReports basis (log ++ keep (report made) ∷ []) (with_event ledger event) numbers changes
+later_reports basis log made ledger event [] [] are = tt
+later_reports basis log made ledger event [] (change ∷ changes) are = absurd are
+later_reports basis log made ledger event (number ∷ numbers) [] are = absurd are
+later_reports basis log made ledger event (number ∷ numbers) (report other ∷ changes) (is, are) =
+    ((is.0, is.1, ap not (idle_reported basis log made other.id (not_true (is_due (events basis log) other.id) is.2))), later_reports basis log made ledger event numbers changes are)
+later_reports basis log made ledger event (number ∷ numbers) (accept crash ∷ changes) (is, are) = absurd is
+later_reports basis log made ledger event (number ∷ numbers) (ask id ∷ changes) (is, are) = absurd is
+later_reports basis log made ledger event (number ∷ numbers) (withdraw id ∷ changes) (is, are) = absurd is
+
+pub pushed_reports : (basis : Basis) (numbers : List ℕ) (changes : List Kept) (log : List Change) (ledger : LedgerState) (rows : List (ℕ × List Cell)) → IsLegal basis (log ++ map keep changes) → Holds basis log ledger rows
+    → AreReports basis log ledger numbers changes → Holds basis (log ++ map keep changes) (with_reports ledger numbers) rows
+pushed_reports basis [] [] log ledger rows legal holds are = subst (λ (l : List Change). Holds basis l ledger rows) (sym (append-nil log)) holds
+pushed_reports basis [] (change ∷ changes) log ledger rows legal holds are = absurd are
+pushed_reports basis (number ∷ numbers) [] log ledger rows legal holds are = absurd are
+pushed_reports basis (number ∷ numbers) (accept crash ∷ changes) log ledger rows legal holds (is, are) = absurd is
+pushed_reports basis (number ∷ numbers) (ask id ∷ changes) log ledger rows legal holds (is, are) = absurd is
+pushed_reports basis (number ∷ numbers) (withdraw id ∷ changes) log ledger rows legal holds (is, are) = absurd is
+pushed_reports basis (number ∷ numbers) (report made ∷ changes) log ledger rows legal holds (is, are) =
+    let event = E.Reported (id_of ledger number) true in
+    let one = log ++ keep (report made) ∷ [] in
+    let first : Holds basis one (with_event ledger event) rows =
+    pushed_report basis log ledger rows (legal-front basis log (map keep (report made ∷ changes)) legal) holds made (id_of ledger number) is.0 is.1 (not_true (is_due (events basis log) made.id) is.2) in
+    let all : IsLegal basis (one ++ map keep changes) = subst (IsLegal basis) (sym (append_assoc log (keep (report made) ∷ []) (map keep changes))) legal in
+    subst (λ (l : List Change). Holds basis l (with_reports (with_event ledger event) numbers) rows) (append_assoc log (keep (report made) ∷ []) (map keep changes))
+    (pushed_reports basis numbers changes one (with_event ledger event) rows all first (later_reports basis log made ledger event numbers changes are))
+
+-- ---- all changes that waited
+
+pub pushed_all : (basis : Basis) (log : List Change) (ledger : LedgerState) (rows : List (ℕ × List Cell)) → IsLegal basis log → Holds basis log ledger rows → (pending : Pending) (changes : List Kept) (place : ℕ) (ledger' : LedgerState) (rows' : List (ℕ × List Cell))
+    → IsLegal basis (log ++ map keep changes) → Fits ledger pending → ArePending basis log ledger (Some pending) changes → ((change : Kept) → changes ≡ change ∷ [] → IsTrue basis.is_told → IsPlaced basis log change place)
+    → Pushes ledger rows pending place ledger' rows' → Holds basis (log ++ map keep changes) ledger' rows'
+pushed_all basis log ledger rows legal holds (P.Reports numbers) [] place ledger' rows' next fits are placed pushes = absurd are
+pushed_all basis log ledger rows legal holds (P.Reports numbers) (first ∷ more) place ledger' rows' next fits are placed (same_ledger, same_rows) =
+    moved basis log ledger rows legal holds (log ++ map keep (first ∷ more)) (with_reports ledger numbers.items) ledger' rows rows' same_ledger same_rows (pushed_reports basis numbers.items (first ∷ more) log ledger rows next holds are)
+pushed_all basis log ledger rows legal holds (P.Accept new) (change ∷ []) place ledger' rows' next fits are placed pushes = pushed basis log ledger rows legal holds (P.Accept new) change place ledger' rows' fits are (placed change refl) pushes
+pushed_all basis log ledger rows legal holds (P.Ask number) (change ∷ []) place ledger' rows' next fits are placed pushes = pushed basis log ledger rows legal holds (P.Ask number) change place ledger' rows' fits are (placed change refl) pushes
+pushed_all basis log ledger rows legal holds (P.Withdraw number) (change ∷ []) place ledger' rows' next fits are placed pushes = pushed basis log ledger rows legal holds (P.Withdraw number) change place ledger' rows' fits are (placed change refl) pushes
+pushed_all basis log ledger rows legal holds (P.Accept new) [] place ledger' rows' next fits are placed pushes = absurd are
+pushed_all basis log ledger rows legal holds (P.Ask number) [] place ledger' rows' next fits are placed pushes = absurd are
+pushed_all basis log ledger rows legal holds (P.Withdraw number) [] place ledger' rows' next fits are placed pushes = absurd are
+pushed_all basis log ledger rows legal holds (P.Accept new) (change ∷ other ∷ more) place ledger' rows' next fits are placed pushes = absurd are
+pushed_all basis log ledger rows legal holds (P.Ask number) (change ∷ other ∷ more) place ledger' rows' next fits are placed pushes = absurd are
+pushed_all basis log ledger rows legal holds (P.Withdraw number) (change ∷ other ∷ more) place ledger' rows' next fits are placed pushes = absurd are

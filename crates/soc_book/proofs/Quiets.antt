@@ -1,11 +1,11 @@
 -- Changes that the journal doesn't keep: a crash was processed, or the service was stopped.
-use Rattle.std.proofs.Common.{◌≡◌, ℕ, ◌-◌, ◌<◌, ◌≤◌, Bool, true, false, not, ◌&&◌, ◌||◌, IsTrue, List, [], ◌∷◌, ◌++◌, length, reverse, Option, Some, None, IfSome, IsSome, sym, ap, subst, ◌∙◌, refl, arith, ⊎_elim}
-use Rattle.std.specs.Prelude.{◌+◌, bytes_eq, filter_map, is_some, nat_le, if◌then◌else◌}
+use Rattle.std.proofs.Common.{◌≡◌, ℕ, ◌-◌, ◌<◌, ◌≤◌, Bool, true, false, not, ◌&&◌, ◌||◌, IsTrue, List, [], ◌∷◌, ◌++◌, length, map, reverse, Option, Some, None, IfSome, IsSome, sym, ap, subst, ◌∙◌, refl, arith, ⊎_elim}
+use Rattle.std.specs.Prelude.{◌+◌, bytes_eq, is_some, if◌then◌else◌}
 use Rattle.std.specs.List.{AllByRecursion, cons_option, find, list_any}
 use Rattle.std.specs.Option.{option_map, option_and_then}
 use Rattle.std.proofs.lemmas.Bool.{cases_eq, ne_eqb}
 use Rattle.std.proofs.lemmas.Cmp.{nat_cmp_total}
-use Rattle.std.proofs.lemmas.List.{append-nil}
+use Rattle.std.proofs.lemmas.List.{append-nil, append_assoc}
 use Rattle.std.proofs.lemmas.List.Elements.{filter_map-append}
 use Rattle.std.proofs.lemmas.Slice.Eq.{bytes_eq-Decides}
 use Rattle.soc_schema.specs.declared.value.Cell.{Cell}
@@ -13,13 +13,13 @@ use Rattle.soc_store.specs.Stored.{row_at, with_row}
 use Rattle.soc_store.proofs.StoreLemmas.{rise_with}
 use Rattle.soc_store.proofs.Tables.{at_key-same, at_key-other, all_made}
 use Rattle.soc_edge.specs.Disk.{DiskTold}
-use Rattle.soc_journal.specs.Entries.{place_behind, beside_body}
+use Rattle.soc_journal.specs.Entries.{place_behind, sealed_all}
 use Rattle.soc_journal.specs.States.{JournalState}
 use Rattle.soc_vault.specs.Vaults.{Means}
 use Rattle.soc_ledger.specs.declared.event.Event.{Event}
 use Rattle.soc_ledger.specs.declared.event.Event.TheVariants as E
 use Rattle.soc_ledger.specs.Due.{is_due, due_since, due_after}
-use Rattle.soc_ledger.specs.Events.{accepted_in as accepts, withdrawn_in as withdraws, accepted_ids, is_among, is_held, was_accepted}
+use Rattle.soc_ledger.specs.Events.{accepted_in as accepts, withdrawn_in as withdraws, accepted_ids, withdrawn_ids, is_among, is_held, was_accepted, was_withdrawn}
 use Rattle.soc_ledger.specs.Legal.{IsLegalBack, IsLegalNext, IsLegal as AreLegal}
 use Rattle.soc_ledger.specs.Reported.{has_report, reported_after, reported_back}
 use Rattle.soc_ledger.specs.State.{LedgerState, id_of, with_event}
@@ -28,12 +28,13 @@ use Rattle.soc_ledger.proofs.More.{accepted_ids-more, due_since-more}
 use Rattle.soc_desk.specs.declared.desk.Limits.{Limits}
 use Rattle.soc_desk.specs.Basis.{Basis}
 use Rattle.soc_desk.specs.Log.{Kept, accept, ask, withdraw, report, Change, keep, done, stop, accepted_in, accepted_of, event_of, events, raw_of, row_in, AreSoundBack, IsSound, IsLegal}
-use Rattle.soc_desk.specs.State.{State, body_of, entry_of, entries_of, kept_in, kept_of, has_room}
+use Rattle.soc_desk.specs.State.{State, entries_of, kept_in, kept_of}
 use Rattle.soc_desk.proofs.Logs.{has_id, events-more, held_plain, reverse-more, reverse-twice, row_in-more, was_accepted-is}
 use Rattle.soc_desk.proofs.Views.{true_is_not_false}
 use Rattle.soc_book.specs.declared.book.Change.{Change as Pending}
 use Rattle.soc_book.specs.declared.book.Change.TheVariants as P
-use Rattle.soc_book.specs.inner.Stands.{AreFiled, ArePending, IsPending, Fits, HasRow, HasRows, IsOnDisk, IsSafe, Stands}
+use Rattle.soc_book.specs.inner.Stands.{AreFiled, AreHeld, ArePending, AreReports, FitJournal, IsPending, Fits, HasRow, HasRows, IsOnDisk, IsSafe, Stands, most_reports}
+use Rattle.soc_book.proofs.Changes.{accepted-more, legal-front}
 use Rattle.soc_book.proofs.Listings.{is_eq-nat}
 
 -- the journal keeps nothing of the change, and it accepts and withdraws no crash
@@ -58,6 +59,73 @@ stop_quiet = record { accepts_none = refl; kept_none = refl; event_accepts = λ 
 none_due : (o : Option ℕ) → is_some o ≡ false → o ≡ None
 none_due None none = refl
 none_due (Some place) none = absurd (true_is_not_false none)
+
+-- ---- logs that tell the same of which crashes are held
+
+record IsAlike (basis : Basis) (log later : List Change) : Type 0 where
+  pub accepted : accepted_of later ≡ accepted_of log
+  pub withdrawn : withdrawn_ids (events basis later) ≡ withdrawn_ids (events basis log)
+
+module _ (basis : Basis) (log later : List Change) (same : IsAlike basis log later) where
+  was_alike : (id : List ℕ) → was_accepted (events basis later) id ≡ was_accepted (events basis log) id
+  was_alike id = was_accepted-is basis later id ∙ (ap (list_any (has_id id)) same.accepted ∙ sym (was_accepted-is basis log id))
+
+  held_alike : (id : List ℕ) → is_held (events basis later) id ≡ is_held (events basis log) id
+  held_alike id =
+      ap (λ b. b && not (was_withdrawn (events basis later) id)) (was_alike id)
+      ∙ ap (λ ids. was_accepted (events basis log) id && not (is_among ids id)) same.withdrawn
+
+  raw_alike : (id : List ℕ) → raw_of later id ≡ raw_of log id
+  raw_alike id = ap (λ l. option_and_then (λ c. c.raw) (find (has_id id) l)) same.accepted
+
+  alike_more : (change : Change) → IsAlike basis (log ++ change ∷ []) (later ++ change ∷ [])
+  alike_more change = record {
+    accepted = accepted-more later change ∙ (ap (λ l. l ++ accepted_of (change ∷ [])) same.accepted ∙ sym (accepted-more log change));
+    withdrawn = ap withdrawn_ids (events-more basis later change)
+        ∙ (filter_map-append withdraws (events basis later) (event_of basis change ∷ [])
+        ∙ (ap (λ l. l ++ withdrawn_ids (event_of basis change ∷ [])) same.withdrawn
+        ∙ (sym (filter_map-append withdraws (events basis log) (event_of basis change ∷ []))
+        ∙ sym (ap withdrawn_ids (events-more basis log change)))));
+  }
+
+  last_legal : (kept : Kept) → IsLegal basis (log ++ keep kept ∷ []) → IsLegalNext (events basis log) (event_of basis (keep kept))
+  last_legal kept legal =
+      let back : IsLegalBack (event_of basis (keep kept) ∷ reverse (events basis log)) =
+      subst IsLegalBack (ap reverse (events-more basis log (keep kept)) ∙ reverse-more (events basis log) (event_of basis (keep kept))) legal.events_legal in
+      subst (λ (l : List Event). IsLegalNext l (event_of basis (keep kept))) (reverse-twice (events basis log)) back.0
+
+  last_sound : (kept : Kept) → IsLegal basis (log ++ keep kept ∷ []) → IsSound log (keep kept)
+  last_sound kept legal =
+      let back : AreSoundBack (keep kept ∷ reverse log) = subst AreSoundBack (reverse-more log (keep kept)) legal.sound in
+      subst (λ (l : List Change). IsSound l (keep kept)) (reverse-twice log) back.0
+
+  still_legal : (kept : Kept) → IsLegalNext (events basis log) (event_of basis (keep kept)) → IsLegalNext (events basis later) (event_of basis (keep kept))
+  still_legal (accept crash) legal = ap not (was_alike crash.id) ∙ legal
+  still_legal (ask id) legal = held_alike id ∙ legal
+  still_legal (withdraw id) legal = held_alike id ∙ legal
+  still_legal (report made) legal = held_alike made.id ∙ legal
+
+  still_sound : (kept : Kept) → IsSound log (keep kept) → IsSound later (keep kept)
+  still_sound (accept crash) sound = sound
+  still_sound (ask id) sound = tt
+  still_sound (withdraw id) sound = tt
+  still_sound (report made) sound = rw (raw_alike made.id) sound
+
+  legal_doubt : (kept : Kept) → IsLegal basis later → IsLegal basis (log ++ keep kept ∷ []) → IsLegal basis (later ++ keep kept ∷ [])
+  legal_doubt kept legal doubt = record {
+    events_legal = subst AreLegal (sym (events-more basis later (keep kept))) (legal-more (events basis later) (event_of basis (keep kept)) legal.events_legal (still_legal kept (last_legal kept doubt)));
+    sound = subst AreSoundBack (sym (reverse-more later (keep kept))) (subst (λ (l : List Change). IsSound l (keep kept)) (sym (reverse-twice later)) (still_sound kept (last_sound kept doubt)), legal.sound);
+    told = λ is_told. subst (AllByRecursion (λ crash. IsSome crash.raw)) (sym (alike_more (keep kept)).accepted) (doubt.told is_told);
+  }
+
+-- the same kept changes may follow both
+legal_alike : (basis : Basis) (changes : List Kept) (log later : List Change) → IsAlike basis log later → IsLegal basis later → IsLegal basis (log ++ map keep changes) → IsLegal basis (later ++ map keep changes)
+legal_alike basis [] log later same legal doubtful = subst (IsLegal basis) (sym (append-nil later)) legal
+legal_alike basis (change ∷ changes) log later same legal doubtful =
+    let all : IsLegal basis ((log ++ keep change ∷ []) ++ map keep changes) = subst (IsLegal basis) (sym (append_assoc log (keep change ∷ []) (map keep changes))) doubtful in
+    let first : IsLegal basis (later ++ keep change ∷ []) = legal_doubt basis log later same change legal (legal-front basis (log ++ keep change ∷ []) (map keep changes) all) in
+    subst (IsLegal basis) (append_assoc later (keep change ∷ []) (map keep changes))
+    (legal_alike basis changes (log ++ keep change ∷ []) (later ++ keep change ∷ []) (alike_more basis log later same (keep change)) first all)
 
 module _ (basis : Basis) (log : List Change) (change : Change) (quiet : IsQuiet change) where
   abbrev next : List Change
@@ -93,47 +161,31 @@ module _ (basis : Basis) (log : List Change) (change : Change) (quiet : IsQuiet 
     told = λ is_told. subst (AllByRecursion (λ crash. IsSome crash.raw)) (sym accepted_same) (legal.told is_told);
   }
 
-  last_legal : (kept : Kept) → IsLegal basis (log ++ keep kept ∷ []) → IsLegalNext (events basis log) (event_of basis (keep kept))
-  last_legal kept legal =
-      let back : IsLegalBack (event_of basis (keep kept) ∷ reverse (events basis log)) =
-      subst IsLegalBack (ap reverse (events-more basis log (keep kept)) ∙ reverse-more (events basis log) (event_of basis (keep kept))) legal.events_legal in
-      subst (λ (l : List Event). IsLegalNext l (event_of basis (keep kept))) (reverse-twice (events basis log)) back.0
-
-  last_sound : (kept : Kept) → IsLegal basis (log ++ keep kept ∷ []) → IsSound log (keep kept)
-  last_sound kept legal =
-      let back : AreSoundBack (keep kept ∷ reverse log) = subst AreSoundBack (reverse-more log (keep kept)) legal.sound in
-      subst (λ (l : List Change). IsSound l (keep kept)) (reverse-twice log) back.0
-
-  still_legal : (kept : Kept) → IsLegalNext (events basis log) (event_of basis (keep kept)) → IsLegalNext (events basis next) (event_of basis (keep kept))
-  still_legal (accept crash) legal = ap not (was_same crash.id) ∙ legal
-  still_legal (ask id) legal = held_same id ∙ legal
-  still_legal (withdraw id) legal = held_same id ∙ legal
-  still_legal (report made) legal = held_same made.id ∙ legal
-
-  still_sound : (kept : Kept) → IsSound log (keep kept) → IsSound next (keep kept)
-  still_sound (accept crash) sound = sound
-  still_sound (ask id) sound = tt
-  still_sound (withdraw id) sound = tt
-  still_sound (report made) sound = rw (raw_same made.id) sound
-
-  legal_doubt : (kept : Kept) → IsLegal basis next → IsLegal basis (log ++ keep kept ∷ []) → IsLegal basis (next ++ keep kept ∷ [])
-  legal_doubt kept legal doubt = record {
-    events_legal = subst AreLegal (sym (events-more basis next (keep kept))) (legal-more (events basis next) (event_of basis (keep kept)) legal.events_legal (still_legal kept (last_legal kept doubt)));
-    sound = subst AreSoundBack (sym (reverse-more next (keep kept))) (subst (λ (l : List Change). IsSound l (keep kept)) (sym (reverse-twice next)) (still_sound kept (last_sound kept doubt)), legal.sound);
-    told = λ is_told.
-        subst (AllByRecursion (λ crash. IsSome crash.raw))
-        (filter_map-append accepted_in log (keep kept ∷ []) ∙ (ap (λ l. l ++ filter_map accepted_in (keep kept ∷ [])) (sym accepted_same) ∙ sym (filter_map-append accepted_in next (keep kept ∷ []))))
-        (doubt.told is_told);
+  alike : IsAlike basis log next
+  alike = record {
+    accepted = accepted_same;
+    withdrawn = ap withdrawn_ids (events-more basis log change)
+        ∙ (filter_map-append withdraws (events basis log) (event_of basis change ∷ [])
+        ∙ (ap (λ o. withdrawn_ids (events basis log) ++ cons_option o []) (quiet.event_withdraws basis) ∙ append-nil (withdrawn_ids (events basis log))));
   }
 
-  legal_doubts : (doubt : Option Kept) → IsLegal basis next → IfSome doubt (λ kept. IsLegal basis (log ++ keep kept ∷ [])) → IfSome doubt (λ kept. IsLegal basis (next ++ keep kept ∷ []))
-  legal_doubts None legal doubt = tt
-  legal_doubts (Some kept) legal doubt = legal_doubt kept legal doubt
+  pub legal_doubts : (doubt : List Kept) → IsLegal basis next → IsLegal basis (log ++ map keep doubt) → IsLegal basis (next ++ map keep doubt)
+  legal_doubts doubt legal doubtful = legal_alike basis doubt log next alike legal doubtful
 
 -- ---- the doubt
 
 -- what waits still waits behind other events of the same crashes, where none becomes due
 module _ (basis : Basis) (log later : List Change) (idle : (id : List ℕ) → is_due (events basis log) id ≡ false → is_due (events basis later) id ≡ false) (ledger : LedgerState) (log' : List Event) (room : ℕ) where
+  same_reports : (numbers : List ℕ) (changes : List Kept) → AreReports basis log ledger numbers changes → AreReports basis later (record ledger { log = log'; room = room }) numbers changes
+  same_reports [] [] are = tt
+  same_reports [] (change ∷ changes) are = absurd are
+  same_reports (number ∷ numbers) [] are = absurd are
+  same_reports (number ∷ numbers) (report made ∷ changes) (is, are) =
+      ((is.0, is.1, ap not (idle made.id (not_true (is_due (events basis log) made.id) is.2))), same_reports numbers changes are)
+  same_reports (number ∷ numbers) (accept crash ∷ changes) (is, are) = absurd is
+  same_reports (number ∷ numbers) (ask id ∷ changes) (is, are) = absurd is
+  same_reports (number ∷ numbers) (withdraw id ∷ changes) (is, are) = absurd is
+
   same_pending : (pending : Pending) (kept : Kept) → IsPending basis log ledger pending kept → IsPending basis later (record ledger { log = log'; room = room }) pending kept
   same_pending (P.Accept new) (accept crash) is = is
   same_pending (P.Accept new) (ask id) is = absurd is
@@ -147,16 +199,22 @@ module _ (basis : Basis) (log later : List Change) (idle : (id : List ℕ) → i
   same_pending (P.Withdraw number) (ask id) is = absurd is
   same_pending (P.Withdraw number) (withdraw id) is = is
   same_pending (P.Withdraw number) (report made) is = absurd is
-  same_pending (P.Report number) (accept crash) is = absurd is
-  same_pending (P.Report number) (ask id) is = absurd is
-  same_pending (P.Report number) (withdraw id) is = absurd is
-  same_pending (P.Report number) (report made) is = (is.0, is.1, ap not (idle made.id (not_true (is_due (events basis log) made.id) is.2)))
+  same_pending (P.Reports numbers) kept is = absurd is
 
-  all_pending : (pending : Option Pending) (doubt : Option Kept) → ArePending basis log ledger pending doubt → ArePending basis later (record ledger { log = log'; room = room }) pending doubt
-  all_pending None None are = tt
-  all_pending None (Some kept) are = absurd are
-  all_pending (Some pending) None are = absurd are
-  all_pending (Some pending) (Some kept) are = same_pending pending kept are
+  pub all_pending : (pending : Option Pending) (doubt : List Kept) → ArePending basis log ledger pending doubt → ArePending basis later (record ledger { log = log'; room = room }) pending doubt
+  all_pending None [] are = tt
+  all_pending None (kept ∷ more) are = absurd are
+  all_pending (Some (P.Reports numbers)) [] are = absurd are
+  all_pending (Some (P.Reports numbers)) (first ∷ more) are = same_reports numbers.items (first ∷ more) are
+  all_pending (Some (P.Accept new)) [] are = absurd are
+  all_pending (Some (P.Accept new)) (kept ∷ []) are = same_pending (P.Accept new) kept are
+  all_pending (Some (P.Accept new)) (kept ∷ other ∷ more) are = absurd are
+  all_pending (Some (P.Ask number)) [] are = absurd are
+  all_pending (Some (P.Ask number)) (kept ∷ []) are = same_pending (P.Ask number) kept are
+  all_pending (Some (P.Ask number)) (kept ∷ other ∷ more) are = absurd are
+  all_pending (Some (P.Withdraw number)) [] are = absurd are
+  all_pending (Some (P.Withdraw number)) (kept ∷ []) are = same_pending (P.Withdraw number) kept are
+  all_pending (Some (P.Withdraw number)) (kept ∷ other ∷ more) are = absurd are
 
 -- ---- the tables
 
@@ -168,10 +226,10 @@ module _ (basis : Basis) (limits : Limits) (ledger : LedgerState) (rows : List (
   abbrev with_change : LedgerState
   with_change = with_event ledger (event_of basis change)
 
-  still_fits : (doubt : Option Kept) → IfSome doubt (λ kept. IsTrue (has_room basis state.log kept)) → IfSome doubt (λ kept. IsTrue (has_room basis (state.log ++ change ∷ []) kept))
-  still_fits None fits = tt
-  still_fits (Some kept) fits =
-      let Q : List Kept → Type 0 = λ l. IsTrue (nat_le (place_behind (entries_of l) + beside_body + length (body_of kept)) basis.journal_bytes) in
+  still_fits : (doubt : List Kept) → FitJournal basis state.log doubt → FitJournal basis (state.log ++ change ∷ []) doubt
+  still_fits [] fits = tt
+  still_fits (first ∷ more) fits =
+      let Q : List Kept → Type 0 = λ l. place_behind (entries_of l) + length (sealed_all (entries_of (first ∷ more))) ≤ basis.journal_bytes in
       subst Q (sym (kept_same basis state.log change quiet)) fits
 
   -- the tables with the change stand for the state with it
@@ -196,7 +254,7 @@ module _ (basis : Basis) (limits : Limits) (ledger : LedgerState) (rows : List (
         told = λ is_told.
             let was : IsOnDisk basis journal disk state = stands.told is_told in
             record {
-              means = subst (λ l. Means disk journal (entries_of l) (option_map entry_of state.doubt)) (sym (kept_same basis state.log change quiet)) was.means;
+              means = subst (λ l. Means disk journal (entries_of l) (entries_of state.doubt)) (sym (kept_same basis state.log change quiet)) was.means;
               fits = still_fits state.doubt was.fits;
             };
       }
@@ -221,41 +279,50 @@ stands_room basis limits ledger rows pending journal disk state room stands = re
 
 -- ---- what waits still fits
 
-fits_quiet : (ledger : LedgerState) (event : Event) (room : ℕ) (pending : Pending) → accepts event ≡ None → withdraws event ≡ None → 1 < room → Fits ledger pending → Fits (with_event (record ledger { room = room }) event) pending
+still_held : (ledger : LedgerState) (event : Event) (room : ℕ) (numbers : List ℕ) → accepts event ≡ None → withdraws event ≡ None → AreHeld ledger numbers → AreHeld (with_event (record ledger { room = room }) event) numbers
+still_held ledger event room [] no_accept no_withdrawal held = tt
+still_held ledger event room (number ∷ numbers) no_accept no_withdrawal held =
+    ((held.0.0, held_plain ledger.log event (id_of ledger number) no_accept no_withdrawal ∙ held.0.1), still_held ledger event room numbers no_accept no_withdrawal held.1)
+
+fits_quiet : (ledger : LedgerState) (event : Event) (room : ℕ) (pending : Pending) → accepts event ≡ None → withdraws event ≡ None → most_reports < room → Fits ledger pending → Fits (with_event (record ledger { room = room }) event) pending
 fits_quiet ledger event room (P.Accept new) no_accept no_withdrawal large fits = (omega arith, new_still, fits.2) where
   new_still : was_accepted (ledger.log ++ event ∷ []) new.id ≡ false
   new_still =
       ap (λ ids. is_among ids new.id) (accepted_ids-more ledger.log event ∙ (ap (λ o. accepted_ids ledger.log ++ cons_option o []) no_accept ∙ append-nil (accepted_ids ledger.log))) ∙ fits.1
 fits_quiet ledger event room (P.Ask number) no_accept no_withdrawal large fits = (omega arith, fits.1, held_plain ledger.log event (id_of ledger number) no_accept no_withdrawal ∙ fits.2)
 fits_quiet ledger event room (P.Withdraw number) no_accept no_withdrawal large fits = (omega arith, fits.1, held_plain ledger.log event (id_of ledger number) no_accept no_withdrawal ∙ fits.2)
-fits_quiet ledger event room (P.Report number) no_accept no_withdrawal large fits = (omega arith, fits.1, held_plain ledger.log event (id_of ledger number) no_accept no_withdrawal ∙ fits.2)
+fits_quiet ledger event room (P.Reports numbers) no_accept no_withdrawal large fits = (omega arith, fits.1, still_held ledger event room numbers.items no_accept no_withdrawal fits.2)
 
-fits_room : (ledger : LedgerState) (room : ℕ) (pending : Pending) → 0 < room → Fits ledger pending → Fits (record ledger { room = room }) pending
-fits_room ledger room (P.Accept new) some fits = (some, fits.1, fits.2)
-fits_room ledger room (P.Ask number) some fits = (some, fits.1, fits.2)
-fits_room ledger room (P.Withdraw number) some fits = (some, fits.1, fits.2)
-fits_room ledger room (P.Report number) some fits = (some, fits.1, fits.2)
+pub held_room : (ledger : LedgerState) (room : ℕ) (numbers : List ℕ) → AreHeld ledger numbers → AreHeld (record ledger { room = room }) numbers
+held_room ledger room [] held = tt
+held_room ledger room (number ∷ numbers) held = (held.0, held_room ledger room numbers held.1)
+
+fits_room : (ledger : LedgerState) (room : ℕ) (pending : Pending) → most_reports ≤ room → Fits ledger pending → Fits (record ledger { room = room }) pending
+fits_room ledger room (P.Accept new) large fits = (omega arith, fits.1, fits.2)
+fits_room ledger room (P.Ask number) large fits = (omega arith, fits.1, fits.2)
+fits_room ledger room (P.Withdraw number) large fits = (omega arith, fits.1, fits.2)
+fits_room ledger room (P.Reports numbers) large fits = (large, fits.1, held_room ledger room numbers.items fits.2)
 
 all_fit : {A : Type 0} {P Q : A → Type 0} (o : Option A) → ((x : A) → P x → Q x) → IfSome o P → IfSome o Q
 all_fit None weaker all = tt
 all_fit (Some x) weaker all = weaker x all
 
-pub safe_room : (ledger : LedgerState) (journal : JournalState) (pending : Option Pending) (room : ℕ) → 0 < room → IsSafe ledger journal pending → IsSafe (record ledger { room = room }) journal pending
+pub safe_room : (ledger : LedgerState) (journal : JournalState) (pending : Option Pending) (room : ℕ) → most_reports ≤ room → IsSafe ledger journal pending → IsSafe (record ledger { room = room }) journal pending
 safe_room ledger journal pending room some safe =
     record { unsettled = safe.unsettled; fits = all_fit pending (λ change fits. fits_room ledger room change some fits) safe.fits }
 
-pub safe_quiet : (ledger : LedgerState) (journal : JournalState) (pending : Option Pending) (event : Event) (room : ℕ) → accepts event ≡ None → withdraws event ≡ None → 1 < room
+pub safe_quiet : (ledger : LedgerState) (journal : JournalState) (pending : Option Pending) (event : Event) (room : ℕ) → accepts event ≡ None → withdraws event ≡ None → most_reports < room
     → IsSafe ledger journal pending → IsSafe (with_event (record ledger { room = room }) event) journal pending
 safe_quiet ledger journal pending event room no_accept no_withdrawal large safe =
     record { unsettled = safe.unsettled; fits = all_fit pending (λ change fits. fits_quiet ledger event room change no_accept no_withdrawal large fits) safe.fits }
 
 -- the same once the event was added
-pub safe_after : (ledger roomy after : LedgerState) (journal : JournalState) (pending : Option Pending) (event : Event) → roomy ≡ record ledger { room = roomy.room } → 2 ≤ roomy.room → after ≡ with_event roomy event
+pub safe_after : (ledger roomy after : LedgerState) (journal : JournalState) (pending : Option Pending) (event : Event) → roomy ≡ record ledger { room = roomy.room } → most_reports + 1 ≤ roomy.room → after ≡ with_event roomy event
     → accepts event ≡ None → withdraws event ≡ None → IsSafe ledger journal pending → IsSafe after journal pending
 safe_after ledger roomy after journal pending event same large is no_accept no_withdrawal safe =
     subst (λ l. IsSafe l journal pending) (sym (is ∙ ap (λ l. with_event l event) same)) (safe_quiet ledger journal pending event roomy.room no_accept no_withdrawal (omega (arith, large)) safe)
 
-pub safe_roomy : (ledger roomy : LedgerState) (journal : JournalState) (pending : Option Pending) → roomy ≡ record ledger { room = roomy.room } → 2 ≤ roomy.room → IsSafe ledger journal pending → IsSafe roomy journal pending
+pub safe_roomy : (ledger roomy : LedgerState) (journal : JournalState) (pending : Option Pending) → roomy ≡ record ledger { room = roomy.room } → most_reports + 1 ≤ roomy.room → IsSafe ledger journal pending → IsSafe roomy journal pending
 safe_roomy ledger roomy journal pending same large safe = subst (λ l. IsSafe l journal pending) (sym same) (safe_room ledger journal pending roomy.room (omega (arith, large)) safe)
 
 -- ---- a stop

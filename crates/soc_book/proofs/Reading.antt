@@ -29,7 +29,7 @@ use Rattle.soc_book.proofs.Sights.{known_at}
 
 -- what the vault's read tells of an entry that stands at the place
 abbrev pub GivesAt : DiskTold → JournalState → ℕ → Result (List ℕ) ReadError → Type 0
-GivesAt disk journal place result = (entries : List Entry) (doubt : Option Entry) (entry : Entry) → Means disk journal entries doubt → IsAt entries place entry
+GivesAt disk journal place result = (entries : List Entry) (doubt : List Entry) (entry : Entry) → Means disk journal entries doubt → IsAt entries place entry
     → MatchResult result (λ body. body ≡ entry.body) (λ error. error ≢ Altered)
 
 module _ (basis : Basis) (limits : Limits) (ledger : LedgerState) (rows : List (ℕ × List Cell)) (pending : Option Pending) (journal : JournalState) (disk : DiskTold) (state : State)

@@ -1,5 +1,5 @@
 -- The crashes whose reports are left to be kept, number by number.
-use Rattle.std.proofs.Common.{◌≡◌, ℕ, zero, suc, ◌+◌, ◌≤◌, Bool, true, false, not, ◌&&◌, ◌||◌, cond, List, [], ◌∷◌, ◌++◌, length, drop, Some, is_some, refl, sym, ◌∙◌, ap, subst, arith}
+use Rattle.std.proofs.Common.{◌≡◌, ℕ, zero, suc, ◌+◌, ◌<◌, ◌≤◌, Bool, true, false, not, ◌&&◌, ◌||◌, cond, List, [], ◌∷◌, ◌++◌, length, drop, Some, is_some, refl, sym, ◌∙◌, ap, subst, arith}
 use Rattle.std.specs.Prelude.{bytes_eq, slice_get, filter}
 use Rattle.std.specs.List.{AllByRecursion}
 use Rattle.std.proofs.lemmas.List.{append-nil, drop_all}
@@ -14,6 +14,7 @@ use Rattle.soc_ledger.proofs.Whole.{standing_others}
 use Rattle.soc_desk.specs.Keeps.{is_to_keep}
 use Rattle.soc_desk.proofs.Logs.{held_plain, none_passes}
 use Rattle.soc_book.specs.inner.Keepings.{is_wanted, rest_ids}
+use Rattle.soc_book.proofs.Filing.{all_got}
 
 -- ---- from one number to the next
 
@@ -47,6 +48,14 @@ behind_differ (x ∷ ids) (suc number) id distinct at =
     let next : suc (number + 1) ≡ suc number + 1 = omega arith in
     subst (λ k. AllByRecursion (λ z. bytes_eq z id ≡ false) (drop k (x ∷ ids))) next (behind_differ ids number id distinct.1 at)
 
+-- the ids of two numbers differ
+pub ids_differ : (ids : List (List ℕ)) (m n : ℕ) (x y : List ℕ) → AreDistinct ids → slice_get ids m ≡ Some x → slice_get ids n ≡ Some y → m < n → bytes_eq y x ≡ false
+ids_differ [] m n x y distinct first second less = absurd (none_is_not_some first)
+ids_differ (z ∷ ids) m zero x y distinct first second less = absurd (omega (arith, less))
+ids_differ (z ∷ ids) zero (suc n) x y distinct first second less =
+    subst (λ w. bytes_eq y w ≡ false) (some-injective first) (all_got (λ w. bytes_eq w z ≡ false) ids n y (none_passes (λ w. bytes_eq w z) ids distinct.0) second)
+ids_differ (z ∷ ids) (suc m) (suc n) x y distinct first second less = ids_differ ids m n x y distinct.1 first second (omega (arith, less))
+
 abbrev keeps_by : Standing → Bool
 keeps_by s = s.has_report && (not (is_some s.due_since) && not s.is_kept)
 
@@ -58,7 +67,7 @@ module _ (log : List Event) (number : ℕ) (id : List ℕ) (at : slice_get (acce
   abbrev later : List Event
   later = log ++ E.Reported id true ∷ []
 
-  wanted_same : (x : List ℕ) → bytes_eq x id ≡ false → is_wanted later x ≡ is_wanted log x
+  pub wanted_same : (x : List ℕ) → bytes_eq x id ≡ false → is_wanted later x ≡ is_wanted log x
   wanted_same x differs =
       ap (λ b. b && is_to_keep later x) (held_plain log (E.Reported id true) x refl refl)
       ∙ ap (λ s. is_held log x && keeps_by s) (standing_others log (E.Reported id true) id refl x differs)

@@ -1,7 +1,6 @@
 -- What settling, appending and reading leave of a book that stands for a state.
-use Rattle.std.proofs.Common.{◌≡◌, ◌⊎◌, inl, inr, ℕ, ◌+◌, ◌<◌, ◌≤◌, ◌^◌, true, false, IsTrue, List, [], ◌∷◌, ◌++◌, length, Option, Some, None, IsSome, IsSomeAnd, Result, Ok, Err, sym, ap, subst, ◌∙◌, refl, arith}
+use Rattle.std.proofs.Common.{◌≡◌, ◌≢◌, ◌⊎◌, inl, inr, ℕ, ◌+◌, ◌<◌, ◌≤◌, ◌^◌, true, false, IsTrue, List, [], ◌∷◌, ◌++◌, length, map, Option, Some, None, IfSome, IsSomeAnd, Result, Ok, Err, sym, ap, subst, ◌∙◌, refl, arith}
 use Rattle.std.specs.Prelude.{is_some}
-use Rattle.std.specs.Option.{option_map}
 use Rattle.std.proofs.lemmas.Bool.{leb-true}
 use Rattle.std.proofs.lemmas.Bool.Decides.{leb_tells}
 use Rattle.std.proofs.lemmas.List.{map-append}
@@ -9,25 +8,31 @@ use Rattle.soc_schema.specs.declared.value.Cell.{Cell}
 use Rattle.soc_edge.specs.Disk.{DiskTold, IsDisk, GoesOn, LeavesOnly, DiskFailed}
 use Rattle.soc_edge.specs.declared.failed.Failed.{Failed}
 use Rattle.soc_edge.proofs.Disks.{LeavesOnly-weaker}
-use Rattle.soc_journal.specs.Entries.{Entry, beside_body, place_behind}
+use Rattle.soc_journal.proofs.Texts.{length-sealed, sealed_one}
+use Rattle.soc_journal.specs.Entries.{Entry, beside_body, place_behind, sealed_all}
 use Rattle.soc_journal.specs.States.{JournalState, AtRest, InDoubt, IsKeptAt, journal_after}
 use Rattle.soc_journal.specs.Text.{JournalText, EitherText}
 use Rattle.soc_journal.specs.declared.settled.Settled.{Settled}
 use Rattle.soc_journal.specs.declared.settled.Settled.TheVariants as S
-use Rattle.soc_ledger.specs.State.{LedgerState}
+use Rattle.soc_ledger.specs.declared.event.Event.TheVariants as E
+use Rattle.soc_ledger.specs.declared.event.Event.{Event}
+use Rattle.soc_ledger.specs.Events.{accepted_in as accepts, withdrawn_in as withdraws, is_held}
+use Rattle.soc_ledger.specs.State.{LedgerState, id_of, with_event}
 use Rattle.soc_ledger.proofs.Lists.{true_is_not_false}
 use Rattle.soc_vault.specs.Vaults.{Means, StandsFor as VaultStandsFor, settled_entries}
 use Rattle.soc_desk.specs.declared.desk.Limits.{Limits}
 use Rattle.soc_desk.specs.declared.desk.Refusal.TheVariants as F
 use Rattle.soc_desk.specs.Basis.{Basis}
-use Rattle.soc_desk.specs.Log.{Change, Kept, accept, ask, withdraw, report, keep, IsLegal}
+use Rattle.soc_desk.specs.Log.{Change, Kept, keep, IsLegal}
 use Rattle.soc_desk.specs.State.{State, settled, Settles, entry_of, entries_of, kept_of, body_of, has_room, Allowed, Survives}
+use Rattle.soc_desk.proofs.Logs.{held_plain}
 use Rattle.soc_book.specs.declared.book.Change.{Change as Pending}
 use Rattle.soc_book.specs.declared.book.Change.TheVariants as P
-use Rattle.soc_book.specs.inner.Pieces.{IsAppended}
-use Rattle.soc_book.specs.inner.Stands.{Fits, IsSafe, Pushes, AddsSettled, Holds, IsPending, ArePending, IsOnDisk, Stands}
-use Rattle.soc_book.proofs.Changes.{entries-more, settled-legal, doubt-legal}
-use Rattle.soc_book.proofs.Pushing.{IsPlaced, pushed}
+use Rattle.soc_book.specs.inner.Pieces.{AreAppended, IsAppended}
+use Rattle.soc_book.specs.inner.Stands.{AreHeld, Fits, FitJournal, FitReports, IsSafe, Pushes, AddsSettled, Holds, IsPending, ArePending, IsOnDisk, Stands, most_reports, with_reports}
+use Rattle.soc_book.proofs.Changes.{entries-all, settled-legal, doubt-legal}
+use Rattle.soc_book.proofs.Pushing.{IsPlaced, pushed_all}
+use Rattle.soc_book.proofs.Quiets.{all_pending}
 
 -- ---- the gate of a journal that means these entries
 
@@ -36,31 +41,31 @@ module _ (disk : DiskTold) (journal : JournalState) (entries : List Entry) where
   gate_at_rest None means = absurd means
   gate_at_rest (Some bytes) means = means.gate_stands
 
-  gate_in_doubt : (entry : Entry) (content : Option (List ℕ)) → IsSomeAnd content (λ bytes. InDoubt journal entries entry bytes disk.images) → journal.gate ≡ place_behind entries
-  gate_in_doubt entry None means = absurd means
-  gate_in_doubt entry (Some bytes) means = means.gate_stands
+  gate_in_doubt : (more : List Entry) (content : Option (List ℕ)) → IsSomeAnd content (λ bytes. InDoubt journal entries more bytes disk.images) → journal.gate ≡ place_behind entries
+  gate_in_doubt more None means = absurd means
+  gate_in_doubt more (Some bytes) means = means.gate_stands
 
-  pub gate_behind : (doubt : Option Entry) → Means disk journal entries doubt → journal.gate ≡ place_behind entries
-  gate_behind None means = gate_at_rest disk.content means
-  gate_behind (Some entry) means = gate_in_doubt entry disk.content means
+  pub gate_behind : (doubt : List Entry) → Means disk journal entries doubt → journal.gate ≡ place_behind entries
+  gate_behind [] means = gate_at_rest disk.content means
+  gate_behind (first ∷ more) means = gate_in_doubt (first ∷ more) disk.content means
 
   -- each image stands for them
   image_at_rest : (content : Option (List ℕ)) → IsSomeAnd content (λ bytes. AtRest journal entries bytes disk.images) → (image : List ℕ) → disk.images image → JournalText entries image
   image_at_rest None means image left = absurd means
   image_at_rest (Some bytes) means image left = subst (JournalText entries) (sym (means.only image left)) means.text
 
-  image_in_doubt : (entry : Entry) (content : Option (List ℕ)) → IsSomeAnd content (λ bytes. InDoubt journal entries entry bytes disk.images) → (image : List ℕ) → disk.images image → EitherText entries entry image
-  image_in_doubt entry None means image left = absurd means
-  image_in_doubt entry (Some bytes) means image left = means.each image left
+  image_in_doubt : (more : List Entry) (content : Option (List ℕ)) → IsSomeAnd content (λ bytes. InDoubt journal entries more bytes disk.images) → (image : List ℕ) → disk.images image → EitherText entries more image
+  image_in_doubt more None means image left = absurd means
+  image_in_doubt more (Some bytes) means image left = means.each image left
 
 -- what a stop may leave of a disk that a state stands on is allowed
-pub images_allowed : (basis : Basis) (journal : JournalState) (disk : DiskTold) (log : List Change) (doubt : Option Kept) → IsOnDisk basis journal disk (record { log = log; doubt = doubt })
+pub images_allowed : (basis : Basis) (journal : JournalState) (disk : DiskTold) (log : List Change) (doubt : List Kept) → IsOnDisk basis journal disk (record { log = log; doubt = doubt })
     → (image : List ℕ) → disk.images image → Allowed (record { log = log; doubt = doubt }) image
-images_allowed basis journal disk log None on image left = inl (image_at_rest disk journal (entries_of (kept_of log)) disk.content on.means image left)
-images_allowed basis journal disk log (Some change) on image left =
-    elim (image_in_doubt disk journal (entries_of (kept_of log)) (entry_of change) disk.content on.means image left) [
+images_allowed basis journal disk log [] on image left = inl (image_at_rest disk journal (entries_of (kept_of log)) disk.content on.means image left)
+images_allowed basis journal disk log (first ∷ more) on image left =
+    elim (image_in_doubt disk journal (entries_of (kept_of log)) (entries_of (first ∷ more)) disk.content on.means image left) [
       | inl before ↦ inl before
-      | inr with_it ↦ inr (subst (λ (es : List Entry). JournalText es image) (sym (map-append entry_of (kept_of log) (change ∷ []))) with_it)
+      | inr with_them ↦ inr (subst (λ (es : List Entry). JournalText es image) (sym (map-append entry_of (kept_of log) (first ∷ more))) with_them)
     ]
 
 -- ---- settling
@@ -74,10 +79,17 @@ limit-kept journal (Ok (S.Kept place)) = refl
 limit-kept journal (Ok S.Dropped) = refl
 limit-kept journal (Err failed) = refl
 
+-- nothing waits without a doubt
+none_pending_of : (basis : Basis) (log : List Change) (ledger : LedgerState) (pending : Pending) → ArePending basis log ledger (Some pending) [] → ⊥
+none_pending_of basis log ledger (P.Accept new) are = are
+none_pending_of basis log ledger (P.Ask number) are = are
+none_pending_of basis log ledger (P.Withdraw number) are = are
+none_pending_of basis log ledger (P.Reports numbers) are = are
+
 module _ (basis : Basis) (limits : Limits) (ledger : LedgerState) (rows : List (ℕ × List Cell)) (pending : Option Pending) (journal : JournalState) (disk : DiskTold) where
   -- the same tables over another moment of the disk
   pub stands_moved : (journal' : JournalState) (disk' : DiskTold) (state : State) → Stands basis limits ledger rows pending journal disk state → journal' ≡ journal
-      → ((entries : List Entry) (doubt : Option Entry) → Means disk journal entries doubt → Means disk' journal' entries doubt) → Stands basis limits ledger rows pending journal' disk' state
+      → ((entries : List Entry) (doubt : List Entry) → Means disk journal entries doubt → Means disk' journal' entries doubt) → Stands basis limits ledger rows pending journal' disk' state
   stands_moved journal' disk' state stands same moves = record {
     legal = stands.legal;
     holds = stands.holds;
@@ -86,21 +98,20 @@ module _ (basis : Basis) (limits : Limits) (ledger : LedgerState) (rows : List (
     bytes = stands.bytes;
     limit = ap (λ (j : JournalState). j.limit) same ∙ stands.limit;
     short = stands.short;
-    told = λ is_told. let on = stands.told is_told in record { means = moves (entries_of (kept_of state.log)) (option_map entry_of state.doubt) on.means; fits = on.fits };
+    told = λ is_told. let on = stands.told is_told in record { means = moves (entries_of (kept_of state.log)) (entries_of state.doubt) on.means; fits = on.fits };
   }
 
-  some_doubt : (log : List Change) (p : Option Pending) (doubt : Option Kept) → ArePending basis log ledger p doubt → is_some p ≡ is_some doubt
-  some_doubt log None None are = refl
-  some_doubt log (Some p) (Some change) are = refl
-  some_doubt log None (Some change) are = absurd are
-  some_doubt log (Some p) None are = absurd are
+  some_doubt : (log : List Change) (p : Option Pending) (doubt : List Kept) → ArePending basis log ledger p doubt → is_some p ≡ true → doubt ≢ []
+  some_doubt log p (first ∷ more) are some = λ is. cc
+  some_doubt log None [] are some = absurd (true_is_not_false (sym some))
+  some_doubt log (Some p) [] are some = absurd (none_pending_of basis log ledger p are)
 
   pub settle_fails : (journal' : JournalState) (disk' : DiskTold) (state : State) → IsSafe ledger journal pending → Stands basis limits ledger rows pending journal disk state → journal' ≡ journal → (journal.doubt ≡ None → ⊥)
-      → DiskFailed disk disk' → ((entries : List Entry) (doubt : Option Entry) → Means disk journal entries doubt → Means disk' journal' entries doubt)
-      → IsSome state.doubt × DiskFailed disk disk' × Stands basis limits ledger rows pending journal' disk' state
+      → DiskFailed disk disk' → ((entries : List Entry) (doubt : List Entry) → Means disk journal entries doubt → Means disk' journal' entries doubt)
+      → (state.doubt ≢ []) × DiskFailed disk disk' × Stands basis limits ledger rows pending journal' disk' state
   settle_fails journal' disk' state safe stands same doubtful failed moves =
       let in_doubt : is_some journal.doubt ≡ true = some_of journal.doubt doubtful in
-      (sym (some_doubt state.log pending state.doubt stands.doubt) ∙ (sym safe.unsettled ∙ in_doubt), failed, stands_moved journal' disk' state stands same moves) where
+      (some_doubt state.log pending state.doubt stands.doubt (sym safe.unsettled ∙ in_doubt), failed, stands_moved journal' disk' state stands same moves) where
         some_of : {A : Type 0} (o : Option A) → (o ≡ None → ⊥) → is_some o ≡ true
         some_of None none = absurd (none refl)
         some_of (Some x) none = refl
@@ -108,9 +119,9 @@ module _ (basis : Basis) (limits : Limits) (ledger : LedgerState) (rows : List (
   -- where the doubt was settled
   module _ (ledger' : LedgerState) (rows' : List (ℕ × List Cell)) (journal' : JournalState) (disk' : DiskTold) (outcome : Settled) (safe : IsSafe ledger journal pending)
       (clean : IsClean (Ok outcome) → journal.doubt ≡ None) (place : IsKeptAt journal.gate outcome) (after : journal' ≡ journal_after journal (Ok outcome))
-      (moves : (entries : List Entry) (doubt : Option Entry) → Means disk journal entries doubt → Means disk' journal' (settled_entries entries doubt outcome) None) where
+      (moves : (entries : List Entry) (doubt : List Entry) → Means disk journal entries doubt → Means disk' journal' (settled_entries entries doubt outcome) []) where
     settles_to : (log : List Change) (state : State) → Stands basis limits ledger rows pending journal disk state → IsLegal basis log → Holds basis log ledger' rows'
-        → (IsTrue basis.is_told → settled_entries (entries_of (kept_of state.log)) (option_map entry_of state.doubt) outcome ≡ entries_of (kept_of log)) → Stands basis limits ledger' rows' None journal' disk' (settled log)
+        → (IsTrue basis.is_told → settled_entries (entries_of (kept_of state.log)) (entries_of state.doubt) outcome ≡ entries_of (kept_of log)) → Stands basis limits ledger' rows' None journal' disk' (settled log)
     settles_to log state stands legal holds same = record {
       legal = settled-legal basis log legal;
       holds = holds;
@@ -120,7 +131,7 @@ module _ (basis : Basis) (limits : Limits) (ledger : LedgerState) (rows : List (
       limit = ap (λ (j : JournalState). j.limit) after ∙ (limit-kept journal (Ok outcome) ∙ stands.limit);
       short = stands.short;
       told = λ is_told. record {
-        means = subst (λ (es : List Entry). Means disk' journal' es None) (same is_told) (moves (entries_of (kept_of state.log)) (option_map entry_of state.doubt) (stands.told is_told).means);
+        means = subst (λ (es : List Entry). Means disk' journal' es []) (same is_told) (moves (entries_of (kept_of state.log)) (entries_of state.doubt) (stands.told is_told).means);
         fits = tt;
       };
     }
@@ -133,11 +144,18 @@ module _ (basis : Basis) (journal : JournalState) (disk : DiskTold) (log : List 
   abbrev behind : ℕ
   behind = place_behind (entries_of (kept_of log))
 
-  pub placed : (place : ℕ) → place ≡ journal.gate → journal.gate ≡ behind → has_room basis log change ≡ true → IsPlaced basis log change place
-  placed place at gate room =
-      let fits : behind + beside_body + length (body_of change) ≤ basis.journal_bytes = leb-true (behind + beside_body + length (body_of change)) basis.journal_bytes room in
+  size_one : length (sealed_all (entries_of (change ∷ []))) ≡ beside_body + length (body_of change)
+  size_one = ap (λ (x : List ℕ). length x) (sealed_one (entry_of change)) ∙ length-sealed (entry_of change)
+
+  pub placed : (place : ℕ) → place ≡ journal.gate → journal.gate ≡ behind → FitJournal basis log (change ∷ []) → IsPlaced basis log change place
+  placed place at gate fits =
       let here : place ≡ behind = at ∙ gate in
-      record { place_is = here; ends = omega arith }
+      record { place_is = here; ends = omega (arith, here, fits, size_one, short) }
+
+  pub fit_one : has_room basis log change ≡ true → FitJournal basis log (change ∷ [])
+  fit_one room =
+      let fits : behind + beside_body + length (body_of change) ≤ basis.journal_bytes = leb-true (behind + beside_body + length (body_of change)) basis.journal_bytes room in
+      omega (arith, fits, size_one)
 
   pub has_its_room : (body : List ℕ) → body ≡ body_of change → journal.gate ≡ behind → (journal.limit < journal.gate + beside_body + length body → ⊥) → has_room basis log change ≡ true
   has_its_room body same gate not_full =
@@ -161,146 +179,225 @@ module _ (basis : Basis) (journal : JournalState) (disk : DiskTold) (log : List 
       ]
 
 module _ (basis : Basis) (limits : Limits) (ledger ledger' : LedgerState) (rows rows' : List (ℕ × List Cell)) (journal journal' : JournalState) (disk disk' : DiskTold) where
-  -- a settled doubt: the change is in the log, or it is forgotten
-  pub settle_ends : (log : List Change) (doubt : Option Kept) (pending : Option Pending) (outcome : Settled) → IsSafe ledger journal pending → (IsClean (Ok outcome) → journal.doubt ≡ None) → IsKeptAt journal.gate outcome
-      → journal' ≡ journal_after journal (Ok outcome) → ((entries : List Entry) (d : Option Entry) → Means disk journal entries d → Means disk' journal' (settled_entries entries d outcome) None)
+  -- a settled doubt: the changes are in the log, all of them, or they are forgotten
+  pub settle_ends : (log : List Change) (doubt : List Kept) (pending : Option Pending) (outcome : Settled) → IsSafe ledger journal pending → (IsClean (Ok outcome) → journal.doubt ≡ None) → IsKeptAt journal.gate outcome
+      → journal' ≡ journal_after journal (Ok outcome) → ((entries : List Entry) (d : List Entry) → Means disk journal entries d → Means disk' journal' (settled_entries entries d outcome) [])
       → Stands basis limits ledger rows pending journal disk (record { log = log; doubt = doubt }) → AddsSettled ledger rows pending outcome ledger' rows'
       → (log' : List Change) × Settles log doubt log' × Stands basis limits ledger' rows' None journal' disk' (settled log')
-  settle_ends log None None outcome safe clean place after moves stands (same_ledger, same_rows) = (
+  settle_ends log [] None outcome safe clean place after moves stands (same_ledger, same_rows) = (
     log,
     refl,
     settles_to basis limits ledger rows None journal disk ledger' rows' journal' disk' outcome safe clean place after moves log (settled log) stands stands.legal.log
         (stays basis limits ledger rows None journal disk ledger' rows' journal' disk' outcome safe clean place after moves log stands.holds same_ledger same_rows) (λ is_told. refl),
   )
-  settle_ends log None (Some pending) outcome safe clean place after moves stands adds = absurd stands.doubt
-  settle_ends log (Some change) None outcome safe clean place after moves stands adds = absurd stands.doubt
-  settle_ends log (Some change) (Some pending) S.Clean safe clean place after moves stands adds =
+  settle_ends log [] (Some pending) outcome safe clean place after moves stands adds = absurd (none_pending_of basis log ledger pending stands.doubt)
+  settle_ends log (first ∷ more) None outcome safe clean place after moves stands adds = absurd stands.doubt
+  settle_ends log (first ∷ more) (Some pending) S.Clean safe clean place after moves stands adds =
       absurd (true_is_not_false (sym safe.unsettled ∙ ap (λ (o : Option ℕ). is_some o) (clean refl)))
-  settle_ends log (Some change) (Some pending) S.Dropped safe clean place after moves stands (same_ledger, same_rows) = (
+  settle_ends log (first ∷ more) (Some pending) S.Dropped safe clean place after moves stands (same_ledger, same_rows) = (
     log,
     inr refl,
-    settles_to basis limits ledger rows (Some pending) journal disk ledger' rows' journal' disk' S.Dropped safe clean place after moves log (record { log = log; doubt = Some change }) stands stands.legal.log
+    settles_to basis limits ledger rows (Some pending) journal disk ledger' rows' journal' disk' S.Dropped safe clean place after moves log (record { log = log; doubt = first ∷ more }) stands stands.legal.log
         (stays basis limits ledger rows (Some pending) journal disk ledger' rows' journal' disk' S.Dropped safe clean place after moves log stands.holds same_ledger same_rows) (λ is_told. refl),
   )
-  settle_ends log (Some change) (Some pending) (S.Kept place) safe clean at after moves stands adds =
-      let gate = λ (is_told : IsTrue basis.is_told). gate_behind disk journal (entries_of (kept_of log)) (Some (entry_of change)) (stands.told is_told).means in
+  settle_ends log (first ∷ more) (Some pending) (S.Kept place) safe clean at after moves stands adds =
+      let gate = λ (is_told : IsTrue basis.is_told). gate_behind disk journal (entries_of (kept_of log)) (entries_of (first ∷ more)) (stands.told is_told).means in
       let room = λ (is_told : IsTrue basis.is_told). (stands.told is_told).fits in (
-        log ++ keep change ∷ [],
+        log ++ map keep (first ∷ more),
         inl refl,
-        settles_to basis limits ledger rows (Some pending) journal disk ledger' rows' journal' disk' (S.Kept place) safe clean at after moves (log ++ keep change ∷ []) (record { log = log; doubt = Some change }) stands stands.legal.doubt
-            (pushed basis log ledger rows stands.legal.log stands.holds pending change place ledger' rows' safe.fits stands.doubt
-            (λ is_told. placed basis journal disk log change stands.limit stands.short place at (gate is_told) (room is_told)) adds)
-            (λ is_told. sym (entries-more log change)),
+        settles_to basis limits ledger rows (Some pending) journal disk ledger' rows' journal' disk' (S.Kept place) safe clean at after moves (log ++ map keep (first ∷ more)) (record { log = log; doubt = first ∷ more }) stands stands.legal.doubt
+            (pushed_all basis log ledger rows stands.legal.log stands.holds pending (first ∷ more) place ledger' rows' stands.legal.doubt safe.fits stands.doubt
+            (λ change one is_told. placed basis journal disk log change stands.limit stands.short place at (gate is_told) (subst (λ (cs : List Kept). FitJournal basis log cs) one (room is_told))) adds)
+            (λ is_told. sym (entries-all log (first ∷ more))),
       )
 
 -- ---- appending
 
+-- changes of which entries were to be kept together
 module _ (basis : Basis) (limits : Limits) (ledger : LedgerState) (rows : List (ℕ × List Cell)) (pending : Option Pending) (journal : JournalState) (disk : DiskTold) (log : List Change)
-    (stands : Stands basis limits ledger rows pending journal disk (settled log)) (none : pending ≡ None) (own : Pending) (fits : Fits ledger own) (change : Kept) (is : IsPending basis log ledger own change)
-    (next : IsLegal basis (log ++ keep change ∷ [])) (entry : Entry) (same : IsTrue basis.is_told → entry ≡ entry_of change) (disk' : DiskTold) (goes_on : GoesOn disk disk')
-    (any_moment : (entries : List Entry) → Means disk journal entries None → LeavesOnly disk disk' (VaultStandsFor entries (Some entry))) where
+    (stands : Stands basis limits ledger rows pending journal disk (settled log)) (none : pending ≡ None) (own : Pending) (fits : Fits ledger own) (first : Kept) (more : List Kept) (are : ArePending basis log ledger (Some own) (first ∷ more))
+    (next : IsLegal basis (log ++ map keep (first ∷ more))) (given : List Entry) (same : IsTrue basis.is_told → given ≡ entries_of (first ∷ more)) (disk' : DiskTold)
+    (any_moment : (entries : List Entry) → Means disk journal entries [] → LeavesOnly disk disk' (VaultStandsFor entries given)) where
   abbrev entries : List Entry
   entries = entries_of (kept_of log)
 
-  means_now : IsTrue basis.is_told → Means disk journal entries None
+  abbrev changes : List Kept
+  changes = first ∷ more
+
+  means_now : IsTrue basis.is_told → Means disk journal entries []
   means_now is_told = (stands.told is_told).means
 
-  gate_now : IsTrue basis.is_told → journal.gate ≡ place_behind entries
-  gate_now is_told = gate_behind disk journal entries None (means_now is_told)
+  pub gate_now : IsTrue basis.is_told → journal.gate ≡ place_behind entries
+  gate_now is_told = gate_behind disk journal entries [] (means_now is_told)
+
+  survives_as : (after : State) → ((image : List ℕ) → JournalText (entries ++ entries_of changes) image → Allowed after image) → IsTrue basis.is_told → Survives disk disk' (settled log) after
+  survives_as after with_them is_told =
+      LeavesOnly-weaker disk disk' (EitherText entries (entries_of changes)) (λ image. Allowed (settled log) image ⊎ Allowed after image)
+      (λ image left. elim left [
+        | inl before ↦ inl (inl before)
+        | inr kept ↦ inr (with_them image kept)
+      ])
+      (subst (λ (es : List Entry). LeavesOnly disk disk' (VaultStandsFor entries es)) (same is_told) (any_moment entries (means_now is_told)))
+
+  none_pending : (log' : List Change) (ledger' : LedgerState) → ArePending basis log' ledger' pending []
+  none_pending log' ledger' = subst (λ (p : Option Pending). ArePending basis log' ledger' p []) (sym none) tt
+
+  -- all are written
+  pub written_stands : (place : ℕ) (ledger' : LedgerState) (rows' : List (ℕ × List Cell)) (journal' : JournalState) (count : ℕ) → place ≡ journal.gate → (IsTrue basis.is_told → FitJournal basis log changes)
+      → journal' ≡ record journal { gate = journal.gate + count } → Pushes ledger rows own place ledger' rows' → ((es : List Entry) → Means disk journal es [] → Means disk' journal' (es ++ given) [])
+      → Stands basis limits ledger' rows' pending journal' disk' (settled (log ++ map keep changes))
+  written_stands place ledger' rows' journal' count at room after pushes kept =
+      let log' = log ++ map keep changes in
+      record {
+        legal = settled-legal basis log' next;
+        holds = pushed_all basis log ledger rows stands.legal.log stands.holds own changes place ledger' rows' next fits are
+            (λ change one is_told. placed basis journal disk log change stands.limit stands.short place at (gate_now is_told) (subst (λ (cs : List Kept). FitJournal basis log cs) one (room is_told))) pushes;
+        doubt = none_pending log' ledger';
+        crashes = stands.crashes;
+        bytes = stands.bytes;
+        limit = ap (λ (j : JournalState). j.limit) after ∙ stands.limit;
+        short = stands.short;
+        told = λ is_told. record {
+          means = subst (λ (es : List Entry). Means disk' journal' es []) (ap (λ (es : List Entry). entries ++ es) (same is_told) ∙ sym (entries-all log changes)) (kept entries (means_now is_told));
+          fits = tt;
+        };
+      }
+
+  pub written_survives : IsTrue basis.is_told → Survives disk disk' (settled log) (settled (log ++ map keep changes))
+  written_survives = survives_as (settled (log ++ map keep changes)) (λ image text. inl (subst (λ (es : List Entry). JournalText es image) (sym (entries-all log changes)) text))
+
+  -- the write failed
+  abbrev doubtful : State
+  doubtful = record { log = log; doubt = changes }
+
+  pub failed_stands : (journal' : JournalState) (count : ℕ) → (IsTrue basis.is_told → FitJournal basis log changes) → journal' ≡ record journal { doubt = Some count }
+      → ((es : List Entry) → Means disk journal es [] → Means disk' journal' es given) → Stands basis limits ledger rows (Some own) journal' disk' doubtful
+  failed_stands journal' count room after in_doubt = record {
+    legal = doubt-legal basis log changes stands.legal.log next;
+    holds = stands.holds;
+    doubt = are;
+    crashes = stands.crashes;
+    bytes = stands.bytes;
+    limit = ap (λ (j : JournalState). j.limit) after ∙ stands.limit;
+    short = stands.short;
+    told = λ is_told. record {
+      means = subst (λ (es : List Entry). Means disk' journal' entries es) (same is_told) (in_doubt entries (means_now is_told));
+      fits = room is_told;
+    };
+  }
+
+  pub failed_survives : IsTrue basis.is_told → Survives disk disk' (settled log) doubtful
+  failed_survives = survives_as doubtful (λ image text. inr (subst (λ (es : List Entry). JournalText es image) (sym (map-append entry_of (kept_of log) changes)) text))
+
+  -- there was no room for them
+  pub full_stands : (journal' : JournalState) → journal' ≡ journal → disk' ≡ disk → Stands basis limits ledger rows pending journal' disk' (settled log)
+  full_stands journal' same_journal same_disk =
+      subst (λ (j : JournalState). Stands basis limits ledger rows pending j disk' (settled log)) (sym same_journal) (subst (λ (d : DiskTold). Stands basis limits ledger rows pending journal d (settled log)) (sym same_disk) stands)
+
+  pub full_survives : IsDisk disk → disk' ≡ disk → IsTrue basis.is_told → Survives disk disk' (settled log) (settled log)
+  full_survives sound same_disk is_told = subst (λ (d : DiskTold). Survives disk d (settled log) (settled log)) (sym same_disk)
+      (record { each = λ image left. inl (images_allowed basis journal disk log [] (stands.told is_told) image (sound.only_now image left)) })
+
+  -- where the journal had room for their entries
+  fits_given : journal.gate + length (sealed_all given) ≤ journal.limit → IsTrue basis.is_told → FitJournal basis log changes
+  fits_given room is_told =
+      let gate = gate_now is_told in
+      let size = ap (λ (es : List Entry). length (sealed_all es)) (same is_told) in
+      let limit = stands.limit in
+      omega (arith, gate, size, limit, room)
+
+  pub all_ok : journal.gate + length (sealed_all given) ≤ journal.limit → GoesOn disk disk' → (place : ℕ) (ledger' : LedgerState) (rows' : List (ℕ × List Cell)) (journal' : JournalState) (count : ℕ) → place ≡ journal.gate
+      → journal' ≡ record journal { gate = journal.gate + count } → Pushes ledger rows own place ledger' rows' → ((es : List Entry) → Means disk journal es [] → Means disk' journal' (es ++ given) [])
+      → (after : State) × Stands basis limits ledger' rows' pending journal' disk' after × AreAppended basis log disk changes (Ok tt) after disk'
+  all_ok room goes_on place ledger' rows' journal' count at after pushes kept = (
+    settled (log ++ map keep changes),
+    written_stands place ledger' rows' journal' count at (fits_given room) after pushes kept,
+    record { ends = refl; goes_on = goes_on; survives = written_survives },
+  )
+
+  pub all_fail : journal.gate + length (sealed_all given) ≤ journal.limit → GoesOn disk disk' → (journal' : JournalState) (count : ℕ) → journal' ≡ record journal { doubt = Some count } → DiskFailed disk disk'
+      → ((es : List Entry) → Means disk journal es [] → Means disk' journal' es given)
+      → (after : State) × Stands basis limits ledger rows (Some own) journal' disk' after × AreAppended basis log disk changes (Err F.StoreFault) after disk'
+  all_fail room goes_on journal' count after failed in_doubt = (
+    doubtful,
+    failed_stands journal' count (fits_given room) after in_doubt,
+    record { ends = (refl, failed); goes_on = goes_on; survives = failed_survives },
+  )
+
+-- one change
+one_pending : (basis : Basis) (log : List Change) (ledger : LedgerState) (own : Pending) (change : Kept) → IsPending basis log ledger own change → ArePending basis log ledger (Some own) (change ∷ [])
+one_pending basis log ledger (P.Accept new) change is = is
+one_pending basis log ledger (P.Ask number) change is = is
+one_pending basis log ledger (P.Withdraw number) change is = is
+one_pending basis log ledger (P.Reports numbers) change is = absurd is
+
+module _ (basis : Basis) (limits : Limits) (ledger : LedgerState) (rows : List (ℕ × List Cell)) (pending : Option Pending) (journal : JournalState) (disk : DiskTold) (log : List Change)
+    (stands : Stands basis limits ledger rows pending journal disk (settled log)) (none : pending ≡ None) (own : Pending) (fits : Fits ledger own) (change : Kept) (is : IsPending basis log ledger own change)
+    (next : IsLegal basis (log ++ keep change ∷ [])) (entry : Entry) (same : IsTrue basis.is_told → entry ≡ entry_of change) (disk' : DiskTold) (goes_on : GoesOn disk disk')
+    (any_moment : (entries : List Entry) → Means disk journal entries [] → LeavesOnly disk disk' (VaultStandsFor entries (entry ∷ []))) where
+  abbrev waits : ArePending basis log ledger (Some own) (change ∷ [])
+  waits = one_pending basis log ledger own change is
+
+  same_one : IsTrue basis.is_told → entry ∷ [] ≡ entries_of (change ∷ [])
+  same_one is_told = ap (λ (e : Entry). e ∷ []) (same is_told)
+
+  gate_here : IsTrue basis.is_told → journal.gate ≡ place_behind (entries_of (kept_of log))
+  gate_here = gate_now basis limits ledger rows pending journal disk log stands none own fits change [] waits next (entry ∷ []) same_one disk' any_moment
 
   body_same : IsTrue basis.is_told → entry.body ≡ body_of change
   body_same is_told = ap (λ (e : Entry). e.body) (same is_told)
 
   room_now : (journal.limit < journal.gate + beside_body + length entry.body → ⊥) → IsTrue basis.is_told → has_room basis log change ≡ true
-  room_now not_full is_told = has_its_room basis journal disk log change stands.limit stands.short entry.body (body_same is_told) (gate_now is_told) not_full
+  room_now not_full is_told = has_its_room basis journal disk log change stands.limit stands.short entry.body (body_same is_told) (gate_here is_told) not_full
 
-  survives_as : (after : State) → ((image : List ℕ) → JournalText (entries ++ entry_of change ∷ []) image → Allowed after image) → IsTrue basis.is_told → Survives disk disk' (settled log) after
-  survives_as after with_it is_told =
-      LeavesOnly-weaker disk disk' (EitherText entries (entry_of change)) (λ image. Allowed (settled log) image ⊎ Allowed after image)
-      (λ image left. elim left [
-        | inl before ↦ inl (inl before)
-        | inr kept ↦ inr (with_it image kept)
-      ])
-      (subst (λ (e : Entry). LeavesOnly disk disk' (EitherText entries e)) (same is_told) (any_moment entries (means_now is_told)))
-
-  none_pending : (log' : List Change) (ledger' : LedgerState) → ArePending basis log' ledger' pending None
-  none_pending log' ledger' = subst (λ (p : Option Pending). ArePending basis log' ledger' p None) (sym none) tt
+  fit_now : (journal.limit < journal.gate + beside_body + length entry.body → ⊥) → IsTrue basis.is_told → FitJournal basis log (change ∷ [])
+  fit_now not_full is_told = fit_one basis journal disk log change stands.limit stands.short (room_now not_full is_told)
 
   -- the change is written
   pub append_ok : (place : ℕ) (ledger' : LedgerState) (rows' : List (ℕ × List Cell)) (journal' : JournalState) (count : ℕ) → place ≡ journal.gate → (journal.limit < journal.gate + beside_body + length entry.body → ⊥)
-      → journal' ≡ record journal { gate = journal.gate + count } → Pushes ledger rows own place ledger' rows' → ((es : List Entry) → Means disk journal es None → Means disk' journal' (es ++ entry ∷ []) None)
+      → journal' ≡ record journal { gate = journal.gate + count } → Pushes ledger rows own place ledger' rows' → ((es : List Entry) → Means disk journal es [] → Means disk' journal' (es ++ entry ∷ []) [])
       → (after : State) × Stands basis limits ledger' rows' pending journal' disk' after × IsAppended basis log disk change (Ok tt) after disk'
-  append_ok place ledger' rows' journal' count at not_full after pushes kept =
-      let log' = log ++ keep change ∷ [] in (
-        settled log',
-        record {
-          legal = settled-legal basis log' next;
-          holds = pushed basis log ledger rows stands.legal.log stands.holds own change place ledger' rows' fits is
-              (λ is_told. placed basis journal disk log change stands.limit stands.short place at (gate_now is_told) (room_now not_full is_told)) pushes;
-          doubt = none_pending log' ledger';
-          crashes = stands.crashes;
-          bytes = stands.bytes;
-          limit = ap (λ (j : JournalState). j.limit) after ∙ stands.limit;
-          short = stands.short;
-          told = λ is_told. record {
-            means = subst (λ (es : List Entry). Means disk' journal' es None) (ap (λ (e : Entry). entries ++ e ∷ []) (same is_told) ∙ sym (entries-more log change)) (kept entries (means_now is_told));
-            fits = tt;
-          };
-        },
-        record {
-          ends = (refl, room_now not_full);
-          goes_on = goes_on;
-          survives = survives_as (settled log') (λ image text. inl (subst (λ (es : List Entry). JournalText es image) (sym (entries-more log change)) text));
-        },
-      )
+  append_ok place ledger' rows' journal' count at not_full after pushes kept = (
+    settled (log ++ keep change ∷ []),
+    written_stands basis limits ledger rows pending journal disk log stands none own fits change [] waits next (entry ∷ []) same_one disk' any_moment place ledger' rows' journal' count at (fit_now not_full) after pushes kept,
+    record {
+      ends = (refl, room_now not_full);
+      goes_on = goes_on;
+      survives = written_survives basis limits ledger rows pending journal disk log stands none own fits change [] waits next (entry ∷ []) same_one disk' any_moment;
+    },
+  )
 
   -- its write failed
   pub append_fails : (journal' : JournalState) (count : ℕ) → (journal.limit < journal.gate + beside_body + length entry.body → ⊥) → journal' ≡ record journal { doubt = Some count } → DiskFailed disk disk'
-      → ((es : List Entry) → Means disk journal es None → Means disk' journal' es (Some entry))
+      → ((es : List Entry) → Means disk journal es [] → Means disk' journal' es (entry ∷ []))
       → (after : State) × Stands basis limits ledger rows (Some own) journal' disk' after × IsAppended basis log disk change (Err F.StoreFault) after disk'
-  append_fails journal' count not_full after failed in_doubt =
-      let state : State = record { log = log; doubt = Some change } in (
-        state,
-        record {
-          legal = doubt-legal basis log change stands.legal.log next;
-          holds = stands.holds;
-          doubt = is;
-          crashes = stands.crashes;
-          bytes = stands.bytes;
-          limit = ap (λ (j : JournalState). j.limit) after ∙ stands.limit;
-          short = stands.short;
-          told = λ is_told. record {
-            means = subst (λ (e : Entry). Means disk' journal' entries (Some e)) (same is_told) (in_doubt entries (means_now is_told));
-            fits = room_now not_full is_told;
-          };
-        },
-        record {
-          ends = (refl, failed, room_now not_full);
-          goes_on = goes_on;
-          survives = survives_as state (λ image text. inr (subst (λ (es : List Entry). JournalText es image) (sym (map-append entry_of (kept_of log) (change ∷ []))) text));
-        },
-      )
+  append_fails journal' count not_full after failed in_doubt = (
+    record { log = log; doubt = change ∷ [] },
+    failed_stands basis limits ledger rows pending journal disk log stands none own fits change [] waits next (entry ∷ []) same_one disk' any_moment journal' count (fit_now not_full) after in_doubt,
+    record {
+      ends = (refl, failed, room_now not_full);
+      goes_on = goes_on;
+      survives = failed_survives basis limits ledger rows pending journal disk log stands none own fits change [] waits next (entry ∷ []) same_one disk' any_moment;
+    },
+  )
 
   -- there is no room for it
   pub append_full : (journal' : JournalState) → IsDisk disk → journal.limit < journal.gate + beside_body + length entry.body → journal' ≡ journal → disk' ≡ disk
       → (after : State) × Stands basis limits ledger rows pending journal' disk' after × IsAppended basis log disk change (Err F.JournalFull) after disk'
   append_full journal' sound full same_journal same_disk = (
     settled log,
-    stands_same,
+    full_stands basis limits ledger rows pending journal disk log stands none own fits change [] waits next (entry ∷ []) same_one disk' any_moment journal' same_journal same_disk,
     record {
-      ends = (refl, λ is_told. has_no_room basis journal disk log change stands.limit stands.short entry.body (body_same is_told) (gate_now is_told) full);
+      ends = (refl, λ is_told. has_no_room basis journal disk log change stands.limit stands.short entry.body (body_same is_told) (gate_here is_told) full);
       goes_on = goes_on;
-      survives = λ is_told. subst (λ (d : DiskTold). Survives disk d (settled log) (settled log)) (sym same_disk)
-          (record { each = λ image left. inl (images_allowed basis journal disk log None (stands.told is_told) image (sound.only_now image left)) });
+      survives = full_survives basis limits ledger rows pending journal disk log stands none own fits change [] waits next (entry ∷ []) same_one disk' any_moment sound same_disk;
     },
-  ) where
-    stands_same : Stands basis limits ledger rows pending journal' disk' (settled log)
-    stands_same = subst (λ (j : JournalState). Stands basis limits ledger rows pending j disk' (settled log)) (sym same_journal) (subst (λ (d : DiskTold). Stands basis limits ledger rows pending journal d (settled log)) (sym same_disk) stands)
+  )
 
 -- the same of a doubt that was taken out
 pub settle_taken : (basis : Basis) (limits : Limits) (ledger ledger' : LedgerState) (rows rows' : List (ℕ × List Cell)) (pending taken left : Option Pending) (journal journal' : JournalState) (disk disk' : DiskTold) (state : State) (outcome : Settled)
     → IsSafe ledger journal pending → (IsClean (Ok outcome) → journal.doubt ≡ None) → IsKeptAt journal.gate outcome → journal' ≡ journal_after journal (Ok outcome)
-    → ((entries : List Entry) (d : Option Entry) → Means disk journal entries d → Means disk' journal' (settled_entries entries d outcome) None)
+    → ((entries : List Entry) (d : List Entry) → Means disk journal entries d → Means disk' journal' (settled_entries entries d outcome) [])
     → Stands basis limits ledger rows pending journal disk state → taken ≡ pending → left ≡ None → AddsSettled ledger rows taken outcome ledger' rows'
     → (log' : List Change) × Settles state.log state.doubt log' × Stands basis limits ledger' rows' left journal' disk' (settled log')
 settle_taken basis limits ledger ledger' rows rows' pending taken left journal journal' disk disk' state outcome safe clean place after moves stands same none adds =
@@ -316,16 +413,6 @@ none_waits ledger journal pending safe none = none_of pending (sym safe.unsettle
   none_of (Some x) is = absurd (true_is_not_false is)
 
 -- more room in the ledger changes nothing
-pending_roomier : (basis : Basis) (log : List Change) (ledger : LedgerState) (room : ℕ) (pending : Option Pending) (doubt : Option Kept) → ArePending basis log ledger pending doubt → ArePending basis log (record ledger { room = room }) pending doubt
-pending_roomier basis log ledger room None None are = tt
-pending_roomier basis log ledger room None (Some change) are = absurd are
-pending_roomier basis log ledger room (Some pending) None are = absurd are
-pending_roomier basis log ledger room (Some (P.Accept new)) (Some (accept crash)) are = are
-pending_roomier basis log ledger room (Some (P.Ask number)) (Some (ask id)) are = are
-pending_roomier basis log ledger room (Some (P.Withdraw number)) (Some (withdraw id)) are = are
-pending_roomier basis log ledger room (Some (P.Report number)) (Some (report made)) are = are
-pending_roomier basis log ledger room (Some _) (Some _) are = absurd are
-
 pub stands_roomier : (basis : Basis) (limits : Limits) (ledger ledger' : LedgerState) (rows : List (ℕ × List Cell)) (pending : Option Pending) (journal : JournalState) (disk : DiskTold) (state : State) (room : ℕ)
     → ledger' ≡ record ledger { room = room } → Stands basis limits ledger rows pending journal disk state → Stands basis limits ledger' rows pending journal disk state
 stands_roomier basis limits ledger ledger' rows pending journal disk state room same stands = subst (λ (l : LedgerState). Stands basis limits l rows pending journal disk state) (sym same) (record {
@@ -335,10 +422,73 @@ stands_roomier basis limits ledger ledger' rows pending journal disk state room 
     filed = stands.holds.filed;
     rows_are = record { rise = stands.holds.rows_are.rise; each = stands.holds.rows_are.each; no_other = stands.holds.rows_are.no_other };
   };
-  doubt = pending_roomier basis state.log ledger room pending state.doubt stands.doubt;
+  doubt = all_pending basis state.log state.log (λ id idle. idle) ledger ledger.log room pending state.doubt stands.doubt;
   crashes = stands.crashes;
   bytes = stands.bytes;
   limit = stands.limit;
   short = stands.short;
   told = stands.told;
 })
+
+-- ---- what the tables owe each other, once reports are added
+
+pub reports-crashes : (numbers : List ℕ) (ledger : LedgerState) → (with_reports ledger numbers).crashes ≡ ledger.crashes
+reports-crashes [] ledger = refl
+reports-crashes (number ∷ numbers) ledger = reports-crashes numbers (with_event ledger (E.Reported (id_of ledger number) true))
+
+pub reports-room : (numbers : List ℕ) (ledger : LedgerState) → ledger.room ≤ (with_reports ledger numbers).room + length numbers
+reports-room [] ledger = omega arith
+reports-room (number ∷ numbers) ledger =
+    let later = reports-room numbers (with_event ledger (E.Reported (id_of ledger number) true)) in
+    omega (arith, later)
+
+-- what a settled doubt leaves of the room
+pub room_settled : (ledger ledger' : LedgerState) (rows rows' : List (ℕ × List Cell)) (pending : Option Pending) (outcome : Settled) → IfSome pending (Fits ledger) → AddsSettled ledger rows pending outcome ledger' rows'
+    → ledger.room ≤ ledger'.room + most_reports
+room_settled ledger ledger' rows rows' None outcome fits (same, same_rows) = let room = ap (λ (l : LedgerState). l.room) same in omega (arith, room)
+room_settled ledger ledger' rows rows' (Some pending) S.Clean fits (same, same_rows) = let room = ap (λ (l : LedgerState). l.room) same in omega (arith, room)
+room_settled ledger ledger' rows rows' (Some pending) S.Dropped fits (same, same_rows) = let room = ap (λ (l : LedgerState). l.room) same in omega (arith, room)
+room_settled ledger ledger' rows rows' (Some (P.Accept new)) (S.Kept place) fits (filed, at, same, same_rows) = let room = ap (λ (l : LedgerState). l.room) same in omega (arith, room)
+room_settled ledger ledger' rows rows' (Some (P.Ask number)) (S.Kept place) fits (same, same_rows) = let room = ap (λ (l : LedgerState). l.room) same in omega (arith, room)
+room_settled ledger ledger' rows rows' (Some (P.Withdraw number)) (S.Kept place) fits (same, same_rows) = let room = ap (λ (l : LedgerState). l.room) same in omega (arith, room)
+room_settled ledger ledger' rows rows' (Some (P.Reports numbers)) (S.Kept place) fits (same, same_rows) =
+    let few : length numbers.items ≤ most_reports = fits.1 in
+    omega (arith, ap (λ (l : LedgerState). l.room) same, reports-room numbers.items ledger, few)
+
+-- while reports are added, one after the other
+pub record IsAdding (first : LedgerState) (numbers : List ℕ) (ledger : LedgerState) (rest : List ℕ) : Type 0 where
+  pub all : with_reports ledger rest ≡ with_reports first numbers
+  pub room : length rest ≤ ledger.room
+  pub held : AreHeld ledger rest
+
+pub adding_begins : (ledger : LedgerState) (numbers : List ℕ) → FitReports ledger numbers → IsAdding ledger numbers ledger numbers
+adding_begins ledger numbers fits =
+    let large : most_reports ≤ ledger.room = fits.0 in
+    let few : length numbers ≤ most_reports = fits.1 in
+    record { all = refl; room = omega (arith, large, few); held = fits.2 }
+
+held_reported : (ledger : LedgerState) (event : Event) (numbers : List ℕ) → accepts event ≡ None → withdraws event ≡ None → AreHeld ledger numbers → AreHeld (with_event ledger event) numbers
+held_reported ledger event [] none none_too held = tt
+held_reported ledger event (number ∷ numbers) none none_too held =
+    ((held.0.0, held_plain ledger.log event (id_of ledger number) none none_too ∙ held.0.1), held_reported ledger event numbers none none_too held.1)
+
+pub adding_one : (first : LedgerState) (numbers : List ℕ) (ledger ledger' : LedgerState) (rest : List ℕ) (number : ℕ) (behind : List ℕ) → rest ≡ number ∷ behind → ledger' ≡ with_event ledger (E.Reported (id_of ledger number) true) → IsAdding first numbers ledger rest
+    → IsAdding first numbers ledger' behind
+adding_one first numbers ledger ledger' rest number behind is same adding =
+    let event = E.Reported (id_of ledger number) true in
+    let here = subst (λ ns. IsAdding first numbers ledger ns) is adding in
+    let room = here.room in
+    subst (λ (l : LedgerState). IsAdding first numbers l behind) (sym same)
+    (record { all = here.all; room = omega (arith, room); held = held_reported ledger event behind refl refl here.held.1 })
+
+-- the next one may be added
+pub adding_next : (first : LedgerState) (numbers : List ℕ) (ledger : LedgerState) (rest : List ℕ) (number : ℕ) (behind : List ℕ) → rest ≡ number ∷ behind → IsAdding first numbers ledger rest
+    → (number < length ledger.crashes) × (IsTrue (is_held ledger.log (id_of ledger number)) × (0 < ledger.room))
+adding_next first numbers ledger rest number behind is adding =
+    let here = subst (λ ns. IsAdding first numbers ledger ns) is adding in
+    let room = here.room in
+    (here.held.0.0, (here.held.0.1, omega (arith, room)))
+
+pub adding_ends : (first : LedgerState) (numbers : List ℕ) (ledger : LedgerState) (rest : List ℕ) → length rest ≡ 0 → IsAdding first numbers ledger rest → ledger ≡ with_reports first numbers
+adding_ends first numbers ledger [] none adding = adding.all
+adding_ends first numbers ledger (number ∷ rest) none adding = absurd (omega (arith, none))

@@ -253,7 +253,7 @@ module _ (basis : Basis) (limits : Limits) (ledger : LedgerState) (rows : List (
 
       -- the digests are equal, and the disk is asked
       module _ (same_digest : f.digest ≡ new.digest) (disk' : DiskTold) (journal' : JournalState) (looks : Looks disk disk') (same_journal : journal' ≡ journal)
-          (moves : (entries : List Entry) (doubt : Option Entry) → Means disk journal entries doubt → Means disk' journal' entries doubt) where
+          (moves : (entries : List Entry) (doubt : List Entry) → Means disk journal entries doubt → Means disk' journal' entries doubt) where
         moved : Stands basis limits ledger rows pending journal' disk' (settled log)
         moved = stands_moved basis limits ledger rows pending journal disk journal' disk' (settled log) stands same_journal moves
 
@@ -272,14 +272,14 @@ module _ (basis : Basis) (limits : Limits) (ledger : LedgerState) (rows : List (
 
         -- it answers
         module _ (text : List ℕ) (text_is : text ≡ content_text crash) (holds : Bool)
-            (reads : (entries : List Entry) (doubt : Option Entry) (entry : Entry) (at skip : ℕ) → Means disk journal entries doubt → IsAt entries at entry → f.content ≡ at + (head_size + skip) → skip ≤ length entry.body
+            (reads : (entries : List Entry) (doubt : List Entry) (entry : Entry) (at skip : ℕ) → Means disk journal entries doubt → IsAt entries at entry → f.content ≡ at + (head_size + skip) → skip ≤ length entry.body
             → (more : List ℕ) × (IsTrue holds ↔ (take (length text) (drop skip entry.body ++ more) ≡ text))) where
           tells_content : (is_told : IsTrue basis.is_told) → (more : List ℕ) × (IsTrue holds ↔ (take (length (content_text crash)) (content_text (known_now is_told).raw ++ more) ≡ content_text crash))
           tells_content is_told =
               let k = known_now is_told in
               let skip = length (head_text k.raw) in
               let within_body : skip ≤ length (record_of k.raw) = omega (arith, record_length k.raw) in
-              let read = reads (entries_of (kept_of log)) None (entry_of (accepting k.raw)) f.place skip (stands.told is_told).means k.filed.at k.filed.content within_body in (
+              let read = reads (entries_of (kept_of log)) [] (entry_of (accepting k.raw)) f.place skip (stands.told is_told).means k.filed.at k.filed.content within_body in (
                 read.0,
                 subst (λ (t : List ℕ). IsTrue holds ↔ (take (length t) (content_text k.raw ++ read.0) ≡ t)) text_is
                     (subst (λ (b : List ℕ). IsTrue holds ↔ (take (length text) (b ++ read.0) ≡ text)) (content_at k.raw skip refl) read.1),

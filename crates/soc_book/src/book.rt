@@ -1,6 +1,7 @@
 //! The desk over the journal on a disk.
-ghost use Rattle.std.specs.Prelude.{◌≡◌, ◌<◌, ◌^◌, ◌≤◌, ◌+◌, ◌++◌, ◌∷◌, [], List, false, length, slice_get, IfErr, IfSome, IsTrue, ◌≢◌, MatchOption, MatchResult, None, OnErr, OnOk, Some};
+ghost use Rattle.std.specs.Prelude.{◌≡◌, ◌<◌, ◌^◌, ◌≤◌, ◌+◌, ◌++◌, ◌∷◌, [], List, false, length, map, slice_get, IfErr, IfSome, IsTrue, ◌≢◌, MatchOption, MatchResult, None, OnErr, OnOk, Some};
 ghost use Rattle.soc_edge.specs.Disk.{Looks};
+ghost use Rattle.soc_journal.specs.Entries.{sealed_all};
 ghost use Rattle.soc_ledger.specs.Due.{due_ids};
 ghost use Rattle.soc_ledger.specs.Events.{ask_count, held_ids, is_held, withdrawal_count};
 ghost use Rattle.soc_ledger.specs.Reported.{report_count};
@@ -8,14 +9,14 @@ ghost use Rattle.soc_ledger.specs.State.{id_of};
 ghost use Rattle.soc_desk.specs.Basis.{Basis};
 ghost use Rattle.soc_desk.specs.Decisions.{without};
 ghost use Rattle.soc_desk.specs.Log.{Change as Logged, IsLegal, Kept, events, keep};
-ghost use Rattle.soc_desk.specs.State.{State, entry_of, settled};
+ghost use Rattle.soc_desk.specs.State.{State, entries_of, entry_of, settled};
 ghost use Rattle.soc_desk.specs.Kinds.{IsReplyTo, RefusesWrite};
 ghost use Rattle.soc_book.specs.Books.{AllowsBook, AsksBook};
 ghost use Rattle.soc_book.specs.inner.Books.{reply_of};
 ghost use Rattle.soc_book.specs.inner.Does.{Does};
-ghost use Rattle.soc_book.specs.inner.Pieces.{Begins, Decodes, IsAppended, IsHeldAs, IsRead, IsReading, IsWriteReply, IsWritten, Sees};
+ghost use Rattle.soc_book.specs.inner.Pieces.{AreAppended, Begins, Decodes, IsAppended, IsHeldAs, IsRead, IsReading, IsWriteReply, IsWritten, Sees};
 ghost use Rattle.soc_book.specs.inner.Safe.{IsSafe-prop};
-ghost use Rattle.soc_book.specs.inner.Stands.{AddsSettled, Fits, IsKnownCrash, IsPending, IsSafe, Pushes, Stands};
+ghost use Rattle.soc_book.specs.inner.Stands.{AddsSettled, AreReports, FitReports, Fits, IsKnownCrash, IsPending, IsSafe, Pushes, Stands, most_reports, with_reports};
 
 use crate::prepared::{Prepared, Work};
 use crate::submission::NewCrash;
@@ -40,12 +41,12 @@ pub struct Book<'a, D: Disk, R: Reporter> {
     pub(crate) vault: Vault<'a, D>,
     /// The rows of reports, each at its crash's number.
     pub(crate) store: Store,
-    /// The change whose write failed.
+    /// The changes whose write failed.
     pub(crate) doubt: Option<Change>,
     ghost safe: { IsSafe ledger vault.journal doubt } by { IsSafe-prop ledger vault.journal doubt },
 }
 
-/// A change of the log that the journal keeps.
+/// Changes of the log that the journal keeps, of one write.
 #[derive(Debug, Drop)]
 pub(crate) enum Change {
     /// A new crash is accepted.
@@ -54,12 +55,15 @@ pub(crate) enum Change {
     Ask(u32),
     /// The crash of a number is withdrawn.
     Withdraw(u32),
-    /// The report of the crash of a number is kept, as the run's own lists and symbols made it.
-    Report(u32),
+    /// The reports of the crashes of these numbers are kept, as the run's own lists and symbols made them.
+    Reports(Vec<u32>),
 }
 
+/// How many reports are written together at most.
+pub(crate) const MOST_REPORTS: u32 = 1_024;
+
 /// How many events a writing command adds at most: the doubt that it settles, and its own.
-const ROOM: u32 = 2;
+const ROOM: u32 = MOST_REPORTS + 1;
 
 impl<'a, D: Disk, R: Reporter> Book<'a, D, R> {
     /// How many changes the log has.
@@ -280,7 +284,7 @@ impl<'a, D: Disk, R: Reporter> Book<'a, D, R> {
         self.settle()
     }
 
-    /// Settles a doubt, where there is one: the log gets the change, or it is forgotten.
+    /// Settles a doubt, where there is one: the log gets its changes, or they are forgotten.
     pub(crate) fn settle(&mut self) -> Result<(), Refusal>
         ensures same_disk { self.new.vault.disk.ghost_name ≡ self.old.vault.disk.ghost_name }
         ensures limits { self.new.limits ≡ self.old.limits }
@@ -288,7 +292,7 @@ impl<'a, D: Disk, R: Reporter> Book<'a, D, R> {
         ensures refusal { IfErr result RefusesWrite }
         ensures settled { OnOk result (self.new.vault.journal.doubt ≡ None) }
         ensures fault { IfErr result (λ refusal. refusal ≡ Refusal.StoreFault) }
-        ensures room { self.old.ledger.room ≤ self.new.ledger.room + 1 }
+        ensures room { self.old.ledger.room ≤ self.new.ledger.room + most_reports }
         ensures looks { Looks (D.state self.old.vault.disk.now) (D.state self.new.vault.disk.now) }
         ensures stands { (basis : Basis) (state : State) → Stands basis self.old.limits self.old.ledger self.old.store self.old.doubt self.old.vault.journal (D.state self.old.vault.disk.now) state
             → Begins state (D.state self.old.vault.disk.now) (D.state self.new.vault.disk.now) result
@@ -349,6 +353,40 @@ impl<'a, D: Disk, R: Reporter> Book<'a, D, R> {
             Err(refusal) => Reply::Refused(refusal),
         }
     }
+
+    /// Keeps the entries of reports on the disk, all of them or none, and then adds the reports to the log.
+    pub(crate) fn append_reports(
+        &mut self,
+        entries: &[EntryText],
+        numbers: Vec<u32>,
+    ) -> Result<(), Refusal>
+        requires settled { self.old.vault.journal.doubt ≡ None }
+        requires some { 0 < length entries.now }
+        requires room { self.old.vault.journal.gate + length (sealed_all entries.now) ≤ self.old.vault.journal.limit }
+        requires fits { FitReports self.old.ledger numbers.items }
+        ensures same_disk { self.new.vault.disk.ghost_name ≡ self.old.vault.disk.ghost_name }
+        ensures limits { self.new.limits ≡ self.old.limits }
+        ensures reporter { self.new.reporter.now ≡ self.old.reporter.now }
+        ensures settled { OnOk result (self.new.vault.journal.doubt ≡ None) }
+        ensures crashes { self.new.ledger.crashes ≡ self.old.ledger.crashes }
+        ensures appended { (basis : Basis) (log : List Logged) (first : Kept) (more : List Kept)
+            → Stands basis self.old.limits self.old.ledger self.old.store self.old.doubt self.old.vault.journal (D.state self.old.vault.disk.now) (settled log)
+            → AreReports basis log self.old.ledger numbers.items (first ∷ more) → IsLegal basis (log ++ map keep (first ∷ more)) → entries.now ≡ entries_of (first ∷ more)
+            → (after : State) × Stands basis self.new.limits self.new.ledger self.new.store self.new.doubt self.new.vault.journal (D.state self.new.vault.disk.now) after
+            × AreAppended basis log (D.state self.old.vault.disk.now) (first ∷ more) result after (D.state self.new.vault.disk.now) }
+    {
+        match self.vault.keep_all(entries) {
+            Ok(_) => {
+                push_reports(&mut self.ledger, numbers.as_slice());
+                Ok(())
+            }
+            Err(AppendError::JournalFull) => Err(Refusal::JournalFull),
+            Err(AppendError::StoreFault) => {
+                self.doubt = Some(Change::Reports(numbers));
+                Err(Refusal::StoreFault)
+            }
+        }
+    }
 }
 
 /// The raw crash of an id, of which the bytes are to be the record.
@@ -368,7 +406,7 @@ fn raw_of_record(alloc: Global, id: CrashId, body: &[u8]) -> Result<RawCrash, Re
 
 /// Takes the memory of the events that a command adds.
 pub(crate) fn make_room(ledger: &mut Ledger) -> Result<(), Refusal>
-    ensures { MatchResult result (λ _. (ledger.new ≡ record ledger.old { room = ledger.new.room }) × (2 ≤ ledger.new.room) × (ledger.old.room ≤ ledger.new.room))
+    ensures { MatchResult result (λ _. (ledger.new ≡ record ledger.old { room = ledger.new.room }) × (most_reports + 1 ≤ ledger.new.room) × (ledger.old.room ≤ ledger.new.room))
         (λ refusal. (refusal ≡ Refusal.NoMemory) × (ledger.new ≡ ledger.old)) }
 {
     match ledger.reserve(ROOM) {
@@ -377,7 +415,7 @@ pub(crate) fn make_room(ledger: &mut Ledger) -> Result<(), Refusal>
     }
 }
 
-/// Adds a change that was in doubt to the tables, where its entry was kept.
+/// Adds changes that were in doubt to the tables, where their entries were kept.
 fn push_settled(ledger: &mut Ledger, store: &mut Store, doubt: Option<Change>, settled: Settled)
     requires { IfSome doubt (Fits ledger.old) }
     ensures { AddsSettled ledger.old store.old doubt settled ledger.new store.new }
@@ -387,7 +425,7 @@ fn push_settled(ledger: &mut Ledger, store: &mut Store, doubt: Option<Change>, s
     }
 }
 
-/// Adds a change whose entry stands at a place to the tables.
+/// Adds changes whose entries stand from a place on to the tables.
 fn push(ledger: &mut Ledger, store: &mut Store, change: Change, place: u64)
     requires { Fits ledger.old change }
     ensures { Pushes ledger.old store.old change place ledger.new store.new }
@@ -399,7 +437,19 @@ fn push(ledger: &mut Ledger, store: &mut Store, change: Change, place: u64)
             let _ = store.take(number);
             ledger.withdraw(number);
         }
-        Change::Report(number) => ledger.report(number, true),
+        Change::Reports(numbers) => push_reports(ledger, numbers.as_slice()),
+    }
+}
+
+/// Adds a report of the crash of each number.
+fn push_reports(ledger: &mut Ledger, numbers: &[u32])
+    requires { FitReports ledger.old numbers.now }
+    ensures { ledger.new ≡ with_reports ledger.old numbers.now }
+{
+    let mut rest = numbers;
+    while let Some((number, behind)) = rest.split_first() {
+        ledger.report(*number, true);
+        rest = behind;
     }
 }
 

@@ -1,30 +1,91 @@
 //! Reports that are kept for later runs.
-ghost use Rattle.std.specs.Prelude.{◌≡◌, ◌<◌, ◌&&◌, ◌++◌, ◌∷◌, [], IsTrue, IfOk, OnOk, List, None, Some, length};
+ghost use Rattle.std.specs.Prelude.{◌≡◌, ◌+◌, ◌<◌, ◌≤◌, ◌^◌, not, ◌&&◌, ◌++◌, ◌∷◌, [], ℕ, IsTrue, IfOk, MatchResult, OnErr, OnOk, List, None, Some, length};
 ghost use Rattle.std.specs.Option.{option_map};
-ghost use Rattle.soc_ledger.specs.Events.{is_held};
+ghost use Rattle.soc_journal.specs.Entries.{entry_text, max_body};
 ghost use Rattle.soc_ledger.specs.State.{id_of};
 ghost use Rattle.soc_store.specs.Stored.{row_at};
 ghost use Rattle.soc_desk.specs.Basis.{Basis, RowsTell};
-ghost use Rattle.soc_desk.specs.Log.{Change as Logged, IsLegal, KeptReport, keep as keep_change, report as kept_report};
-ghost use Rattle.soc_desk.specs.State.{State, entry_of, settled};
+ghost use Rattle.soc_desk.specs.Log.{Change as Logged, IsLegal, Kept};
+ghost use Rattle.soc_desk.specs.State.{State, entries_of, settled};
 ghost use Rattle.soc_book.specs.Keeping.{KeepsReports};
-ghost use Rattle.soc_book.specs.declared.book.Change.TheVariants as Pending;
-ghost use Rattle.soc_book.specs.inner.Keepings.{KeepsAll, KeepsEntry, KeepsOne, MakesEntry, is_wanted, keep_reply, unless_full};
+ghost use Rattle.soc_book.specs.inner.Keepings.{HasGathered, IsBatch, IsMost, IsSameBatch, KeepsAll, KeepsBatch, LeavesSome, MakesEntry, MayMakeEntry, is_wanted, keep_reply, with_all};
 ghost use Rattle.soc_book.specs.inner.Pieces.{product_at};
-ghost use Rattle.soc_book.specs.inner.Stands.{FitsHeld, IsPending, Stands};
+ghost use Rattle.soc_book.specs.inner.Stands.{AreReports, Stands, most_reports};
 
-use crate::book::{Book, Change, make_room};
+use crate::book::{Book, MOST_REPORTS, make_room};
 use crate::report::{HEAD, report_text, tells};
 use soc_base::NoMemory;
 use soc_desk::{Refusal, Reply};
 use soc_edge::{Disk, Steps};
-use soc_journal::{EntryText, MAX_BODY};
+use soc_journal::{ENTRY_HEAD, EntryText, MAX_BODY};
 use soc_ledger::Filed;
 use soc_schema::Reporter;
 use soc_store::Store;
 use std::alloc::Global;
 use std::marker::Brand;
 use std::sync::ledger::{Blank, Ledger};
+
+/// How many bytes of entries are written together at most, but for those of the last one.
+const MOST_BYTES: u64 = 4_194_304;
+
+/// How many bytes stand beside an entry's body: its head, and the closed gate behind it.
+const BESIDE_BODY: u64 = ENTRY_HEAD as u64 + 1;
+
+/// Reports that are written together.
+#[derive(Drop)]
+struct Batch {
+    /// Their entries.
+    entries: Vec<EntryText>,
+    /// The numbers of their crashes.
+    numbers: Vec<u32>,
+    /// How many bytes the entries have.
+    bytes: u64,
+    /// The number of the first crash that wasn't looked at.
+    next: u32,
+}
+
+impl Batch {
+    fn new(alloc: Global, next: u32) -> Batch
+        ensures entries { result.entries.items ≡ [] }
+        ensures numbers { result.numbers.items ≡ [] }
+        ensures bytes { result.bytes ≡ 0 }
+        ensures next { result.next ≡ next }
+    {
+        Batch {
+            entries: Vec::new(alloc),
+            numbers: Vec::new(alloc),
+            bytes: 0,
+            next,
+        }
+    }
+
+    /// Whether these are enough to be written together.
+    fn is_full(&self) -> bool
+        ensures few { IsTrue (not result) → length self.now.numbers.items < most_reports }
+        ensures short { IsTrue (not result) → self.now.bytes < MOST_BYTES }
+        ensures some { IsTrue result → 0 < length self.now.numbers.items + self.now.bytes }
+    {
+        self.numbers.len() >= MOST_REPORTS as usize || self.bytes >= MOST_BYTES
+    }
+
+    /// Adds the report of the crash of a number. After an error nothing was added.
+    fn push(&mut self, number: u32, entry: EntryText) -> Result<(), NoMemory>
+        requires { self.old.bytes < MOST_BYTES }
+        ensures entries { OnOk result (self.new.entries.items ≡ self.old.entries.items ++ entry ∷ []) }
+        ensures numbers { OnOk result (self.new.numbers.items ≡ self.old.numbers.items ++ number ∷ []) }
+        ensures bytes { OnOk result (self.new.bytes ≡ self.old.bytes + length (entry_text entry)) }
+        ensures next { self.new.next ≡ self.old.next }
+        ensures unchanged { OnErr result (IsSameBatch self.old self.new) }
+    {
+        let count = entry.count();
+        self.entries.reserve(1)?;
+        self.numbers.reserve(1)?;
+        self.entries.push(entry).unwrap();
+        self.numbers.push(number).unwrap();
+        self.bytes += count;
+        Ok(())
+    }
+}
 
 impl<'a, D: Disk, R: Reporter> Book<'a, D, R> {
     /// Keeps the reports that were made by the reporter's lists and symbols for later runs that have the same, and answers
@@ -63,7 +124,7 @@ impl<'a, D: Disk, R: Reporter> Book<'a, D, R> {
         }
     }
 
-    /// Keeps the report of each crash, in the order in which they were accepted, where it is to be kept.
+    /// Keeps the report of each crash, in the order in which they were accepted, where it is to be kept, some together.
     fn keep_all(&mut self, digest: &[u8; 32]) -> Result<u64, Refusal>
         requires { self.old.vault.journal.doubt ≡ None }
         ensures same_disk { self.new.vault.disk.ghost_name ≡ self.old.vault.disk.ghost_name }
@@ -75,66 +136,122 @@ impl<'a, D: Disk, R: Reporter> Book<'a, D, R> {
             × KeepsAll basis log (D.state self.old.vault.disk.now) result after (D.state self.new.vault.disk.now) }
     {
         let mut kept = 0;
-        for number in 0..self.ledger.accepted() {
-            kept += u64::from(self.keep_report(number, digest)?);
+        let mut number = 0;
+        while number < self.ledger.accepted() {
+            let batch = self.next_batch(number, digest)?;
+            number = batch.next;
+            kept += self.keep_batch(batch)?;
         }
         Ok(kept)
     }
 
-    /// Keeps the report of the crash of a number, where it is to be kept, and answers whether it did.
-    fn keep_report(&mut self, number: u32, digest: &[u8; 32]) -> Result<bool, Refusal>
+    /// Keeps reports that were gathered, all of them or none, and answers how many they are.
+    fn keep_batch(&mut self, batch: Batch) -> Result<u64, Refusal>
         requires settled { self.old.vault.journal.doubt ≡ None }
-        requires within { number < length self.old.ledger.crashes }
+        requires batch { IsBatch self.old.ledger self.old.vault.journal batch }
         ensures same_disk { self.new.vault.disk.ghost_name ≡ self.old.vault.disk.ghost_name }
         ensures limits { self.new.limits ≡ self.old.limits }
         ensures reporter { self.new.reporter.now ≡ self.old.reporter.now }
         ensures settled { OnOk result (self.new.vault.journal.doubt ≡ None) }
         ensures crashes { self.new.ledger.crashes ≡ self.old.ledger.crashes }
-        ensures keeps { (basis : Basis) (log : List Logged) → basis.digest ≡ Some digest.now → RowsTell basis
+        ensures count { IfOk result (λ count. count ≡ length batch.numbers.items) }
+        ensures keeps { (basis : Basis) (log : List Logged) (reports : List Kept)
             → Stands basis self.old.limits self.old.ledger self.old.store self.old.doubt self.old.vault.journal (D.state self.old.vault.disk.now) (settled log)
+            → AreReports basis log self.old.ledger batch.numbers.items reports → IsLegal basis (with_all log reports) → batch.entries.items ≡ entries_of reports
             → (after : State) × Stands basis self.new.limits self.new.ledger self.new.store self.new.doubt self.new.vault.journal (D.state self.new.vault.disk.now) after
-            × KeepsOne basis log (id_of self.old.ledger number) (D.state self.old.vault.disk.now) result after (D.state self.new.vault.disk.now) }
+            × KeepsBatch basis log (D.state self.old.vault.disk.now) reports result after (D.state self.new.vault.disk.now) }
     {
-        if !self.is_to_keep(number) {
-            return Ok(false);
+        let Batch {
+            entries,
+            numbers,
+            ..
+        } = batch;
+        let count = numbers.len() as u64;
+        if count == 0 {
+            return Ok(0);
         }
-        let Some(entry) = self.report_entry(number, digest)? else {
-            return Ok(false);
-        };
-        self.keep_entry(number, &entry)
-    }
-
-    /// Keeps the entry of a report of the held crash of a number, where the journal has room for it, and answers whether it
-    /// did.
-    fn keep_entry(&mut self, number: u32, entry: &EntryText) -> Result<bool, Refusal>
-        requires settled { self.old.vault.journal.doubt ≡ None }
-        requires within { number < length self.old.ledger.crashes }
-        requires held { IsTrue (is_held self.old.ledger.log (id_of self.old.ledger number)) }
-        ensures same_disk { self.new.vault.disk.ghost_name ≡ self.old.vault.disk.ghost_name }
-        ensures limits { self.new.limits ≡ self.old.limits }
-        ensures reporter { self.new.reporter.now ≡ self.old.reporter.now }
-        ensures settled { OnOk result (self.new.vault.journal.doubt ≡ None) }
-        ensures crashes { self.new.ledger.crashes ≡ self.old.ledger.crashes }
-        ensures keeps { (basis : Basis) (log : List Logged) (made : KeptReport)
-            → Stands basis self.old.limits self.old.ledger self.old.store self.old.doubt self.old.vault.journal (D.state self.old.vault.disk.now) (settled log)
-            → IsPending basis log self.old.ledger (Pending.Report number) (kept_report made) → IsLegal basis (log ++ keep_change (kept_report made) ∷ [])
-            → entry.now ≡ entry_of (kept_report made)
-            → (after : State) × Stands basis self.new.limits self.new.ledger self.new.store self.new.doubt self.new.vault.journal (D.state self.new.vault.disk.now) after
-            × KeepsEntry basis log made (D.state self.old.vault.disk.now) result after (D.state self.new.vault.disk.now) }
-    {
         make_room(&mut self.ledger)?;
-        let appended = self.append(entry, Change::Report(number));
-        unless_full(appended)
+        self.append_reports(entries.as_slice(), numbers)?;
+        Ok(count)
     }
 
-    /// The entry of the report of the crash of a number, where it has a row that tells of it and isn't too long.
-    fn report_entry(&self, number: u32, digest: &[u8; 32]) -> Result<Option<EntryText>, NoMemory>
-        requires { number < length self.now.ledger.crashes }
-        ensures { IfOk result (MakesEntry (option_map (λ s. s.1) (row_at number self.now.store)) (id_of self.now.ledger number) (product_at self.now.ledger number) digest.now) }
+    /// The reports of crashes from a number on that are to be kept, as many as are written together. Where memory runs out,
+    /// these are those that were gathered first, if there are any.
+    fn next_batch(&self, from: u32, digest: &[u8; 32]) -> Result<Batch, NoMemory>
+        requires { from < length self.now.ledger.crashes }
+        ensures batch { IfOk result (IsBatch self.now.ledger self.now.vault.journal) }
+        ensures next { IfOk result (λ batch. (from < batch.next) × (batch.next ≤ length self.now.ledger.crashes)) }
+        ensures few { IfOk result (λ batch. from + length batch.numbers.items ≤ batch.next) }
+        ensures gathered { (basis : Basis) (log : List Logged) → basis.digest ≡ Some digest.now → RowsTell basis
+            → Stands basis self.now.limits self.now.ledger self.now.store self.now.doubt self.now.vault.journal (D.state self.now.vault.disk.now) (settled log)
+            → IfOk result (λ batch. (reports : List Kept) × HasGathered basis log self.now.ledger from batch.next batch.numbers.items batch.entries.items reports) }
+        ensures left { (basis : Basis) (log : List Logged) → basis.digest ≡ Some digest.now → RowsTell basis
+            → Stands basis self.now.limits self.now.ledger self.now.store self.now.doubt self.now.vault.journal (D.state self.now.vault.disk.now) (settled log)
+            → OnErr result (LeavesSome basis log from) }
+    {
+        let mut batch = Batch::new(self.alloc, from);
+        while batch.next < self.ledger.accepted() && !batch.is_full() {
+            match self.gather(&mut batch, digest) {
+                Ok(()) => batch.next += 1,
+                Err(_) if !batch.numbers.is_empty() => return Ok(batch),
+                Err(error) => return Err(error),
+            }
+        }
+        Ok(batch)
+    }
+
+    /// Adds the report of the next crash to those that are written together, where it is to be kept and the journal has room
+    /// for it behind them. After an error nothing was added.
+    fn gather(&self, batch: &mut Batch, digest: &[u8; 32]) -> Result<(), NoMemory>
+        requires within { batch.old.next < length self.now.ledger.crashes }
+        requires few { length batch.old.numbers.items < most_reports }
+        requires short { batch.old.bytes < MOST_BYTES }
+        requires batch { IsBatch self.now.ledger self.now.vault.journal batch.old }
+        ensures batch { IsBatch self.now.ledger self.now.vault.journal batch.new }
+        ensures next { batch.new.next ≡ batch.old.next }
+        ensures one { OnOk result (length batch.new.numbers.items ≤ length batch.old.numbers.items + 1) }
+        ensures unchanged { OnErr result (IsSameBatch batch.old batch.new) }
+        ensures gathered { (basis : Basis) (log : List Logged) (from : ℕ) (reports : List Kept) → basis.digest ≡ Some digest.now → RowsTell basis
+            → Stands basis self.now.limits self.now.ledger self.now.store self.now.doubt self.now.vault.journal (D.state self.now.vault.disk.now) (settled log)
+            → HasGathered basis log self.now.ledger from batch.old.next batch.old.numbers.items batch.old.entries.items reports
+            → MatchResult result (λ _. (more : List Kept) × HasGathered basis log self.now.ledger from (batch.old.next + 1) batch.new.numbers.items batch.new.entries.items more) (λ _. LeavesSome basis log from) }
+    {
+        let number = batch.next;
+        if !self.is_to_keep(number) {
+            return Ok(());
+        }
+        let most = self.most_body(batch.bytes);
+        match self.report_entry(number, digest, most)? {
+            Some(entry) => batch.push(number, entry),
+            None => Ok(()),
+        }
+    }
+
+    /// How many bytes the body of an entry may have behind so many bytes of others.
+    fn most_body(&self, behind: u64) -> u64
+        ensures { IsMost (self.now.vault.journal.gate + behind) self.now.vault.journal.limit result }
+    {
+        let room = self.vault.room().saturating_sub(behind);
+        room.saturating_sub(BESIDE_BODY).min(u64::from(MAX_BODY))
+    }
+
+    /// The entry of the report of the crash of a number, where it has a row that tells of it and a body of at most so many
+    /// bytes.
+    fn report_entry(
+        &self,
+        number: u32,
+        digest: &[u8; 32],
+        most: u64,
+    ) -> Result<Option<EntryText>, NoMemory>
+        requires within { number < length self.now.ledger.crashes }
+        requires most { most ≤ max_body }
+        ensures { MatchResult result
+            (MakesEntry (option_map (λ s. s.1) (row_at number self.now.store)) (id_of self.now.ledger number) (product_at self.now.ledger number) digest.now most)
+            (λ _. MayMakeEntry (option_map (λ s. s.1) (row_at number self.now.store)) (id_of self.now.ledger number) (product_at self.now.ledger number) most) }
     {
         let filed = &self.ledger.crash(number).filed;
         let blank = Blank::new(1);
-        entry_of_row::<Brand>(self.alloc, &self.store, number, filed, digest, blank)
+        entry_of_row::<Brand>(self.alloc, &self.store, number, filed, digest, most, blank)
     }
 
     /// Whether the crash of a number is held, has a report, isn't due, and has no report of this run's digest behind its
@@ -152,17 +269,6 @@ impl<'a, D: Disk, R: Reporter> Book<'a, D, R> {
     }
 }
 
-/// Whether an entry was appended, or the journal has no room for it.
-fn unless_full(appended: Result<(), Refusal>) -> Result<bool, Refusal>
-    ensures { result ≡ unless_full appended }
-{
-    match appended {
-        Ok(()) => Ok(true),
-        Err(Refusal::JournalFull) => Ok(false),
-        Err(refusal) => Err(refusal),
-    }
-}
-
 /// The reply to an answer how many reports were kept.
 fn keep_reply(answer: Result<u64, Refusal>) -> Reply
     ensures { result ≡ keep_reply answer }
@@ -173,29 +279,40 @@ fn keep_reply(answer: Result<u64, Refusal>) -> Reply
     }
 }
 
-/// The entry of the row at a place, where there is one that tells of the crash and whose text isn't too long.
+/// The entry of the row at a place, where there is one that tells of the crash, and the entry's body has at most so many
+/// bytes.
 fn entry_of_row<L: Ledger>(
     alloc: Global,
     store: &Store,
     place: u32,
     filed: &Filed,
     digest: &[u8; 32],
+    most: u64,
     blank: Blank,
 ) -> Result<Option<EntryText>, NoMemory>
+    requires most { most ≤ max_body }
     requires name { blank.name ≡ L.name }
     requires parts { blank.parts ≡ L.parts }
     requires some { 0 < blank.parts }
-    ensures { IfOk result (MakesEntry (option_map (λ s. s.1) (row_at place store.now)) filed.now.id filed.now.product digest.now) }
+    ensures { MatchResult result
+        (MakesEntry (option_map (λ s. s.1) (row_at place store.now)) filed.now.id filed.now.product digest.now most)
+        (λ _. MayMakeEntry (option_map (λ s. s.1) (row_at place store.now)) filed.now.id filed.now.product most) }
 {
     let mut steps: Steps<L> = Steps::new(blank);
     let Some(row) = store.row(place, &mut steps) else {
         return Ok(None);
     };
-    if !row.fits(u64::from(MAX_BODY) - HEAD as u64) {
+    let Some(most) = most.checked_sub(HEAD as u64) else {
+        return Ok(None);
+    };
+    if !row.fits(most) {
         return Ok(None);
     }
     if !tells(row, filed.id, &filed.product) {
         return Ok(None);
     }
-    Ok(Some(report_text(alloc, filed.id, digest, row)?))
+    match report_text(alloc, filed.id, digest, row) {
+        Ok(entry) => Ok(Some(entry)),
+        Err(error) => Err(error),
+    }
 }

@@ -83,30 +83,6 @@ impl Restored {
 }
 
 impl<'a, D: Disk, R: Reporter> Book<'a, D, R> {
-    /// The book whose log the disk's journal keeps, as `Restored::read` reads it. The disk is lent to the book then, so
-    /// that `StoreFault` comes only where the disk failed is said by `Restored::read` alone.
-    pub fn open(
-        alloc: Global,
-        disk: &'a mut D,
-        reporter: &'a R,
-        limits: Limits,
-    ) -> Result<Book<'a, D, R>, OpenError>
-        ensures same_disk { IfOk result (λ book. book.vault.disk.ghost_name ≡ disk.entry.ghost_name) }
-        ensures limits { IfOk result (λ book. book.limits ≡ limits) }
-        ensures reporter { IfOk result (λ book. book.reporter.now ≡ reporter.now) }
-        ensures opens { IfOk result (λ book. (basis : Basis) → IsBasisOf (R.row_of reporter.now) (R.digest_of reporter.now) limits (D.state disk.old).content basis
-            → OpensBook basis (D.state disk.old) (D.state book.vault.disk.now)
-            (Stands basis book.limits book.ledger book.store book.doubt book.vault.journal (D.state book.vault.disk.now))) }
-        ensures any_moment { IfOk result (λ book. IfSome (D.state disk.old).content (λ bytes.
-            LeavesOnly (D.state disk.old) (D.state book.vault.disk.now) (OpeningLeaves (D.state disk.old).images bytes))) }
-        ensures goes_on { IfOk result (λ book. GoesOn (D.state disk.old) (D.state book.vault.disk.now)) }
-        ensures not_ours { IsErrOf result OpenError.NotOurs → IfSome (D.state disk.old).content (λ bytes. (bytes ≢ []) × ¬ (HasHeader bytes)) }
-        ensures bad_entry { (place : ℕ) → IsErrOf result (OpenError.BadEntry place) → IfSome (D.state disk.old).content (λ bytes. StopsAtEntry bytes place) }
-    {
-        let restored = Restored::read(alloc, disk, reporter, limits)?;
-        Ok(Book::over(alloc, disk, reporter, limits, restored))
-    }
-
     /// The book over a disk whose journal was read with the same reporter and limits.
     pub fn over(
         alloc: Global,

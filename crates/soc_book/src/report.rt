@@ -63,6 +63,7 @@ pub(crate) fn report_text(
     requires short { AllByRecursion (λ c. IsShort c.value) row.now }
     requires fits { HEAD + length (row_text row.now) ≤ max_body }
     ensures entry { IfOk result (λ entry. entry ≡ entry_of (kept_report record { id = id; digest = digest.now; row = row.now })) }
+    ensures sized { IfOk result (λ entry. length entry.body ≡ HEAD + length (row_text row.now)) }
     ensures has_text { OnOk result (HasText row.now (row_text row.now)) }
 {
     let body = report_body(alloc, id, digest, row)?;

@@ -1,6 +1,6 @@
 -- What a command over a book does, whatever the disk tells and where it tells its content; a receipt and the log's length
 -- are not spoken of.
-use Rattle.std.specs.Prelude.{◌≡◌, ◌⊎◌, false, IsTrue, List, ◌++◌, Option, IsSomeAnd, ⊤}
+use Rattle.std.specs.Prelude.{◌≡◌, ◌⊎◌, false, IsTrue, List, ◌++◌, IsSomeAnd, ⊤}
 use Rattle.soc_edge.specs.Disk.{DiskTold, GoesOn, DiskFailed}
 use Rattle.soc_ledger.specs.declared.event.Event.{Event}
 use Rattle.soc_desk.specs.declared.desk.Command.{Command}
@@ -30,7 +30,7 @@ pub record Does (basis : Basis) (before : State) (disk : DiskTold) (command : Co
 -- ---- commands that write, once the doubt is settled
 
 -- what a command that writes adds to a settled log under its reply, and what is in doubt afterwards
-abbrev pub Adds : Basis → Command → Reply → Option Event → List Event → List Event → Type 0
+abbrev pub Adds : Basis → Command → Reply → List Event → List Event → List Event → Type 0
 Adds basis (C.Submit raw) = Submits basis raw.id
 Adds basis (C.Priority caller id) = Prioritises caller id
 Adds basis (C.Reprocess caller id) = Reprocesses caller id

@@ -1,9 +1,10 @@
 -- What keeping reports does: of one crash, of all so far, and of all.
-use Rattle.std.specs.Prelude.{◌≡◌, ◌⊎◌, ℕ, ◌+◌, ◌<◌, ◌≤◌, Bool, true, false, ◌&&◌, IsTrue, List, ◌++◌, ◌∷◌, [], length, map, filter, drop, Option, None, Some, Result, Ok, Err}
+use Rattle.std.specs.Prelude.{◌≡◌, ◌≢◌, ◌⊎◌, ℕ, ◌+◌, ◌<◌, ◌≤◌, Bool, true, ◌&&◌, IsTrue, List, ◌++◌, [], length, map, filter, drop, slice_get, Option, None, Some, Result, Ok, Err}
 use Rattle.soc_schema.specs.declared.value.Cell.{Cell}
 use Rattle.soc_schema.specs.RowText.{HasText, row_text}
 use Rattle.soc_edge.specs.Disk.{DiskTold, GoesOn, DiskFailed, LeavesOnly}
-use Rattle.soc_journal.specs.Entries.{Entry, max_body}
+use Rattle.soc_journal.specs.Entries.{Entry, beside_body, entries_text, max_body, sealed_all}
+use Rattle.soc_journal.specs.States.{JournalState}
 use Rattle.soc_ledger.specs.declared.event.Event.{Event}
 use Rattle.soc_ledger.specs.declared.event.Event.TheVariants as E
 use Rattle.soc_ledger.specs.Events.{is_held, accepted_ids}
@@ -13,81 +14,49 @@ use Rattle.soc_desk.specs.declared.desk.Refusal.{Refusal}
 use Rattle.soc_desk.specs.declared.desk.Refusal.TheVariants as F
 use Rattle.soc_desk.specs.Asks.{IsStoreFault}
 use Rattle.soc_desk.specs.Basis.{Basis}
-use Rattle.soc_desk.specs.Keeps.{IsPartOf, KeepsEach, Reports, StandsBetween, ids_to_keep, is_passed_over, is_to_keep, kept_with_doubt, report_of}
-use Rattle.soc_desk.specs.Log.{Change, KeptReport, report, keep, events, is_own}
-use Rattle.soc_desk.specs.State.{State, settled, doubted, Survives, entry_of, has_room, kept_of}
+use Rattle.soc_desk.specs.Keeps.{IsPartOf, KeepsFirst, Reports, StandsBetween, ids_to_keep, is_to_keep, kept_with_doubt, to_append}
+use Rattle.soc_desk.specs.Log.{Change, Kept, KeptReport, report, keep, events, IsLegal}
+use Rattle.soc_desk.specs.State.{State, doubted, settled, Survives, entry_of, entries_of, kept_of}
+use Rattle.soc_ledger.specs.State.{LedgerState}
 use Rattle.soc_book.specs.inner.Books.{IsRowFor}
+use Rattle.soc_book.specs.declared.keep.Batch.{Batch}
+use Rattle.soc_book.specs.inner.Stands.{AreHeld, AreReports, most_reports}
 
 -- ---- the entry of a report
 
 abbrev pub own_report : List ℕ → List ℕ → List Cell → KeptReport
 own_report id digest row = record { id = id; digest = digest; row = row }
 
--- the entry is that of a report with this row, which tells of the crash
-pub record IsEntryOfRow (made : KeptReport) (product : Option (List ℕ)) (entry : Entry) : Type 0 where
+-- the entry is that of a report with this row, which tells of the crash, and its body has at most so many bytes
+pub record IsEntryOfRow (made : KeptReport) (product : Option (List ℕ)) (most : ℕ) (entry : Entry) : Type 0 where
   pub is : entry ≡ entry_of (report made)
   pub has_text : HasText made.row (row_text made.row)
   pub tells : IsRowFor made.id product made.row
-  pub fits : 68 + length (row_text made.row) ≤ max_body
+  pub sized : length entry.body ≡ 68 + length (row_text made.row)
+  pub fits : 68 + length (row_text made.row) ≤ most
 
--- the entry of a row, where there is one that tells of the crash and isn't longer than an entry may be
-abbrev pub MakesEntry : Option (List Cell) → List ℕ → Option (List ℕ) → List ℕ → Option Entry → Type 0
-MakesEntry None id product digest entry = entry ≡ None
-MakesEntry (Some row) id product digest None = (max_body < 68 + length (row_text row)) ⊎ ¬ (IsRowFor id product row)
-MakesEntry (Some row) id product digest (Some entry) = IsEntryOfRow (own_report id digest row) product entry
+-- there is a row that tells of the crash, and the body of its entry has at most so many bytes
+abbrev pub MayMakeEntry : Option (List Cell) → List ℕ → Option (List ℕ) → ℕ → Type 0
+MayMakeEntry None id product most = ⊥
+MayMakeEntry (Some row) id product most = (68 + length (row_text row) ≤ most) × IsRowFor id product row
 
--- ---- one crash
+-- the entry of a row, where there is one that tells of the crash and whose entry's body has at most so many bytes
+abbrev pub MakesEntry : Option (List Cell) → List ℕ → Option (List ℕ) → List ℕ → ℕ → Option Entry → Type 0
+MakesEntry None id product digest most entry = entry ≡ None
+MakesEntry (Some row) id product digest most None = (most < 68 + length (row_text row)) ⊎ ¬ (IsRowFor id product row)
+MakesEntry (Some row) id product digest most (Some entry) = IsEntryOfRow (own_report id digest row) product most entry
+
+-- a body of at most so many bytes has room behind this place, and a longer one hasn't or is longer than an entry's may be
+pub record IsMost (behind limit most : ℕ) : Type 0 where
+  pub few : most ≤ max_body
+  pub room : 0 < most → behind + beside_body + most ≤ limit
+  pub no_more : (most ≡ max_body) ⊎ (limit ≤ behind + beside_body + most)
+
+-- ---- which crashes
 
 -- the crash of the id is held, and its report is to be kept
 abbrev pub is_wanted : List Event → List ℕ → Bool
 is_wanted log id = is_held log id && is_to_keep log id
-
--- the crash's report by the run's own lists and symbols
-pub record IsOwnReport (basis : Basis) (log : List Change) (id : List ℕ) (made : KeptReport) : Type 0 where
-  pub id_is : made.id ≡ id
-  pub own : is_own basis made.digest ≡ true
-  pub report_is : IsTrue basis.is_told → report_of basis log id ≡ Some made
-
--- whether an entry was appended, or the journal has no room for it
-abbrev pub unless_full : Result (Unit {0}) Refusal → Result Bool Refusal
-unless_full (Ok _) = Ok true
-unless_full (Err F.JournalFull) = Ok false
-unless_full (Err refusal) = Err refusal
-
--- the report is appended, its write failed, or the journal has no room for it
-abbrev pub EndsEntry : Basis → List Change → KeptReport → Result Bool Refusal → State → DiskTold → DiskTold → Type 0
-EndsEntry basis log made (Ok true) after disk disk' =
-    (after ≡ settled (log ++ keep (report made) ∷ [])) × (IsTrue basis.is_told → has_room basis log (report made) ≡ true)
-EndsEntry basis log made (Ok false) after disk disk' =
-    (after ≡ settled log) × (IsTrue basis.is_told → has_room basis log (report made) ≡ false)
-EndsEntry basis log made (Err F.StoreFault) after disk disk' =
-    (after ≡ record { log = log; doubt = Some (report made) }) × DiskFailed disk disk' × (IsTrue basis.is_told → has_room basis log (report made) ≡ true)
-EndsEntry basis log made (Err F.NoMemory) after disk disk' = after ≡ settled log
-EndsEntry basis log made (Err _) after disk disk' = ⊥
-
-pub record KeepsEntry (basis : Basis) (log : List Change) (made : KeptReport) (disk : DiskTold) (result : Result Bool Refusal) (after : State) (disk' : DiskTold) : Type 0 where
-  pub ends : EndsEntry basis log made result after disk disk'
-  pub goes_on : GoesOn disk disk'
-  pub survives : IsTrue basis.is_told → Survives disk disk' (settled log) after
-
--- the report of a crash is kept, passed over, or not to be kept
-abbrev pub EndsOne : Basis → List Change → List ℕ → Result Bool Refusal → State → DiskTold → DiskTold → Type 0
-EndsOne basis log id (Ok true) after disk disk' =
-    (made : KeptReport) × IsOwnReport basis log id made × (is_wanted (events basis log) id ≡ true) × (after ≡ settled (log ++ keep (report made) ∷ []))
-    × (IsTrue basis.is_told → is_passed_over basis log made ≡ false)
-EndsOne basis log id (Ok false) after disk disk' =
-    (after ≡ settled log) × ((is_wanted (events basis log) id ≡ false)
-    ⊎ (IsTrue basis.is_told → (made : KeptReport) × (report_of basis log id ≡ Some made) × (is_passed_over basis log made ≡ true)))
-EndsOne basis log id (Err F.StoreFault) after disk disk' =
-    (made : KeptReport) × IsOwnReport basis log id made × (is_wanted (events basis log) id ≡ true) × (after ≡ record { log = log; doubt = Some (report made) })
-    × DiskFailed disk disk' × (IsTrue basis.is_told → is_passed_over basis log made ≡ false)
-EndsOne basis log id (Err F.NoMemory) after disk disk' = (after ≡ settled log) × (is_wanted (events basis log) id ≡ true)
-EndsOne basis log id (Err _) after disk disk' = ⊥
-
-pub record KeepsOne (basis : Basis) (log : List Change) (id : List ℕ) (disk : DiskTold) (result : Result Bool Refusal) (after : State) (disk' : DiskTold) : Type 0 where
-  pub ends : EndsOne basis log id result after disk disk'
-  pub goes_on : GoesOn disk disk'
-  pub survives : IsTrue basis.is_told → Survives disk disk' (settled log) after
 
 -- ---- every crash
 
@@ -95,18 +64,69 @@ pub record KeepsOne (basis : Basis) (log : List Change) (id : List ℕ) (disk : 
 abbrev pub rest_ids : List Event → ℕ → List (List ℕ)
 rest_ids log number = filter (is_wanted log) (drop number (accepted_ids log))
 
+-- the log with these changes
+abbrev pub with_all : List Change → List Kept → List Change
+with_all log changes = log ++ map keep changes
+
 -- what was kept before this number, and what is left
 pub record KeptSoFar (basis : Basis) (log : List Change) (number count : ℕ) (now : List Change) (disk disk' : DiskTold) : Type 0 where
   pub own : List (List ℕ)
-  pub piece : List Change
-  pub behind : now ≡ log ++ piece
-  pub events_are : events basis piece ≡ map (λ id. E.Reported id true) own
+  pub reports : List Kept
+  pub behind : now ≡ with_all log reports
+  pub events_are : events basis (map keep reports) ≡ map (λ id. E.Reported id true) own
   pub among : (more : List (List ℕ)) → IsPartOf more (rest_ids (events basis now) number) → IsPartOf (own ++ more) (rest_ids (events basis log) 0)
   pub count_is : count ≡ length own
+  pub reports_count : length reports ≡ length own
   pub goes_on : GoesOn disk disk'
-  pub keeps : IsTrue basis.is_told → (reply : Reply) (after : State) → KeepsEach basis now (rest_ids (events basis now) number) count reply after
-      → KeepsEach basis log (rest_ids (events basis log) 0) 0 reply after
+  pub keeps : IsTrue basis.is_told → to_append basis log (rest_ids (events basis log) 0) ≡ reports ++ to_append basis now (rest_ids (events basis now) number)
   pub survives : IsTrue basis.is_told → LeavesOnly disk disk' (StandsBetween (kept_of log) (kept_of now))
+
+-- These are the reports, of the crashes from one number on to another, that are to be kept and have room, in order: each may
+-- follow those before it. The crashes from the second number on are to be kept as before.
+pub record HasGathered (basis : Basis) (log : List Change) (ledger : LedgerState) (from to : ℕ) (numbers : List ℕ) (entries : List Entry) (reports : List Kept) : Type 0 where
+  pub ids : List (List ℕ)
+  pub are : AreReports basis log ledger numbers reports
+  pub entries_are : entries ≡ entries_of reports
+  pub legal : IsLegal basis (with_all log reports)
+  pub events_are : events basis (map keep reports) ≡ map (λ id. E.Reported id true) ids
+  pub ids_count : length ids ≡ length numbers
+  pub reports_count : length reports ≡ length numbers
+  pub among : (more : List (List ℕ)) → IsPartOf more (rest_ids (events basis (with_all log reports)) to) → IsPartOf (ids ++ more) (rest_ids (events basis log) from)
+  pub same : (number : ℕ) (id : List ℕ) → to ≤ number → slice_get (accepted_ids (events basis log)) number ≡ Some id
+      → is_wanted (events basis (with_all log reports)) id ≡ is_wanted (events basis log) id
+  pub keeps : IsTrue basis.is_told
+      → to_append basis log (rest_ids (events basis log) from) ≡ reports ++ to_append basis (with_all log reports) (rest_ids (events basis (with_all log reports)) to)
+
+-- some reports of the crashes from this number on are to be appended
+abbrev pub LeavesSome : Basis → List Change → ℕ → Type 0
+LeavesSome basis log number = IsTrue basis.is_told → to_append basis log (rest_ids (events basis log) number) ≢ []
+
+-- the reports are the same
+pub record IsSameBatch (before after : Batch) : Type 0 where
+  pub entries : after.entries.items ≡ before.entries.items
+  pub numbers : after.numbers.items ≡ before.numbers.items
+  pub bytes : after.bytes ≡ before.bytes
+
+-- a batch: its bytes are counted, each report has a number of a held crash, they aren't too many, and the journal has room
+pub record IsBatch (ledger : LedgerState) (journal : JournalState) (batch : Batch) : Type 0 where
+  pub bytes_are : batch.bytes ≡ length (entries_text batch.entries.items)
+  pub same_count : length batch.entries.items ≡ length batch.numbers.items
+  pub few : length batch.numbers.items ≤ most_reports
+  pub held : AreHeld ledger batch.numbers.items
+  pub room : 0 < length batch.entries.items → journal.gate + length (sealed_all batch.entries.items) ≤ journal.limit
+
+-- the reports of a batch are written, all of them; their write failed; or an allocation did
+abbrev pub EndsBatch : List Change → List Kept → Result ℕ Refusal → State → DiskTold → DiskTold → Type 0
+EndsBatch log reports (Ok count) after disk disk' = after ≡ settled (with_all log reports)
+EndsBatch log reports (Err F.StoreFault) after disk disk' =
+    (reports ≢ []) × (after ≡ record { log = log; doubt = reports }) × DiskFailed disk disk'
+EndsBatch log reports (Err F.NoMemory) after disk disk' = (reports ≢ []) × (after ≡ settled log)
+EndsBatch log reports (Err _) after disk disk' = ⊥
+
+pub record KeepsBatch (basis : Basis) (log : List Change) (disk : DiskTold) (reports : List Kept) (result : Result ℕ Refusal) (after : State) (disk' : DiskTold) : Type 0 where
+  pub ends : EndsBatch log reports result after disk disk'
+  pub goes_on : GoesOn disk disk'
+  pub survives : IsTrue basis.is_told → Survives disk disk' (settled log) after
 
 abbrev pub keep_reply : Result ℕ Refusal → Reply
 keep_reply (Ok count) = R.Kept count
@@ -118,5 +138,5 @@ pub record KeepsAll (basis : Basis) (log : List Change) (disk : DiskTold) (answe
   pub reports : Reports basis (keep_reply answer) (doubted basis after) (events basis log) (events basis piece)
   pub goes_on : GoesOn disk disk'
   pub fault : IsStoreFault (keep_reply answer) → DiskFailed disk disk'
-  pub keeps : IsTrue basis.is_told → KeepsEach basis log (ids_to_keep basis log) 0 (keep_reply answer) after
+  pub keeps : IsTrue basis.is_told → KeepsFirst log (to_append basis log (ids_to_keep basis log)) (keep_reply answer) after
   pub survives : IsTrue basis.is_told → LeavesOnly disk disk' (StandsBetween (kept_of log) (kept_with_doubt after))

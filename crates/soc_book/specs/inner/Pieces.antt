@@ -1,5 +1,5 @@
 -- What the pieces of a book's commands do.
-use Rattle.std.specs.Prelude.{◌≡◌, ◌⊎◌, ℕ, ◌<◌, true, false, IsTrue, List, [], ◌∷◌, ◌++◌, length, slice_get, Option, Some, IsSome, Result, Ok, Err, ⊤}
+use Rattle.std.specs.Prelude.{◌≡◌, ◌≢◌, ◌⊎◌, ℕ, ◌<◌, true, false, IsTrue, List, [], ◌∷◌, ◌++◌, length, map, slice_get, Option, Some, Result, Ok, Err, ⊤}
 use Rattle.std.specs.Option.{option_and_then}
 use Rattle.soc_raw.specs.RawCrash.{crash_of, record_text}
 use Rattle.soc_raw.specs.Record.{Crash, IsCrash, record_of}
@@ -65,7 +65,7 @@ IsReading id (Err refusal) = RefusesReading id refusal
 -- since the disk failed. `Now` says that the tables stand for a state now.
 abbrev pub Begins : State → DiskTold → DiskTold → Result (Unit {0}) Refusal → (State → Type 0) → Type 0
 Begins state disk disk' (Ok _) Now = (log : List Change) × Settles state.log state.doubt log × Now (settled log)
-Begins state disk disk' (Err F.StoreFault) Now = IsSome state.doubt × DiskFailed disk disk' × Now state
+Begins state disk disk' (Err F.StoreFault) Now = (state.doubt ≢ []) × DiskFailed disk disk' × Now state
 Begins state disk disk' (Err F.NoMemory) Now = Now state
 Begins state disk disk' (Err _) Now = ⊥
 
@@ -76,13 +76,24 @@ abbrev pub EndsAs : Basis → List Change → Kept → Result (Unit {0}) Refusal
 EndsAs basis log change (Ok _) after disk disk' =
     (after ≡ settled (log ++ keep change ∷ [])) × (IsTrue basis.is_told → has_room basis log change ≡ true)
 EndsAs basis log change (Err F.StoreFault) after disk disk' =
-    (after ≡ record { log = log; doubt = Some change }) × DiskFailed disk disk' × (IsTrue basis.is_told → has_room basis log change ≡ true)
+    (after ≡ record { log = log; doubt = change ∷ [] }) × DiskFailed disk disk' × (IsTrue basis.is_told → has_room basis log change ≡ true)
 EndsAs basis log change (Err F.JournalFull) after disk disk' =
     (after ≡ settled log) × (IsTrue basis.is_told → has_room basis log change ≡ false)
 EndsAs basis log change (Err _) after disk disk' = ⊥
 
 pub record IsAppended (basis : Basis) (log : List Change) (disk : DiskTold) (change : Kept) (result : Result (Unit {0}) Refusal) (after : State) (disk' : DiskTold) : Type 0 where
   pub ends : EndsAs basis log change result after disk disk'
+  pub goes_on : GoesOn disk disk'
+  pub survives : IsTrue basis.is_told → Survives disk disk' (settled log) after
+
+-- changes are written, all of them, or their write failed
+abbrev pub EndsAll : List Change → List Kept → Result (Unit {0}) Refusal → State → DiskTold → DiskTold → Type 0
+EndsAll log changes (Ok _) after disk disk' = after ≡ settled (log ++ map keep changes)
+EndsAll log changes (Err F.StoreFault) after disk disk' = (after ≡ record { log = log; doubt = changes }) × DiskFailed disk disk'
+EndsAll log changes (Err _) after disk disk' = ⊥
+
+pub record AreAppended (basis : Basis) (log : List Change) (disk : DiskTold) (changes : List Kept) (result : Result (Unit {0}) Refusal) (after : State) (disk' : DiskTold) : Type 0 where
+  pub ends : EndsAll log changes result after disk disk'
   pub goes_on : GoesOn disk disk'
   pub survives : IsTrue basis.is_told → Survives disk disk' (settled log) after
 

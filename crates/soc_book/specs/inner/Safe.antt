@@ -1,17 +1,21 @@
 -- What a book's tables owe each other is a proposition.
-use Rattle.std.specs.Prelude.{Option, None, Some, IfSome}
+use Rattle.std.specs.Prelude.{ℕ, List, [], ◌∷◌, Option, None, Some, IfSome}
 use Rattle.std.proofs.Props.{props}
 use Rattle.soc_journal.specs.States.{JournalState}
 use Rattle.soc_ledger.specs.State.{LedgerState}
 use Rattle.soc_book.specs.declared.book.Change.{Change as Pending}
 use Rattle.soc_book.specs.declared.book.Change.TheVariants as P
-use Rattle.soc_book.specs.inner.Stands.{Fits, IsSafe}
+use Rattle.soc_book.specs.inner.Stands.{AreHeld, Fits, IsSafe}
+
+held_prop : (ledger : LedgerState) (numbers : List ℕ) → IsProp (AreHeld ledger numbers)
+held_prop ledger [] = hlevel props
+held_prop ledger (number ∷ numbers) = hlevel (props, held_prop ledger numbers)
 
 fits_prop : (ledger : LedgerState) (pending : Pending) → IsProp (Fits ledger pending)
 fits_prop ledger (P.Accept new) = hlevel props
 fits_prop ledger (P.Ask number) = hlevel props
 fits_prop ledger (P.Withdraw number) = hlevel props
-fits_prop ledger (P.Report number) = hlevel props
+fits_prop ledger (P.Reports numbers) = hlevel (props, held_prop ledger numbers.items)
 
 some_prop : (ledger : LedgerState) (pending : Option Pending) → IsProp (IfSome pending (Fits ledger))
 some_prop ledger None = hlevel props

@@ -1,5 +1,5 @@
 -- How the tables of a book stand for a state of the desk's log.
-use Rattle.std.specs.Prelude.{◌≡◌, ℕ, ◌+◌, ◌<◌, ◌^◌, ◌-◌, not, ◌&&◌, if◌then◌else◌, true, false, IsTrue, List, [], ◌∷◌, ◌++◌, length, Option, None, Some, IfSome, is_some, ⊤}
+use Rattle.std.specs.Prelude.{◌≡◌, ℕ, ◌+◌, ◌<◌, ◌≤◌, ◌^◌, ◌-◌, not, ◌&&◌, if◌then◌else◌, true, false, IsTrue, List, [], ◌∷◌, ◌++◌, length, Option, None, Some, IfSome, is_some, ⊤}
 use Rattle.std.specs.Option.{option_map}
 use Rattle.std.specs.List.{AllByRecursion}
 use Rattle.sha2.specs.Sha256.{sha256}
@@ -7,7 +7,7 @@ use Rattle.soc_raw.specs.Record.{Crash, head_text, content_text}
 use Rattle.soc_schema.specs.declared.value.Cell.{Cell}
 use Rattle.soc_schema.specs.Reports.{product_of}
 use Rattle.soc_edge.specs.Disk.{DiskTold}
-use Rattle.soc_journal.specs.Entries.{Entry, head_size}
+use Rattle.soc_journal.specs.Entries.{Entry, head_size, place_behind, sealed_all}
 use Rattle.soc_journal.specs.States.{JournalState}
 use Rattle.soc_journal.specs.declared.settled.Settled.{Settled}
 use Rattle.soc_journal.specs.declared.settled.Settled.TheVariants as S
@@ -23,7 +23,7 @@ use Rattle.soc_desk.specs.declared.desk.Limits.{Limits}
 use Rattle.soc_desk.specs.Basis.{Basis}
 use Rattle.soc_desk.specs.Decisions.{accepting}
 use Rattle.soc_desk.specs.Log.{Accepted, Kept, accept, ask, withdraw, report, Change, events, accepted_of, row_in, is_own}
-use Rattle.soc_desk.specs.State.{State, IsLegalState, entry_of, entries_of, kept_of, has_room}
+use Rattle.soc_desk.specs.State.{State, IsLegalState, entry_of, entries_of, kept_of}
 use Rattle.soc_book.specs.declared.book.Change.{Change as Pending}
 use Rattle.soc_book.specs.declared.book.Change.TheVariants as P
 use Rattle.soc_book.specs.declared.submission.NewCrash.{NewCrash}
@@ -35,13 +35,25 @@ use Rattle.soc_book.specs.inner.Books.{Tells}
 abbrev pub FitsHeld : LedgerState → ℕ → Type 0
 FitsHeld ledger number = (0 < ledger.room) × (number < length ledger.crashes) × IsTrue (is_held ledger.log (id_of ledger number))
 
+-- how many reports are written together at most
+abbrev pub most_reports : ℕ
+most_reports = 1_024
+
+-- the crashes of the numbers are held
+abbrev pub AreHeld : LedgerState → List ℕ → Type 0
+AreHeld ledger numbers = AllByRecursion (λ number. (number < length ledger.crashes) × IsTrue (is_held ledger.log (id_of ledger number))) numbers
+
+-- and there is room for their reports
+abbrev pub FitReports : LedgerState → List ℕ → Type 0
+FitReports ledger numbers = (most_reports ≤ ledger.room) × (length numbers ≤ most_reports) × AreHeld ledger numbers
+
 abbrev pub Fits : LedgerState → Pending → Type 0
 Fits ledger (P.Accept new) = (0 < ledger.room) × (was_accepted ledger.log new.id ≡ false) × (length ledger.crashes < 2 ^ 32 - 1)
 Fits ledger (P.Ask number) = FitsHeld ledger number
 Fits ledger (P.Withdraw number) = FitsHeld ledger number
-Fits ledger (P.Report number) = FitsHeld ledger number
+Fits ledger (P.Reports numbers) = FitReports ledger numbers.items
 
--- the journal is in doubt exactly where a change waits, and the ledger can take that one
+-- the journal is in doubt exactly where changes wait, and the ledger can take them
 pub record IsSafe (ledger : LedgerState) (journal : JournalState) (pending : Option Pending) : Type 0 where
   pub unsettled : is_some journal.doubt ≡ is_some pending
   pub fits : IfSome pending (Fits ledger)
@@ -56,22 +68,27 @@ pub record IsFiledAt (new : NewCrash) (place : ℕ) (filed : Filed) : Type 0 whe
   pub product : filed.product ≡ new.product
   pub digest : filed.digest ≡ new.digest
 
+-- the reports of the crashes of these numbers, one behind the other
+abbrev pub with_reports : LedgerState → List ℕ → LedgerState
+with_reports ledger [] = ledger
+with_reports ledger (number ∷ numbers) = with_reports (with_event ledger (E.Reported (id_of ledger number) true)) numbers
+
 abbrev pub Pushes : LedgerState → List (ℕ × List Cell) → Pending → ℕ → LedgerState → List (ℕ × List Cell) → Type 0
 Pushes ledger rows (P.Accept new) place ledger' rows' = (filed : Filed) × IsFiledAt new place filed
     × (ledger' ≡ record (with_event ledger (E.Accepted filed.id)) { crashes = ledger.crashes ++ filed ∷ [] }) × (rows' ≡ rows)
 Pushes ledger rows (P.Ask number) place ledger' rows' = (ledger' ≡ with_event ledger (E.Asked (id_of ledger number))) × (rows' ≡ rows)
 Pushes ledger rows (P.Withdraw number) place ledger' rows' =
     (ledger' ≡ with_event ledger (E.Withdrawn (id_of ledger number))) × (rows' ≡ without_row number rows)
-Pushes ledger rows (P.Report number) place ledger' rows' = (ledger' ≡ with_event ledger (E.Reported (id_of ledger number) true)) × (rows' ≡ rows)
+Pushes ledger rows (P.Reports numbers) place ledger' rows' = (ledger' ≡ with_reports ledger numbers.items) × (rows' ≡ rows)
 
--- the change is of a crash that was accepted before
+-- the change is one of a crash that was accepted before
 abbrev pub IsKnownCrash : Pending → Type 0
 IsKnownCrash (P.Accept new) = ⊥
 IsKnownCrash (P.Ask number) = ⊤
 IsKnownCrash (P.Withdraw number) = ⊤
-IsKnownCrash (P.Report number) = ⊤
+IsKnownCrash (P.Reports numbers) = ⊥
 
--- the change in doubt is added where its entry was kept, and else nothing
+-- the changes in doubt are added where their entries were kept, and else nothing
 abbrev pub AddsSettled : LedgerState → List (ℕ × List Cell) → Option Pending → Settled → LedgerState → List (ℕ × List Cell) → Type 0
 AddsSettled ledger rows (Some pending) (S.Kept place) ledger' rows' = Pushes ledger rows pending place ledger' rows'
 AddsSettled ledger rows (Some pending) S.Clean ledger' rows' = (ledger' ≡ ledger) × (rows' ≡ rows)
@@ -130,21 +147,40 @@ abbrev pub IsPending : Basis → List Change → LedgerState → Pending → Kep
 IsPending basis log ledger (P.Accept new) (accept crash) = (new.id ≡ crash.id) × IfSome crash.raw (λ raw. Tells new raw × IsTrue basis.is_told)
 IsPending basis log ledger (P.Ask number) (ask id) = id_of ledger number ≡ id
 IsPending basis log ledger (P.Withdraw number) (withdraw id) = id_of ledger number ≡ id
-IsPending basis log ledger (P.Report number) (report made) = (id_of ledger number ≡ made.id)
-    × IsTrue (is_own basis made.digest) × IsTrue (not (is_due (events basis log) made.id))
 IsPending basis log ledger _ _ = ⊥
 
-abbrev pub ArePending : Basis → List Change → LedgerState → Option Pending → Option Kept → Type 0
-ArePending basis log ledger None None = ⊤
-ArePending basis log ledger (Some pending) (Some change) = IsPending basis log ledger pending change
+-- the report is of the crash of a number, which isn't due, and made by the run's own lists and symbols
+abbrev pub IsReportOf : Basis → List Change → LedgerState → ℕ → Kept → Type 0
+IsReportOf basis log ledger number (report made) = (id_of ledger number ≡ made.id)
+    × IsTrue (is_own basis made.digest) × IsTrue (not (is_due (events basis log) made.id))
+IsReportOf basis log ledger number _ = ⊥
+
+-- one of each crash of these numbers, in order
+abbrev pub AreReports : Basis → List Change → LedgerState → List ℕ → List Kept → Type 0
+AreReports basis log ledger [] [] = ⊤
+AreReports basis log ledger (number ∷ numbers) (change ∷ changes) =
+    IsReportOf basis log ledger number change × AreReports basis log ledger numbers changes
+AreReports basis log ledger _ _ = ⊥
+
+-- the changes that wait for their entries to be settled are those in doubt
+abbrev pub ArePending : Basis → List Change → LedgerState → Option Pending → List Kept → Type 0
+ArePending basis log ledger None [] = ⊤
+ArePending basis log ledger (Some (P.Reports numbers)) (first ∷ more) = AreReports basis log ledger numbers.items (first ∷ more)
+ArePending basis log ledger (Some pending) (change ∷ []) = IsPending basis log ledger pending change
 ArePending basis log ledger _ _ = ⊥
 
 -- ---- the whole
 
--- the disk holds the journal of the log, and of the change in doubt, which fits it
+-- the journal of the log has room for these changes, where there are some
+abbrev pub FitJournal : Basis → List Change → List Kept → Type 0
+FitJournal basis log [] = ⊤
+FitJournal basis log (first ∷ more) =
+    place_behind (entries_of (kept_of log)) + length (sealed_all (entries_of (first ∷ more))) ≤ basis.journal_bytes
+
+-- the disk holds the journal of the log, and of the changes in doubt, which fit it
 pub record IsOnDisk (basis : Basis) (journal : JournalState) (disk : DiskTold) (state : State) : Type 0 where
-  pub means : Means disk journal (entries_of (kept_of state.log)) (option_map entry_of state.doubt)
-  pub fits : IfSome state.doubt (λ change. IsTrue (has_room basis state.log change))
+  pub means : Means disk journal (entries_of (kept_of state.log)) (entries_of state.doubt)
+  pub fits : FitJournal basis state.log state.doubt
 
 -- ledger, rows, doubt, journal and disk stand for a state of the log
 pub record Stands (basis : Basis) (limits : Limits) (ledger : LedgerState) (rows : List (ℕ × List Cell)) (pending : Option Pending) (journal : JournalState) (disk : DiskTold) (state : State) : Type 0 where

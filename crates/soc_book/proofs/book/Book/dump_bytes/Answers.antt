@@ -1,8 +1,13 @@
 use Rattle.std.proofs.Common.{Some, ap, sym, ◌∙◌}
 use Rattle.std.proofs.lemmas.Result.{err_from_is_err_and}
 use Rattle.soc_edge.proofs.Disks.{Looks-none}
-use Rattle.soc_book.proofs.Readings.{dump_absent, dump_no_memory, dump_shown, dump_unread, dump_unseen}
+use Rattle.soc_book.proofs.Readings.{dump_absent, dump_forbidden, dump_no_memory, dump_shown, dump_unread, dump_unseen}
 use Rattle.soc_book.proofs.book.Book.dump_bytes.Goals as goal
+
+pub returns-in_err-check-clause-does : goal.returns-in_err-check-clause-does
+returns-in_err-check-clause-does g c = λ basis state stands.
+    let p = err_from_is_err_and c.from_residual.result c.from_residual.ensures.1 in
+    rw (p.1, p.2, c.in_err-check.ensures.1) (dump_forbidden _ _ _ _ _ _ _ _ stands _ (Looks-none _ (g.met.D.Disk.sound c.args.self.now.vault.disk.now)) c.args.caller.now c.args.id c.args.name.now c.in_err-check.ensures.0)
 
 pub returns-in_err-number-clause-does : goal.returns-in_err-number-clause-does
 returns-in_err-number-clause-does g c = λ basis state stands.

@@ -1,8 +1,31 @@
+use Rattle.std.proofs.Common.{sym, subst}
+use Rattle.soc_schema.specs.declared.permission.Permission.TheVariants.{Operate}
+use Rattle.soc_edge.proofs.Disks.{Looks-none}
 use Rattle.soc_desk.specs.declared.desk.Command.TheVariants.{Withdraw}
+use Rattle.soc_desk.specs.declared.desk.Reply.TheVariants.{Refused}
+use Rattle.soc_book.specs.inner.Does.{Does}
 use Rattle.soc_book.specs.inner.Stands.{Stands}
-use Rattle.soc_book.proofs.Deciding.{begun_does, doesnt_begin, writes_withdraw}
+use Rattle.soc_book.proofs.Deciding.{begun_does, doesnt_begin, lacks_permission, wants_memory, writes_withdraw}
 use Rattle.soc_book.proofs.Standing.{images_allowed}
 use Rattle.soc_book.proofs.book.Book.withdraw_by.Goals as goal
+
+pub returns-in-Err-clause-does : goal.returns-in-Err-clause-does
+returns-in-Err-clause-does g c basis state stands =
+    let s = c.args.self.now in
+    let disk = g.D.Disk.state s.vault.disk.now in
+    let forbidden = lacks_permission basis (Withdraw c.args.caller.now c.args.id) (writes_withdraw basis c.args.caller.now c.args.id) state disk disk (Looks-none disk (g.met.D.Disk.sound s.vault.disk.now))
+    (λ is_told. images_allowed basis s.vault.journal disk state.log state.doubt (stands.told is_told)) Operate c.in-Err.ensures.0 in
+    (state, stands, subst (λ refusal. Does basis state disk (Withdraw c.args.caller.now c.args.id) (Refused refusal) state disk) (sym c.in-Err.ensures.1) forbidden)
+
+pub returns-in_default-entry-clause-does : goal.returns-in_default-entry-clause-does
+returns-in_default-entry-clause-does g c basis state stands =
+    let s = c.args.self.now in
+    let disk = g.D.Disk.state s.vault.disk.now in (
+      state,
+      stands,
+      wants_memory basis (Withdraw c.args.caller.now c.args.id) (writes_withdraw basis c.args.caller.now c.args.id) state disk disk (Looks-none disk (g.met.D.Disk.sound s.vault.disk.now))
+          (λ is_told. images_allowed basis s.vault.journal disk state.log state.doubt (stands.told is_told)) c.in_default.ensures,
+    )
 
 pub returns-in-Err-begin-clause-does : goal.returns-in-Err-begin-clause-does
 returns-in-Err-begin-clause-does g c basis state stands =
