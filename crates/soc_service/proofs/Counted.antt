@@ -2,6 +2,7 @@
 use Rattle.std.proofs.Common.{◌≡◌, inl, inr, ℕ, suc, ◌+◌, ◌-◌, ◌≤◌, ◌<◌, ◌^◌, Bool, true, false, List, [], ◌∷◌, ◌++◌, length, map, take, Option, None, Some, IfSome, refl, sym, ◌∙◌, ap, subst, arith}
 use Rattle.std.specs.Prelude.{if◌then◌else◌}
 use Rattle.std.specs.Coded.{Coded-set, coded_ℕ}
+use Rattle.std.specs.List.{AllByRecursion}
 use Rattle.std.proofs.lemmas.List.{length-map}
 use Rattle.soc_schema.specs.declared.caller.Caller.{Caller}
 use Rattle.soc_hall.specs.Seats.{seen_of}
@@ -31,36 +32,40 @@ AreKept events = kept_in events ≡ length events
 more_kept : (event : Event) (events : List Event) → counts event ≡ true → AreKept events → AreKept (event ∷ events)
 more_kept event events is all = ap (λ b. if b then suc (kept_in events) else kept_in events) is ∙ ap suc all
 
-submits_kept : (basis : Basis) (id : List ℕ) (reply : Reply) (after : Option Event) (log own : List Event) → Submits basis id reply after log own → AreKept own
+submits_kept : (basis : Basis) (id : List ℕ) (reply : Reply) (after : List Event) (log own : List Event) → Submits basis id reply after log own → AreKept own
 submits_kept basis id (R.Stored other due) after log own is = subst AreKept (sym is.2) refl
 submits_kept basis id (R.Repeated other) after log own is = subst AreKept (sym is.1) refl
 submits_kept basis id (R.Refused refusal) after log own is = subst AreKept (sym is.1) refl
 submits_kept basis id _ after log own never = absurd never
 
-prioritises_kept : (caller : Caller) (id : List ℕ) (reply : Reply) (after : Option Event) (log own : List Event) → Prioritises caller id reply after log own → AreKept own
+prioritises_kept : (caller : Caller) (id : List ℕ) (reply : Reply) (after : List Event) (log own : List Event) → Prioritises caller id reply after log own → AreKept own
 prioritises_kept caller id (R.Asked true due) after log own is = subst AreKept (sym is.2) refl
 prioritises_kept caller id (R.Asked false due) after log own is = subst AreKept (sym is.2) refl
 prioritises_kept caller id (R.Refused refusal) after log own is = subst AreKept (sym is.1) refl
 prioritises_kept caller id _ after log own never = absurd never
 
-reprocesses_kept : (caller : Caller) (id : List ℕ) (reply : Reply) (after : Option Event) (log own : List Event) → Reprocesses caller id reply after log own → AreKept own
+reprocesses_kept : (caller : Caller) (id : List ℕ) (reply : Reply) (after : List Event) (log own : List Event) → Reprocesses caller id reply after log own → AreKept own
 reprocesses_kept caller id (R.Asked asked due) after log own is = subst AreKept (sym is.1) refl
 reprocesses_kept caller id (R.Refused refusal) after log own is = subst AreKept (sym is.1) refl
 reprocesses_kept caller id _ after log own never = absurd never
 
-withdraws_kept : (caller : Caller) (id : List ℕ) (reply : Reply) (after : Option Event) (log own : List Event) → Withdraws caller id reply after log own → AreKept own
+withdraws_kept : (caller : Caller) (id : List ℕ) (reply : Reply) (after : List Event) (log own : List Event) → Withdraws caller id reply after log own → AreKept own
 withdraws_kept caller id R.Withdrawn after log own is = subst AreKept (sym is.1) refl
 withdraws_kept caller id (R.Refused refusal) after log own is = subst AreKept (sym is.1) refl
 withdraws_kept caller id _ after log own never = absurd never
 
-behind_kept : (log : List Event) (doubt : Option Event) (piece : List Event) (Adds : List Event → List Event → Type 0)
-    → IfSome doubt (λ event. counts event ≡ true) → ((l own : List Event) → Adds l own → AreKept own) → BehindDoubt log doubt piece Adds → AreKept piece
-behind_kept log None piece Adds journal all adds = all log piece adds
-behind_kept log (Some event) piece Adds journal all (inl adds) = all log piece adds
-behind_kept log (Some event) piece Adds journal all (inr adds) = subst AreKept (sym adds.1) (more_kept event adds.0 journal (all (log ++ event ∷ []) adds.0 adds.2))
+all_kept : (events own : List Event) → AllByRecursion (λ event. counts event ≡ true) events → AreKept own → AreKept (events ++ own)
+all_kept [] own journal kept = kept
+all_kept (event ∷ events) own journal kept = more_kept event (events ++ own) journal.0 (all_kept events own journal.1 kept)
 
-writes_kept : (log : List Event) (doubt : Option Event) (piece : List Event) (reply : Reply) (after : Option Event) (Adds : List Event → List Event → Type 0)
-    → IfSome doubt (λ event. counts event ≡ true) → ((l own : List Event) → Adds l own → AreKept own) → Writes log doubt piece reply after Adds → AreKept piece
+behind_kept : (log : List Event) (doubt : List Event) (piece : List Event) (Adds : List Event → List Event → Type 0)
+    → AllByRecursion (λ event. counts event ≡ true) doubt → ((l own : List Event) → Adds l own → AreKept own) → BehindDoubt log doubt piece Adds → AreKept piece
+behind_kept log [] piece Adds journal all adds = all log piece adds
+behind_kept log (event ∷ events) piece Adds journal all (inl adds) = all log piece adds
+behind_kept log (event ∷ events) piece Adds journal all (inr adds) = subst AreKept (sym adds.1) (all_kept (event ∷ events) adds.0 journal (all (log ++ event ∷ events) adds.0 adds.2))
+
+writes_kept : (log : List Event) (doubt : List Event) (piece : List Event) (reply : Reply) (after : List Event) (Adds : List Event → List Event → Type 0)
+    → AllByRecursion (λ event. counts event ≡ true) doubt → ((l own : List Event) → Adds l own → AreKept own) → Writes log doubt piece reply after Adds → AreKept piece
 writes_kept log doubt piece (R.Refused F.NoMemory) after Adds journal all is = subst AreKept (sym is.0) refl
 writes_kept log doubt piece (R.Refused (F.NoPermission name)) after Adds journal all is = subst AreKept (sym is.0) refl
 writes_kept log doubt piece (R.Refused F.StoreFault) after Adds journal all (inl is) = subst AreKept (sym is.1.0) refl
@@ -101,8 +106,8 @@ stops_kept log (R.Refused refusal) piece is = subst AreKept (sym is) refl
 stops_kept log _ piece never = absurd never
 
 -- Of the piece of a command each change is kept or none.
-kept_by : (basis : Basis) (log : List Event) (doubt : Option Event) (command : Command) (reply : Reply) (piece : List Event) (after : Option Event)
-    → IfSome doubt (λ event. counts event ≡ true) → Grows basis log doubt command reply piece after → kept_in piece ≡ (if keeps_all command then length piece else 0)
+kept_by : (basis : Basis) (log : List Event) (doubt : List Event) (command : Command) (reply : Reply) (piece : List Event) (after : List Event)
+    → AllByRecursion (λ event. counts event ≡ true) doubt → Grows basis log doubt command reply piece after → kept_in piece ≡ (if keeps_all command then length piece else 0)
 kept_by basis log doubt (C.Submit raw) reply piece after journal grows = writes_kept log doubt piece reply after (Submits basis raw.id reply after) journal (submits_kept basis raw.id reply after) grows
 kept_by basis log doubt (C.Priority caller id) reply piece after journal grows = writes_kept log doubt piece reply after (Prioritises caller id reply after) journal (prioritises_kept caller id reply after) grows
 kept_by basis log doubt (C.Reprocess caller id) reply piece after journal grows = writes_kept log doubt piece reply after (Reprocesses caller id reply after) journal (reprocesses_kept caller id reply after) grows

@@ -1,5 +1,6 @@
 -- When a command may be asked of a shared desk, and what a turn gives its seat.
-use Rattle.std.specs.Prelude.{◌≡◌, ◌^◌, ◌<◌, Bool, true, false, IsTrue, List, ◌++◌, length, Option, None, Some, IfSome, ⊤}
+use Rattle.std.specs.Prelude.{◌≡◌, ◌^◌, ◌<◌, Bool, true, false, IsTrue, List, ◌++◌, length, None, Some, ⊤}
+use Rattle.std.specs.List.{AllByRecursion}
 use Rattle.soc_raw.specs.RawCrash.{record_text}
 use Rattle.soc_raw.specs.Record.{Crash, IsCrash, record_of}
 use Rattle.soc_ledger.specs.declared.event.Event.{Event}
@@ -36,14 +37,14 @@ TellsIdle log (C.Fetch id) (R.Refused F.NoCrash) = is_due log id ≡ false
 TellsIdle log (C.Finish processed) (R.Finished changed) = changed ≡ false → is_due log processed.crash.id ≡ false
 TellsIdle log _ _ = ⊤
 
--- What a turn adds is what the command adds under its reply, with some change in doubt before it and after it. The receipt
+-- What a turn adds is what the command adds under its reply, with some changes in doubt before it and after it. The receipt
 -- tells of the log after the turn.
 pub record Answers (basis : Basis) (log : List Change) (command : Command) (receipt : Receipt) (log' : List Change) : Type 0 where
   pub piece : List Change
   pub behind : log' ≡ log ++ piece
-  pub doubt : Option Event
-  pub left : Option Event
-  pub of_journal : IfSome doubt (λ event. counts event ≡ true)
+  pub doubt : List Event
+  pub left : List Event
+  pub of_journal : AllByRecursion (λ event. counts event ≡ true) doubt
   pub grows : Grows basis (events_in log) doubt command receipt.reply (events_in piece) left
   pub kind : IsReplyTo command receipt.reply
   pub idle : TellsIdle (events_in log) command receipt.reply
