@@ -1,5 +1,6 @@
 -- Which turns tell that a crash isn't due, and that what is in doubt is a change of the journal.
-use Rattle.std.proofs.Common.{◌≡◌, ℕ, Bool, true, false, not, ◌&&◌, IsTrue, List, Option, None, Some, IfSome, refl, sym}
+use Rattle.std.proofs.Common.{◌≡◌, ℕ, Bool, true, false, not, ◌&&◌, IsTrue, List, [], ◌∷◌, None, Some, refl, sym}
+use Rattle.std.specs.List.{AllByRecursion}
 use Rattle.soc_schema.specs.Reports.{Report}
 use Rattle.soc_ledger.specs.declared.event.Event.{Event}
 use Rattle.soc_ledger.specs.Due.{is_due}
@@ -33,28 +34,28 @@ kept_counts basis (ask id) = refl
 kept_counts basis (withdraw id) = refl
 kept_counts basis (report made) = refl
 
-some_counts : (basis : Basis) (log : List Change) (doubt : Option Kept) → IfSome (doubted basis (record { log = log; doubt = doubt })) (λ event. counts event ≡ true)
-some_counts basis log None = tt
-some_counts basis log (Some change) = kept_counts basis change
+all_count : (basis : Basis) (log : List Change) (doubt : List Kept) → AllByRecursion (λ event. counts event ≡ true) (doubted basis (record { log = log; doubt = doubt }))
+all_count basis log [] = tt
+all_count basis log (change ∷ doubt) = (kept_counts basis change, all_count basis log doubt)
 
--- what is in doubt is a change of the journal
-pub doubt_counts : (basis : Basis) (state : State) → IfSome (doubted basis state) (λ event. counts event ≡ true)
-doubt_counts basis state = some_counts basis state.log state.doubt
+-- what is in doubt are changes of the journal
+pub doubt_counts : (basis : Basis) (state : State) → AllByRecursion (λ event. counts event ≡ true) (doubted basis state)
+doubt_counts basis state = all_count basis state.log state.doubt
 
-module _ (basis : Basis) (log : List Event) (legal : AreLegal log) (doubt : Option Event) where
-  fetch_idle : (id : List ℕ) (reply : Reply) (piece : List Event) (after : Option Event) → Grows basis log doubt (C.Fetch id) reply piece after → TellsIdle log (C.Fetch id) reply
+module _ (basis : Basis) (log : List Event) (legal : AreLegal log) (doubt : List Event) where
+  fetch_idle : (id : List ℕ) (reply : Reply) (piece : List Event) (after : List Event) → Grows basis log doubt (C.Fetch id) reply piece after → TellsIdle log (C.Fetch id) reply
   fetch_idle id (R.Fetched None) piece after grows = second_false (is_held log id) (is_due log id) grows.0
   fetch_idle id (R.Fetched (Some raw)) piece after grows = tt
   fetch_idle id (R.Refused F.NoCrash) piece after grows = unheld_idle log id legal (not_true (is_held log id) grows.0)
   fetch_idle id (R.Refused _) piece after grows = tt
   fetch_idle id _ piece after grows = tt
 
-  finish_idle : (processed : Report) (reply : Reply) (piece : List Event) (after : Option Event) → Grows basis log doubt (C.Finish processed) reply piece after → TellsIdle log (C.Finish processed) reply
+  finish_idle : (processed : Report) (reply : Reply) (piece : List Event) (after : List Event) → Grows basis log doubt (C.Finish processed) reply piece after → TellsIdle log (C.Finish processed) reply
   finish_idle processed (R.Finished true) piece after grows = λ never. absurd (true_is_not_false never)
   finish_idle processed (R.Finished false) piece after grows = λ is. not_true (is_due log processed.crash.id) grows.0.0
   finish_idle processed _ piece after grows = tt
 
-  pub tells_idle : (command : Command) (reply : Reply) (piece : List Event) (after : Option Event) → Grows basis log doubt command reply piece after → TellsIdle log command reply
+  pub tells_idle : (command : Command) (reply : Reply) (piece : List Event) (after : List Event) → Grows basis log doubt command reply piece after → TellsIdle log command reply
   tells_idle (C.Fetch id) reply piece after grows = fetch_idle id reply piece after grows
   tells_idle (C.Finish processed) reply piece after grows = finish_idle processed reply piece after grows
   tells_idle _ reply piece after grows = tt

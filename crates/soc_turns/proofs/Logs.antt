@@ -66,7 +66,7 @@ itself None = tt
 itself (Some x) = refl
 
 -- where the disk means these entries, an entry's body is what it tells at its place
-body_told : (disk : DiskTold) (journal : JournalState) (entries : List Entry) (doubt : Option Entry) (place : ℕ) (entry : Entry) → Means disk journal entries doubt → IsAt entries place entry
+body_told : (disk : DiskTold) (journal : JournalState) (entries : List Entry) (doubt : List Entry) (place : ℕ) (entry : Entry) → Means disk journal entries doubt → IsAt entries place entry
     → option_map (λ bytes. first_body (drop place bytes)) disk.content ≡ Some entry.body
 body_told disk journal entries doubt place entry means at =
     of_entry entries_stand disk journal (λ bytes. disk.content ≡ Some bytes) (option_map (λ bytes. first_body (drop place bytes)) disk.content ≡ Some entry.body) entries doubt place entry means at (itself disk.content)
@@ -81,7 +81,7 @@ if_alike false x y z same = refl
 with_text : (event : Event) (a b : Option (List ℕ)) (xs ys : List Change) → a ≡ b → xs ≡ ys → record { event = event; text = a } ∷ xs ≡ record { event = event; text = b } ∷ ys
 with_text event a b xs ys same rest = ap (λ t. record { event = event; text = t } ∷ xs) same ∙ ap (λ l. record { event = event; text = b } ∷ l) rest
 
-module _ (basis : Basis) (disk : DiskTold) (journal : JournalState) (entries : List Entry) (doubt : Option Entry) (means : IsTrue basis.is_told → Means disk journal entries doubt) where
+module _ (basis : Basis) (disk : DiskTold) (journal : JournalState) (entries : List Entry) (doubt : List Entry) (means : IsTrue basis.is_told → Means disk journal entries doubt) where
   told_text : (crash : Accepted) (filed : Filed) (raw : Option Crash) → crash.raw ≡ raw → IsFiled entries crash filed → IsSome raw → IsTrue basis.is_told
       → option_map (λ bytes. first_body (drop filed.place bytes)) disk.content ≡ option_map record_of crash.raw
   told_text crash filed None is filed_is some told = absurd (true_is_not_false (sym some))
@@ -110,7 +110,7 @@ pub log_is : (basis : Basis) (limits : Limits) (ledger : LedgerState) (rows : Li
     → Stands basis limits ledger rows pending journal disk state → changes_at (body_at basis.is_told disk.content) ledger.log ledger.crashes ≡ changes_of basis state.log
 log_is basis limits ledger rows pending journal disk state stands =
     ap (λ l. changes_at (body_at basis.is_told disk.content) l ledger.crashes) stands.holds.events_are
-    ∙ same_log basis disk journal (entries_of (kept_of state.log)) (option_map entry_of state.doubt) (λ told. (stands.told told).means) state.log ledger.crashes stands.holds.filed stands.legal.log.told
+    ∙ same_log basis disk journal (entries_of (kept_of state.log)) (entries_of state.doubt) (λ told. (stands.told told).means) state.log ledger.crashes stands.holds.filed stands.legal.log.told
 
 -- a change for each event
 pub events-changes_at : (text_at : ℕ → Option (List ℕ)) (log : List Event) (filed : List Filed) → events_in (changes_at text_at log filed) ≡ log

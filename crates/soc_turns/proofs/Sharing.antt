@@ -42,6 +42,7 @@ use Rattle.soc_book.specs.Books.{AllowsBook, AsksBook}
 use Rattle.soc_book.specs.Openings.{IsBasisOf, OpensBook}
 use Rattle.soc_book.specs.inner.Stands.{Stands}
 use Rattle.soc_book.proofs.Listings.{sound_accepted}
+use Rattle.soc_book.proofs.Openings.{moved}
 use Rattle.soc_service.specs.declared.change.Change.{Change}
 use Rattle.soc_service.specs.Changes.{events_in, text_in}
 use Rattle.soc_turns.specs.Changes.{body_at, changes_at}
@@ -83,9 +84,9 @@ tells_some : (P : List ℕ → Type 0) (content : Option (List ℕ)) → IsSomeA
 tells_some P None some = absurd some
 tells_some P (Some bytes) some = refl
 
-means_some : (disk : DiskTold) (journal : JournalState) (entries : List Entry) (doubt : Option Entry) → Means disk journal entries doubt → is_some disk.content ≡ true
-means_some disk journal entries None means = tells_some _ disk.content means
-means_some disk journal entries (Some entry) means = tells_some _ disk.content means
+means_some : (disk : DiskTold) (journal : JournalState) (entries doubt : List Entry) → Means disk journal entries doubt → is_some disk.content ≡ true
+means_some disk journal entries [] means = tells_some _ disk.content means
+means_some disk journal entries (first ∷ more) means = tells_some _ disk.content means
 
 module _ (row_of : Crash → List Cell) (told : Bool) (limits : Limits) (ledger : LedgerState) (rows : List (ℕ × List Cell)) (pending : Option Pending) (journal : JournalState) (disk : DiskTold)
     (steady : is_some disk.content ≡ told) where
@@ -193,6 +194,15 @@ opened_stands row_of row_of' digest digest' told limits limits' same_rows same_d
     let o = opens (desk_basis row_of digest limits told) (record { rows = refl; digest_is = refl; bytes = refl; crashes_are = refl; tells = λ is. steady ∙ is }) in
     let P : Basis → Type 0 = λ b. Stands b limits' ledger rows pending journal disk' (settled o.log) in
     (settled o.log, subst P (sym (same_basis row_of row_of' digest digest' told limits limits' same_rows same_digest same_limits)) o.now)
+
+-- the same of the book over what was read
+pub over_stands : {X : Type 0} (told_of : X → DiskTold) (before : DiskTold) (row_of row_of' : Crash → List Cell) (digest digest' : Option (List ℕ)) (told : Bool) (limits limits' : Limits) (ledger ledger' : LedgerState) (rows rows' : List (ℕ × List Cell)) (pending : Option Pending) (journal journal' : JournalState) (x y : X)
+    → row_of' ≡ row_of → digest' ≡ digest → limits' ≡ limits → ledger' ≡ ledger → rows' ≡ rows → pending ≡ None → journal' ≡ journal → y ≡ x → is_some before.content ≡ told
+    → ((basis : Basis) → IsBasisOf row_of digest limits before.content basis → OpensBook basis before (told_of x) (Stands basis limits ledger rows None journal (told_of x)))
+    → (state : State) × Stands (desk_basis row_of' digest' limits' told) limits' ledger' rows' pending journal' (told_of y) state
+over_stands told_of before row_of row_of' digest digest' told limits limits' ledger ledger' rows rows' pending journal journal' x y same_rows same_digest same_limits same_ledger same_store none same_journal same steady opens =
+    opened_stands row_of row_of' digest digest' told limits limits' same_rows same_digest same_limits ledger' rows' pending journal' before (told_of y) steady
+    (λ basis is. moved told_of before basis limits limits' ledger ledger' rows rows' pending journal journal' x y same_limits same_ledger same_store none same_journal same (opens basis is))
 
 module _ (row_of row_of' : Crash → List Cell) (digest digest' : Option (List ℕ)) (told : Bool) (limits limits' : Limits)
     (same_rows : row_of' ≡ row_of) (same_digest : digest' ≡ digest) (same_limits : limits' ≡ limits)

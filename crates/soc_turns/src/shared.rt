@@ -1,21 +1,18 @@
 //! A book as the state of a hall.
-ghost use Rattle.std.specs.Prelude.{◌≡◌, ◌≢◌, ℕ, [], IfOk, IfSome, IsErrOf, slice_get};
-ghost use Rattle.soc_edge.specs.Disk.{GoesOn, LeavesOnly};
-ghost use Rattle.soc_journal.specs.Text.{HasHeader};
-ghost use Rattle.soc_vault.specs.Openings.{OpeningLeaves};
+ghost use Rattle.std.specs.Prelude.{◌≡◌, None, slice_get};
+ghost use Rattle.soc_edge.specs.Disk.{GoesOn};
 ghost use Rattle.soc_ledger.specs.Due.{due_ids};
 ghost use Rattle.soc_desk.specs.Basis.{Basis};
 ghost use Rattle.soc_desk.specs.State.{State};
-ghost use Rattle.soc_book.specs.Openings.{IsBasisOf, OpensBook, StopsAtEntry};
+ghost use Rattle.soc_book.specs.Openings.{IsBasisOf, OpensBook};
 ghost use Rattle.soc_book.specs.inner.Stands.{Stands};
 ghost use Rattle.soc_turns.specs.Grounds.{desk_basis, desk_by};
 
 use crate::grounds::Grounds;
-use soc_book::{Book, Prepared};
+use soc_book::{Book, Prepared, Restored};
 use soc_desk::{Command, Limits, Receipt};
 use soc_edge::{Disk, Telling};
 use soc_hall::Logged;
-use soc_journal::OpenError;
 use soc_raw::CrashId;
 use soc_schema::Reporter;
 use soc_service::{Change, SharedDesk};
@@ -33,33 +30,35 @@ pub struct SharedBook<'a, D: Telling, R: Reporter> {
 }
 
 impl<'a, D: Telling, R: Reporter> SharedBook<'a, D, R> {
-    /// The book that a disk's journal keeps, as `Book::open` opens it. It is refused for the same reasons.
-    pub fn open(
+    /// The book over a disk whose journal was read with the same reporter and limits. Before it was read the disk was so.
+    pub fn over(
         alloc: Global,
         disk: &'a mut D,
         reporter: &'a R,
         limits: Limits,
-    ) -> Result<SharedBook<'a, D, R>, OpenError>
-        ensures same_disk { IfOk result (λ shared. shared.book.vault.disk.ghost_name ≡ disk.entry.ghost_name) }
-        ensures opened { IfOk result (λ shared. shared.opened.value ≡ disk.old) }
-        ensures limits { IfOk result (λ shared. shared.book.limits ≡ limits) }
-        ensures reporter { IfOk result (λ shared. shared.book.reporter.now ≡ reporter.now) }
-        ensures opens { IfOk result (λ shared. (basis : Basis) → IsBasisOf (R.row_of reporter.now) (R.digest_of reporter.now) limits (D.state disk.old).content basis
-            → OpensBook basis (D.state disk.old) (D.state shared.book.vault.disk.now)
-            (Stands basis shared.book.limits shared.book.ledger shared.book.store shared.book.doubt shared.book.vault.journal (D.state shared.book.vault.disk.now))) }
-        ensures any_moment { IfOk result (λ shared. IfSome (D.state disk.old).content (λ bytes.
-            LeavesOnly (D.state disk.old) (D.state shared.book.vault.disk.now) (OpeningLeaves (D.state disk.old).images bytes))) }
-        ensures goes_on { IfOk result (λ shared. GoesOn (D.state disk.old) (D.state shared.book.vault.disk.now)) }
-        ensures not_ours { IsErrOf result OpenError.NotOurs → IfSome (D.state disk.old).content (λ bytes. (bytes ≢ []) × ¬ (HasHeader bytes)) }
-        ensures bad_entry { (place : ℕ) → IsErrOf result (OpenError.BadEntry place) → IfSome (D.state disk.old).content (λ bytes. StopsAtEntry bytes place) }
+        restored: Restored,
+        opened: Snapshot<D>,
+    ) -> SharedBook<'a, D, R>
+        requires settled { restored.journal.doubt ≡ None }
+        requires opens { (basis : Basis) → IsBasisOf (R.row_of reporter.now) (R.digest_of reporter.now) limits (D.state opened.value).content basis
+            → OpensBook basis (D.state opened.value) (D.state disk.old) (Stands basis limits restored.ledger restored.store None restored.journal (D.state disk.old)) }
+        requires goes_on { GoesOn (D.state opened.value) (D.state disk.old) }
+        ensures same_disk { result.book.vault.disk.ghost_name ≡ disk.entry.ghost_name }
+        ensures disk { result.book.vault.disk.now ≡ disk.old }
+        ensures limits { result.book.limits ≡ limits }
+        ensures reporter { result.book.reporter.now ≡ reporter.now }
+        ensures ledger { result.book.ledger ≡ restored.ledger }
+        ensures store { result.book.store ≡ restored.store }
+        ensures journal { result.book.vault.journal ≡ restored.journal }
+        ensures doubt { result.book.doubt ≡ None }
+        ensures opened { result.opened.value ≡ opened.value }
     {
-        let opened = Snapshot::of(&*disk);
-        let book = Book::open(alloc, disk, reporter, limits)?;
-        Ok(SharedBook::new(book, opened))
+        let book = Book::over(alloc, disk, reporter, limits, restored);
+        SharedBook::new(book, opened)
     }
 
     /// A book to be shared, over a disk that was so when the book was opened.
-    pub fn new(book: Book<'a, D, R>, opened: Snapshot<D>) -> SharedBook<'a, D, R>
+    fn new(book: Book<'a, D, R>, opened: Snapshot<D>) -> SharedBook<'a, D, R>
         requires stands { (state : State) × Stands (desk_basis (R.row_of book.reporter.now) (R.digest_of book.reporter.now) book.limits D.tells) book.limits book.ledger book.store book.doubt book.vault.journal (D.state book.vault.disk.now) state }
         requires goes_on { GoesOn (D.state opened.value) (D.state book.vault.disk.now) }
         ensures book { result.book ≡ book.entry }
