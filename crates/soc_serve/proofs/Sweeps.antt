@@ -41,11 +41,11 @@ ends_drain basis before disk (R.Refused (F.Altered id)) after disk' does = recor
 ends_drain basis before disk (R.Refused (F.NoPermission name)) after disk' does = absurd (none_is_not_some does.kind)
 ends_drain basis before disk reply after disk' does = absurd does.kind.1
 
-none_of : (log : List Event) (doubt : Option Event) (piece : List Event) (Adds : List Event → List Event → Type 0)
+none_of : (log : List Event) (doubt : List Event) (piece : List Event) (Adds : List Event → List Event → Type 0)
     → BehindDoubt log doubt piece Adds → ((l own : List Event) → Adds l own → ⊥) → ⊥
-none_of log None piece Adds adds never = never log piece adds
-none_of log (Some doubt) piece Adds (inl adds) never = never log piece adds
-none_of log (Some doubt) piece Adds (inr adds) never = never (log ++ doubt ∷ []) adds.0 adds.2
+none_of log [] piece Adds adds never = never log piece adds
+none_of log (first ∷ more) piece Adds (inl adds) never = never log piece adds
+none_of log (first ∷ more) piece Adds (inr adds) never = never (log ++ first ∷ more) adds.0 adds.2
 
 pub ends_keep : (basis : Basis) (before : State) (disk : DiskTold) (reply : Reply) (after : State) (disk' : DiskTold)
     → KeepsReports basis before disk reply after disk' → EndsKeep basis before disk (kept reply) after disk'

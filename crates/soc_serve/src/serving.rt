@@ -98,7 +98,7 @@ pub(crate) fn serve<
         Ok(restored) => restored,
         Err(end) => return (HostEnd::Before(end), listener),
     };
-    let book = Book::over(alloc, disk, reporter, setup.limits, restored);
+    let book = SharedBook::over(alloc, disk, reporter, setup.limits, restored, opened);
     let CrewEnd {
         desk: book,
         listener,
@@ -107,7 +107,7 @@ pub(crate) fn serve<
         purpose.site.rt,
         alloc,
         purpose.site.crew,
-        SharedBook::new(book, opened),
+        book,
         reporter,
         &setup.rules,
         &routes,

@@ -13,6 +13,7 @@ use crate::files::read_files;
 use crate::lines::LinesFault;
 use crate::summary::sum_up;
 use soc_base::{Blobs, Bytes, NoMemory};
+use soc_book::Restored;
 use soc_collect::Tally;
 use soc_crew::{Crew, CrewEnd, serve_together};
 use soc_edge::{BytesList, Ids16, MemClock, MemDisk, MemDraws, MemTree, Numbers, Sink, write_all};
@@ -27,6 +28,7 @@ use soc_siglists::RegexMaker;
 use soc_turns::SharedBook;
 use soc_words::Words;
 use std::alloc::Global;
+use std::snapshot::Snapshot;
 use std::sync::Wait;
 use std::thread::Threads;
 
@@ -114,9 +116,11 @@ fn play_by<R: Threads + Wait + Sync, P: Reporter + Sync, G: Gate + Sync>(
         Ids16::new([[0u8; 16]].to_vec(alloc)?),
     );
     let mut served = Tally::new();
-    let Ok(book) = SharedBook::open(alloc, &mut disk, reporter, setup.limits) else {
+    let opened = Snapshot::of(&disk);
+    let Ok(restored) = Restored::read(alloc, &mut disk, reporter, setup.limits) else {
         return Err(NoMemory);
     };
+    let book = SharedBook::over(alloc, &mut disk, reporter, setup.limits, restored, opened);
     let CrewEnd {
         desk: book,
         failed,

@@ -5,7 +5,7 @@ ghost use Rattle.soc_hall.specs.Seats.{IsSeatOf, room_of, seats_in, seats_of};
 
 use crate::expect::same;
 use soc_base::{NoMemory, Pairs};
-use soc_book::Prepared;
+use soc_book::{Prepared, Restored};
 use soc_desk::{Command, Limits};
 use soc_edge::{MemDisk, Numbers};
 use soc_hall::{Hall, Logged, Seat, Seats};
@@ -14,6 +14,7 @@ use soc_raw::RawCrash;
 use soc_schema::{Bare, Caller, Permission, Permissions, Products};
 use soc_turns::SharedBook;
 use std::alloc::Global;
+use std::snapshot::Snapshot;
 use std::sync::Wait;
 use std::test::Fail;
 
@@ -30,10 +31,11 @@ const FIREFOX: &[u8] =
 
 // The book over an empty disk.
 fn opened<'a>(alloc: Global, disk: &'a mut MemDisk) -> Result<Shared<'a>, Fail> {
-    match SharedBook::open(alloc, disk, &Bare, LIMITS) {
-        Ok(book) => Ok(book),
-        Err(_) => Err(Fail::from("the journal wasn't opened")),
-    }
+    let opened = Snapshot::of(&*disk);
+    let Ok(restored) = Restored::read(alloc, disk, &Bare, LIMITS) else {
+        return Err(Fail::from("the journal wasn't opened"));
+    };
+    Ok(SharedBook::over(alloc, disk, &Bare, LIMITS, restored, opened))
 }
 
 // Asks a command in one turn. The number is the length of the log after it.

@@ -3,6 +3,7 @@ ghost use Rattle.std.specs.Prelude.{◌<◌, ◌≤◌};
 
 use crate::expect::{holds, same};
 use soc_base::{Bytes, NoMemory};
+use soc_book::Restored;
 use soc_collect::Tally;
 use soc_crew::*;
 use soc_desk::Limits;
@@ -16,6 +17,7 @@ use soc_throttle::RuleSet;
 use soc_turns::SharedBook;
 use std::alloc::Global;
 use std::process::Abort;
+use std::snapshot::Snapshot;
 use std::sync::Wait;
 use std::test::Fail;
 use std::thread::Threads;
@@ -120,10 +122,11 @@ fn served_over<'a, R: Threads + Wait + Sync>(
     requires processors { (0 < crew.processors) × (crew.processors ≤ 8) }
 {
     let mut around = surroundings(alloc)?;
-    let book = match SharedBook::open(alloc, disk, reporter, LIMITS) {
-        Ok(book) => book,
-        Err(_) => return Err(Fail::from("the journal wasn't opened")),
+    let opened = Snapshot::of(&*disk);
+    let Ok(restored) = Restored::read(alloc, disk, reporter, LIMITS) else {
+        return Err(Fail::from("the journal wasn't opened"));
     };
+    let book = SharedBook::over(alloc, disk, reporter, LIMITS, restored, opened);
     let mut served = Tally::new();
     let CrewEnd {
         listener,

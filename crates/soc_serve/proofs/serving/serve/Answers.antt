@@ -10,11 +10,8 @@ use Rattle.soc_desk.specs.Basis.{Basis}
 use Rattle.soc_desk.specs.State.{State}
 use Rattle.soc_book.proofs.Standing.{images_allowed}
 use Rattle.soc_book.specs.inner.Stands.{Stands}
-use Rattle.soc_book.specs.Openings.{OpensBook}
-use Rattle.soc_turns.specs.Changes.{body_at, changes_at}
+use Rattle.soc_book.specs.Openings.{IsBasisOf, OpensBook}
 use Rattle.soc_turns.proofs.Crossing.{shared_send}
-use Rattle.soc_turns.proofs.Sharing.{opened_stands}
-use Rattle.soc_crew.specs.Gains.{Gains}
 use Rattle.soc_edge.specs.World.{surroundings}
 use Rattle.soc_replay.proofs.ServingLemmas.{moved}
 use Rattle.soc_serve.specs.inner.Serving.{ClosesBook}
@@ -32,15 +29,18 @@ pub returns-in-Err-clause-listener_cause : goal.returns-in-Err-clause-listener_c
 returns-in-Err-clause-listener_cause g c is =
     absurd ((not_served _ _ c.in-Err.end (c.in-Err.ensures.refused (record { moments = λ _. None; throttles = λ _. None; ids = λ _. None }))).0 is)
 
-pub new-requires-2-clause-stands : goal.new-requires-2-clause-stands
-new-requires-2-clause-stands g c =
-    let b = c.over-book.result in
-    let e = c.over-book.ensures in
-    opened_stands (g.Q.Reporter.row_of c.args.purpose.now.reporter.now) (g.Q.Reporter.row_of b.reporter.now) (g.Q.Reporter.digest_of c.args.purpose.now.reporter.now) (g.Q.Reporter.digest_of b.reporter.now) g.D.Telling.tells c.args.purpose.now.setup.now.limits b.limits
-    (ap g.Q.Reporter.row_of e.reporter) (ap g.Q.Reporter.digest_of e.reporter) e.limits b.ledger b.store b.doubt b.vault.journal (g.D.Disk.state c.args.disk.now) (g.D.Disk.state b.vault.disk.now)
-    ((g.met.D.Telling g.world.𝓛 g.world.𝓜 g.world.𝓡 ((λ s x. x), (λ x. x), (λ x. x), λ x. x)).steady c.args.disk.now)
-    (λ basis is. moved (λ limits ledger rows pending journal disk. OpensBook basis (g.D.Disk.state c.args.disk.now) (g.D.Disk.state disk) (Stands basis limits ledger rows pending journal (g.D.Disk.state disk)))
-    e.limits e.ledger e.store e.doubt e.journal e.disk (c.in-Ok-open.ensures.opens basis is))
+pub over-book-requires-opens : goal.over-book-requires-opens
+over-book-requires-opens g c =
+    let setup = c.args.purpose.now.setup.now in
+    let reporter = c.args.purpose.now.reporter.now in
+    let restored = c.in-Ok-open.restored in
+    let after = g.D.Disk.state c.open.new.disk in
+    subst (λ disk. (basis : Basis) → IsBasisOf (g.Q.Reporter.row_of reporter) (g.Q.Reporter.digest_of reporter) setup.limits (g.D.Disk.state disk).content basis
+    → OpensBook basis (g.D.Disk.state disk) after (Stands basis setup.limits restored.ledger restored.store None restored.journal after)) (sym c.of-opened.ensures) c.in-Ok-open.ensures.opens
+
+pub over-book-requires-goes_on : goal.over-book-requires-goes_on
+over-book-requires-goes_on g c =
+    subst (λ disk. GoesOn (g.D.Disk.state disk) (g.D.Disk.state c.open.new.disk)) (sym c.of-opened.ensures) c.in-Ok-open.ensures.goes_on
 
 pub serve_together-book-requires-send-T : goal.serve_together-book-requires-send-T
 serve_together-book-requires-send-T g c κs within =
@@ -52,14 +52,14 @@ pub returns-clause-serves : goal.returns-clause-serves
 returns-clause-serves g c =
     let before = outlook (g.C.Clock.told c.args.clock.now) (g.W.Draws.told c.args.draws.now) in
     let after = outlook (g.C.Clock.told c.serve_together-book.new.clock) (g.W.Draws.told c.serve_together-book.new.draws) in
-    let first = c.over-book.result in
+    let first = c.over-book.result.book in
     let e = c.over-book.ensures in
     let shared = c.serve_together-book.result.desk in
     let second = shared.book in
     let end = c.close-end.result in
     let together = c.serve_together-book.ensures.ends in
     let kept : second.vault.disk.ghost_name ≡ first.vault.disk.ghost_name =
-    ∥∥₁_elim together (Coded-set coded_ℕ _ _) (λ t. ap (λ basis. basis.lent) t.same_basis ∙ ap (λ book. book.vault.disk.ghost_name) c.new-2.ensures.book) in
+    ∥∥₁_elim together (Coded-set coded_ℕ _ _) (λ t. ap (λ basis. basis.lent) t.same_basis) in
     let lent = sym e.same_disk ∙ (sym kept ∙ (sym (ap (λ book. book.vault.disk.ghost_name) c.into_book-book.ensures) ∙ (sym c.close-end.ensures.same_disk ∙ sym c.into_disk-disk.ensures.same_disk))) in
     served_on g.D.Disk.state _ c.close-end.new.book.vault.disk.now (c.disk-1.given.1 lent ∙ c.into_disk-disk.ensures.disk) _ _ _ (g.K.Tells.told c.close-end.new.output) after _
     (serves_desk (g.Q.Reporter.row_of c.args.purpose.now.reporter.now) (g.Q.Reporter.row_of second.reporter.now) (g.Q.Reporter.digest_of c.args.purpose.now.reporter.now) (g.Q.Reporter.digest_of second.reporter.now) g.D.Telling.tells
@@ -74,14 +74,11 @@ returns-clause-serves g c =
     e.limits e.ledger e.store e.doubt e.journal e.disk (c.in-Ok-open.ensures.opens basis is))
     shared.stands shared.goes_on
     (∥∥₁_map together (λ t. record {
-      gains =
-          subst (λ book. Gains (changes_at (body_at g.D.Telling.tells (g.D.Disk.state book.vault.disk.now).content) book.ledger.log book.ledger.crashes)
-          (changes_at (body_at g.D.Telling.tells (g.D.Disk.state second.vault.disk.now).content) second.ledger.log second.ledger.crashes) c.serve_together-book.new.served.kept)
-          c.new-2.ensures.book t.gains;
-      same_rows = ap (λ basis. g.Q.Reporter.row_of basis.reporter) t.same_basis ∙ (ap (λ book. g.Q.Reporter.row_of book.reporter.now) c.new-2.ensures.book ∙ ap g.Q.Reporter.row_of e.reporter);
-      same_digest = ap (λ basis. g.Q.Reporter.digest_of basis.reporter) t.same_basis ∙ (ap (λ book. g.Q.Reporter.digest_of book.reporter.now) c.new-2.ensures.book ∙ ap g.Q.Reporter.digest_of e.reporter);
-      same_limits = ap (λ basis. basis.limits) t.same_basis ∙ ap (λ book. book.limits) c.new-2.ensures.book;
-      from_opened = λ on. subst (λ d. GoesOn (g.D.Disk.state d) (g.D.Disk.state second.vault.disk.now)) (ap (λ basis. basis.opened) t.same_basis ∙ (c.new-2.ensures.opened ∙ c.of-opened.ensures)) on;
+      gains = t.gains;
+      same_rows = ap (λ basis. g.Q.Reporter.row_of basis.reporter) t.same_basis ∙ ap g.Q.Reporter.row_of e.reporter;
+      same_digest = ap (λ basis. g.Q.Reporter.digest_of basis.reporter) t.same_basis ∙ ap g.Q.Reporter.digest_of e.reporter;
+      same_limits = ap (λ basis. basis.limits) t.same_basis;
+      from_opened = λ on. subst (λ d. GoesOn (g.D.Disk.state d) (g.D.Disk.state second.vault.disk.now)) (ap (λ basis. basis.opened) t.same_basis ∙ (e.opened ∙ c.of-opened.ensures)) on;
     }))
     (λ basis state rows digest stands.
     let over =

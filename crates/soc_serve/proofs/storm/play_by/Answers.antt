@@ -28,7 +28,7 @@ returns g c =
     c.into_book-book.ensures c.sum_up-text.ensures.subsides)
     shared.stands
     (∥∥₁_map c.serve_together-book.ensures.ends (λ t. record {
-      same_rows = ap (λ basis. g.P.Reporter.row_of basis.reporter) t.same_basis ∙ ap g.P.Reporter.row_of c.in-Ok.ensures.reporter;
-      same_digest = ap (λ basis. g.P.Reporter.digest_of basis.reporter) t.same_basis ∙ ap g.P.Reporter.digest_of c.in-Ok.ensures.reporter;
-      same_limits = ap (λ basis. basis.limits) t.same_basis ∙ c.in-Ok.ensures.limits;
+      same_rows = ap (λ basis. g.P.Reporter.row_of basis.reporter) t.same_basis ∙ ap g.P.Reporter.row_of c.over-book.ensures.reporter;
+      same_digest = ap (λ basis. g.P.Reporter.digest_of basis.reporter) t.same_basis ∙ ap g.P.Reporter.digest_of c.over-book.ensures.reporter;
+      same_limits = ap (λ basis. basis.limits) t.same_basis ∙ c.over-book.ensures.limits;
     }))
