@@ -8,11 +8,11 @@ mod untold;
 
 use crate::expect::{holds, same};
 use acts::{Which, Who, caller, id, raw};
-use soc_book::Book;
+use soc_book::{Book, Restored};
 use soc_desk::{Command, Desk, Limits, Reply};
-use soc_edge::{MemDisk, Numbers};
+use soc_edge::{Disk, MemDisk, Numbers};
 use soc_raw::RawCrash;
-use soc_schema::Bare;
+use soc_schema::{Bare, Reporter};
 use std::alloc::Global;
 use std::process::Abort;
 use std::test::Fail;
@@ -48,9 +48,20 @@ fn disk(alloc: Global, fails: &[u64]) -> Result<MemDisk, Fail> {
     Ok(MemDisk::new(alloc, 8000, 900, fails)?)
 }
 
+/// The book that a disk's journal keeps.
+fn opened<'a, D: Disk, R: Reporter>(
+    alloc: Global,
+    disk: &'a mut D,
+    reporter: &'a R,
+    limits: Limits,
+) -> Result<Book<'a, D, R>, Fail> {
+    let restored = Restored::read(alloc, disk, reporter, limits)?;
+    Ok(Book::over(alloc, disk, reporter, limits, restored))
+}
+
 /// Keeps the crash of a record on a disk.
 fn put(alloc: Global, disk: &mut MemDisk, which: Which) -> Result<(), Fail> {
-    let mut book = Book::open(alloc, disk, &Bare, LIMITS)?;
+    let mut book = opened(alloc, disk, &Bare, LIMITS)?;
     let _stored = book.submit(raw(alloc, which)?);
     Ok(())
 }
@@ -79,7 +90,7 @@ fn expect_annotation(
 #[test]
 fn annotations_are_shown(rt: HostRuntime) -> Result<(), Fail> {
     let mut disk = disk_of_other(rt.alloc())?;
-    let mut book = Book::open(rt.alloc(), &mut disk, &Bare, LIMITS)?;
+    let mut book = opened(rt.alloc(), &mut disk, &Bare, LIMITS)?;
     expect_annotation(&rt, rt.alloc(), &mut book)
 }
 
@@ -100,7 +111,7 @@ fn expect_dump(
 #[test]
 fn dumps_are_shown(rt: HostRuntime) -> Result<(), Fail> {
     let mut disk = disk_of_other(rt.alloc())?;
-    let mut book = Book::open(rt.alloc(), &mut disk, &Bare, LIMITS)?;
+    let mut book = opened(rt.alloc(), &mut disk, &Bare, LIMITS)?;
     expect_dump(&rt, rt.alloc(), &mut book)
 }
 
@@ -126,6 +137,6 @@ fn expect_receipts(
 fn receipts_tell_of_the_stop(rt: HostRuntime) -> Result<(), Fail> {
     let mut disk = disk(rt.alloc(), &[])?;
     put(rt.alloc(), &mut disk, Which::Firefox)?;
-    let mut book = Book::open(rt.alloc(), &mut disk, &Bare, LIMITS)?;
+    let mut book = opened(rt.alloc(), &mut disk, &Bare, LIMITS)?;
     expect_receipts(&rt, rt.alloc(), &mut book)
 }

@@ -3,6 +3,7 @@ ghost use Rattle.std.specs.Prelude.{◌≡◌, ◌≤◌, [], length, vec_len, I
 ghost use Rattle.soc_journal.specs.Entries.{max_body};
 ghost use Rattle.soc_edge.specs.DiskLog.{content_of};
 
+mod batch;
 mod torn;
 
 use crate::expect::{holds, same};

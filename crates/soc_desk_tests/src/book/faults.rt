@@ -2,8 +2,7 @@
 ghost use Rattle.std.specs.Prelude.{◌≤◌};
 
 use super::acts::{Answer, told};
-use super::{FIREFOX, LIMITS, crash, disk};
-use soc_book::Book;
+use super::{FIREFOX, LIMITS, crash, disk, opened};
 use soc_edge::MemDisk;
 use soc_schema::Bare;
 use std::alloc::Global;
@@ -11,7 +10,7 @@ use std::test::Fail;
 
 fn crashes_on(alloc: Global, image: MemDisk) -> Result<u32, Fail> {
     let mut image = image;
-    let book = Book::open(alloc, &mut image, &Bare, LIMITS)?;
+    let book = opened(alloc, &mut image, &Bare, LIMITS)?;
     Ok(book.crashes())
 }
 
@@ -26,7 +25,7 @@ struct Thrice {
 
 /// The same over a disk, and none where the journal isn't opened.
 fn sent_thrice(alloc: Global, disk: &mut MemDisk) -> Result<Option<Thrice>, Fail> {
-    let Ok(mut book) = Book::open(alloc, disk, &Bare, LIMITS) else {
+    let Ok(mut book) = opened(alloc, disk, &Bare, LIMITS) else {
         return Ok(None);
     };
     let first = told(&book.submit(crash(alloc, FIREFOX)?));

@@ -1,9 +1,8 @@
 //! Reports that are kept for later runs, and crashes whose reports want memory.
 use super::acts::{Answer, Which, told};
-use super::{LIMITS, disk, put};
+use super::{LIMITS, disk, opened, put};
 use crate::expect::{holds, same};
 use soc_base::NoMemory;
-use soc_book::Book;
 use soc_edge::MemDisk;
 use soc_raw::RawCrash;
 use soc_schema::{Bare, Reporter, Row};
@@ -41,7 +40,7 @@ fn run(alloc: Global, disk: &mut MemDisk, digest: u8) -> Result<[u64; 5], Fail> 
     let reporter = Digested {
         digest: [digest; 32],
     };
-    let mut book = Book::open(alloc, disk, &reporter, LIMITS)?;
+    let mut book = opened(alloc, disk, &reporter, LIMITS)?;
     let due = u64::from(book.due());
     let reports = u64::from(book.reports());
     let early = told(&book.keep()).1;
@@ -86,7 +85,7 @@ impl Reporter for Wanting {
 
 /// What a turn and a drain without memory answer, and how many crashes are due then.
 fn turned_without_memory(alloc: Global, disk: &mut MemDisk) -> Result<([Answer; 2], u32), Fail> {
-    let mut book = Book::open(alloc, disk, &Wanting, LIMITS)?;
+    let mut book = opened(alloc, disk, &Wanting, LIMITS)?;
     let turned = told(&book.turn());
     let drained = told(&book.drain());
     Ok(([turned, drained], book.due()))

@@ -1,7 +1,7 @@
 //! Acts in order and what they are answered, row by row, over empty disks.
 use super::acts::{Act, Answer, Which, Who, told};
 use super::calls::{asked, called};
-use super::{LIMITS, disk};
+use super::{LIMITS, disk, opened};
 use crate::expect::holds;
 use soc_book::Book;
 use soc_desk::Limits;
@@ -53,7 +53,7 @@ fn is_so(
 ) -> Result<bool, Fail> {
     for through_ask in [true, false] {
         let mut disk = disk(alloc, &[])?;
-        let mut book = Book::open(alloc, &mut disk, &Bare, limits)?;
+        let mut book = opened(alloc, &mut disk, &Bare, limits)?;
         let number = answered(alloc, &mut book, through_ask, acts)?;
         if number != acts.len() || counts(&book) != want {
             return Ok(false);

@@ -1,10 +1,9 @@
 //! A book over a disk that tells nothing, and that another program writes to.
 
 use super::acts::{Answer, told, with};
-use super::{FIREFOX, LIMITS, crash, disk};
+use super::{FIREFOX, LIMITS, crash, disk, opened};
 use crate::expect::same;
 use crate::spoilt::{Spoilt, zeroed};
-use soc_book::Book;
 use soc_edge::Counted;
 use soc_schema::{Bare, Permission};
 use std::alloc::Global;
@@ -14,7 +13,7 @@ use std::test::Fail;
 fn answers(alloc: Global, zeroed: &mut Counted<Spoilt>) -> Result<([Answer; 5], u32, u64), Fail> {
     let raw = crash(alloc, FIREFOX)?;
     let again = crash(alloc, FIREFOX)?;
-    let mut book = Book::open(alloc, zeroed, &Bare, LIMITS)?;
+    let mut book = opened(alloc, zeroed, &Bare, LIMITS)?;
     let id = raw.id;
     let stored = book.submit(raw);
     let shown = book.raw(&with(Permission::Public), id);
