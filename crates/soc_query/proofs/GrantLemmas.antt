@@ -1,5 +1,5 @@
 -- Each field that a query names is granted to its caller.
-use Rattle.std.proofs.Common.{◌≡◌, ℕ, Bool, true, false, List, [], ◌∷◌, ◌++◌, Option, None, Some, Result, Ok, Err, refl, sym, ap, subst, nat_eq, nat_lt}
+use Rattle.std.proofs.Common.{◌≡◌, ℕ, Bool, true, false, List, [], ◌∷◌, ◌++◌, length, take, Option, None, Some, Result, Ok, Err, refl, sym, ap, subst, nat_eq, nat_lt}
 use Rattle.std.specs.Prelude.{if◌then◌else◌, codes}
 use Rattle.std.specs.List.{AllByRecursion, list_any}
 use Rattle.std.specs.Option.{ok_or, option_map_or}
@@ -15,7 +15,7 @@ use Rattle.soc_query.specs.declared.part.Part.{Part}
 use Rattle.soc_query.specs.declared.part.Part.TheVariants as part
 use Rattle.soc_query.specs.declared.error.QueryError.{QueryError}
 use Rattle.soc_query.specs.declared.error.QueryError.TheVariants.{NotGranted, UnknownField}
-use Rattle.soc_query.specs.Queries.{AreGranted, Asked, and_then, asked_by, compared_to, condition_of, field_of, meets_of, number_within, operand_of, operators, or_default, part_of, query_of, sort_of, split_by, stripped, with_field, with_pair, with_pairs, with_part}
+use Rattle.soc_query.specs.Queries.{AreGranted, Asked, and_then, asked_by, compared_to, condition_of, field_of, meets_of, number_within, operand_of, operators, or_default, part_of, query_of, sort_of, split_by, stripped, with_field, with_pair, with_pairs, with_part, within_limit}
 
 same_ok : {A E : Type 0} {x y : A} → ◌≡◌ {A = Result A E} (Ok x) (Ok y) → x ≡ y
 same_ok e = cc
@@ -129,11 +129,19 @@ columns_granted caller [] all = defaults_public caller
 columns_granted caller (f ∷ fs) all = all
 
 pairs_granted : (q : Asked) (pairs : List (List ℕ × List ℕ)) (whole : Asked) → with_pairs q pairs ≡ Ok whole → AreGranted q → AreGranted whole
-pairs_granted q [] whole h all = subst AreGranted (same_ok h) (all.0, all.1, columns_granted q.caller q.columns all.2, all.3)
+pairs_granted q [] whole h all = subst AreGranted (same_ok h) all
 pairs_granted q (p ∷ ps) whole h all =
     let step = then_ok (with_pair q p.0 p.1) (λ more. with_pairs more ps) whole h in
     let part = then_ok (part_of q.caller p.0 p.1) (λ said. Ok (with_part said q)) step.0 step.1 in
     pairs_granted step.0 ps whole step.2 (subst AreGranted (same_ok part.2) (with_part_granted part.0 q (part_granted q.caller p.0 p.1 part.0 part.1) all))
 
+within_granted : (pairs : List (List ℕ × List ℕ)) (q whole : Asked) → within_limit pairs q ≡ Ok whole → AreGranted q → AreGranted whole
+within_granted pairs q whole h all =
+    either (AreGranted whole) (nat_lt 128 (length pairs)) _ _ whole h
+    (λ e. cc)
+    (λ e. subst AreGranted (same_ok e) (all.0, all.1, columns_granted q.caller q.columns all.2, all.3))
+
 pub query_granted : (caller : Caller) (pairs : List (List ℕ × List ℕ)) (q : Asked) → query_of caller pairs ≡ Ok q → AreGranted q
-query_granted caller pairs q h = pairs_granted (asked_by caller) pairs q h (tt, tt, tt, tt)
+query_granted caller pairs q h =
+    let step = then_ok (with_pairs (asked_by caller) (take 128 pairs)) (within_limit pairs) q h in
+    within_granted pairs step.0 q step.2 (pairs_granted (asked_by caller) (take 128 pairs) step.0 step.1 (tt, tt, tt, tt))

@@ -9,7 +9,7 @@ use Rattle.std.specs.Char.{is_digit}
 use Rattle.std.specs.Str.Parse.{digits_value, AllDigits}
 use Rattle.soc_text.specs.Digits.{IsNumber}
 use Rattle.soc_query.specs.declared.error.QueryError.{QueryError}
-use Rattle.soc_query.specs.declared.error.QueryError.TheVariants.{UnknownField, NotGranted, BadValue, BadNumber, NoMemory}
+use Rattle.soc_query.specs.declared.error.QueryError.TheVariants.{UnknownField, NotGranted, BadValue, BadNumber, TooManyConditions, NoMemory}
 use Rattle.soc_query.specs.Queries.{stripped, number_of, and_then, IsRefusal}
 
 pub stripped-append : (front rest : List ℕ) → stripped front (front ++ rest) ≡ Some rest
@@ -60,6 +60,7 @@ refused_first r f (UnknownField n) h = ap (λ s. and_then s f) h
 refused_first r f (NotGranted n p) h = ap (λ s. and_then s f) h
 refused_first r f (BadValue n) h = ap (λ s. and_then s f) h
 refused_first r f (BadNumber n) h = ap (λ s. and_then s f) h
+refused_first r f TooManyConditions h = ap (λ s. and_then s f) h
 refused_first r f NoMemory h = tt
 
 -- what the second step refuses behind a first one that is done, both refuse
@@ -68,6 +69,7 @@ refused_second r a f (UnknownField n) done h = ap (λ s. and_then s f) done ∙ 
 refused_second r a f (NotGranted n p) done h = ap (λ s. and_then s f) done ∙ h
 refused_second r a f (BadValue n) done h = ap (λ s. and_then s f) done ∙ h
 refused_second r a f (BadNumber n) done h = ap (λ s. and_then s f) done ∙ h
+refused_second r a f TooManyConditions done h = ap (λ s. and_then s f) done ∙ h
 refused_second r a f NoMemory done h = tt
 
 -- what `strip_prefix` says of texts

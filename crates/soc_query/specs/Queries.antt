@@ -1,5 +1,5 @@
 -- What a query asks for, and how pairs of names and values say it: this project's profile.
-use Rattle.std.specs.Prelude.{ℕ, nat_lt, ◌==◌, ◌&&◌, not, Bool, true, false, if◌then◌else◌, List, [], ◌∷◌, ◌++◌, length, Option, None, Some, Result, Ok, Err, codes, ◌≡◌}
+use Rattle.std.specs.Prelude.{ℕ, nat_lt, ◌==◌, ◌&&◌, not, Bool, true, false, if◌then◌else◌, List, [], ◌∷◌, ◌++◌, length, take, Option, None, Some, Result, Ok, Err, codes, ◌≡◌}
 use Rattle.std.specs.List.{AllByRecursion, list_any, list_all}
 use Rattle.std.specs.Option.{option_map_or, ok_or}
 use Rattle.std.specs.Char.{is_digit}
@@ -20,7 +20,7 @@ use Rattle.soc_query.specs.declared.part.Sort.{Sort}
 use Rattle.soc_query.specs.declared.part.Part.{Part}
 use Rattle.soc_query.specs.declared.part.Part.TheVariants as part
 use Rattle.soc_query.specs.declared.error.QueryError.{QueryError}
-use Rattle.soc_query.specs.declared.error.QueryError.TheVariants.{UnknownField, NotGranted, BadValue, BadNumber, NoMemory}
+use Rattle.soc_query.specs.declared.error.QueryError.TheVariants.{UnknownField, NotGranted, BadValue, BadNumber, TooManyConditions, NoMemory}
 
 -- the text behind the front, where it begins so
 abbrev pub stripped : List ℕ → List ℕ → Option (List ℕ)
@@ -161,12 +161,18 @@ with_pair q name value = and_then (part_of q.caller name value) (λ said. Ok (wi
 
 -- the query with what the pairs say, or why the first faulty pair is refused
 abbrev pub with_pairs : Asked → List (List ℕ × List ℕ) → Result Asked QueryError
-with_pairs q [] = Ok (record q { columns = or_default q.columns })
+with_pairs q [] = Ok q
 with_pairs q (p ∷ ps) = and_then (with_pair q p.0 p.1) (λ more. with_pairs more ps)
 
--- the query that the pairs of a caller are
+-- the query where it has at most 128 pairs
+abbrev pub within_limit : List (List ℕ × List ℕ) → Asked → Result Asked QueryError
+within_limit pairs q =
+    if nat_lt 128 (length pairs) then Err TooManyConditions
+    else Ok (record q { columns = or_default q.columns })
+
+-- the query that the pairs of a caller are: behind 128 pairs that say something, one more is refused
 abbrev pub query_of : Caller → List (List ℕ × List ℕ) → Result Asked QueryError
-query_of caller pairs = with_pairs (asked_by caller) pairs
+query_of caller pairs = and_then (with_pairs (asked_by caller) (take 128 pairs)) (within_limit pairs)
 
 -- each field that the query names is granted to its caller
 abbrev pub AreGranted : Asked → Type 0

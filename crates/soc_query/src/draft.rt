@@ -12,6 +12,9 @@ use soc_schema::{Caller, Field};
 use std::alloc::Global;
 use std::marker::Model;
 
+/// The most pairs.
+const MOST_PAIRS: usize = 128;
+
 /// What a caller asks of the rows.
 #[derive(Debug, Drop)]
 pub(crate) struct Draft {
@@ -34,17 +37,19 @@ impl Model for Draft {
 }
 
 impl Draft {
-    /// The query that the pairs of a caller are. The first faulty pair decides; on one pair an unknown field comes
-    /// before one that isn't granted, a bad value and a bad number.
-    #[tactic(auto, using(crate::proofs::QueryLemmas::pair_read, crate::proofs::QueryLemmas::pair_refused))]
+    /// The query that the pairs of a caller are, at most 128. The first faulty pair decides, and a 129th is one; on one
+    /// pair an unknown field comes before one that isn't granted, a bad value and a bad number.
     pub(crate) fn read(alloc: Global, pairs: &Pairs, caller: Caller) -> Result<Draft, QueryError>
         ensures ok { IfOk result (λ query. query_of caller pairs.now ≡ Ok query) }
         ensures refused { IfErr result (IsRefusal (query_of caller pairs.now)) }
     {
         let mut query = Draft::new(alloc, caller);
-        for i in 0..pairs.len() {
+        for i in 0..pairs.len().min(MOST_PAIRS) {
             let (name, value) = pairs.at(i);
             query.add_pair(alloc, name, value)?;
+        }
+        if pairs.len() > MOST_PAIRS {
+            return Err(QueryError::TooManyConditions);
         }
         query.default_columns()?;
         Ok(query)

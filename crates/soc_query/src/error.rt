@@ -29,6 +29,9 @@ pub enum QueryError {
         /// The pair's name.
         name: Text,
     },
+    /// There are over 128 pairs, and the first 128 have no fault.
+    #[error("too many conditions")]
+    TooManyConditions,
     /// An allocation was refused.
     #[error("out of memory")]
     NoMemory,

@@ -28,9 +28,8 @@ impl Model for Query {
 }
 
 impl Query {
-    /// The query that the pairs of a caller are. The first faulty pair decides; on one pair an unknown field comes
-    /// before one that isn't granted, a bad value and a bad number.
-    #[tactic(auto, using(crate::proofs::GrantLemmas::query_granted))]
+    /// The query that the pairs of a caller are, at most 128. The first faulty pair decides, and a 129th is one; on one
+    /// pair an unknown field comes before one that isn't granted, a bad value and a bad number.
     pub fn read(alloc: Global, pairs: &Pairs, caller: Caller) -> Result<Query, QueryError>
         ensures ok { IfOk result (λ query. query_of caller pairs.now ≡ Ok query) }
         ensures granted { IfOk result AreGranted }

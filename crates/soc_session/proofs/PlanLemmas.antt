@@ -88,6 +88,7 @@ search-refused asked form (Q.UnknownField name) plan is other said = said ∙ ap
 search-refused asked form (Q.NotGranted name permission) plan is other said = said ∙ ap (λ a. search_by a form) (sym is)
 search-refused asked form (Q.BadValue name) plan is other said = said ∙ ap (λ a. search_by a form) (sym is)
 search-refused asked form (Q.BadNumber name) plan is other said = said ∙ ap (λ a. search_by a form) (sym is)
+search-refused asked form Q.TooManyConditions plan is other said = said ∙ ap (λ a. search_by a form) (sym is)
 search-refused asked form Q.NoMemory plan is other said = absurd (other refl)
 
 pub tops-refused : (asked : Result TopsQuery TopsError) (form : ReplyForm) (error : TopsError) (plan : Plan) → IsTopsRefusal asked error → (error ≡ T.NoMemory → ⊥)

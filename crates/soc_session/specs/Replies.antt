@@ -86,6 +86,7 @@ query_refusal (Q.UnknownField name) = plain 400 (codes "unknown field " ++ name)
 query_refusal (Q.NotGranted name permission) = plain 403 (codes "field " ++ name ++ codes " needs " ++ permission_name permission)
 query_refusal (Q.BadValue name) = plain 400 (codes "bad value " ++ name)
 query_refusal (Q.BadNumber name) = plain 400 (codes "bad number " ++ name)
+query_refusal Q.TooManyConditions = plain 400 (codes "too many conditions")
 query_refusal Q.NoMemory = no_memory
 
 abbrev pub tops_refusal : TopsError → Answered

@@ -267,6 +267,7 @@ pub(crate) fn query_refusal(alloc: Global, error: QueryError) -> Result<Answered
         }
         QueryError::BadValue { name } => named(alloc, 400, "bad value ", name.as_str()),
         QueryError::BadNumber { name } => named(alloc, 400, "bad number ", name.as_str()),
+        QueryError::TooManyConditions => named(alloc, 400, "too many ", "conditions"),
         QueryError::NoMemory => Err(NoMemory),
     }
 }
