@@ -3,19 +3,18 @@ ghost use Rattle.std.specs.Prelude.{◌≡◌, ◌<◌, ◌^◌, ◌⊎◌, List
 ghost use Rattle.soc_collect.specs.Asked.{AsksAll, Step};
 ghost use Rattle.soc_collect.specs.Tallies.{nothing_served};
 
-use crate::door::{Door, Naming};
+use crate::door::Naming;
 use crate::serving::serve_one;
-use crate::shared::{SharedClock, SharedDraws};
+use crate::shared::{Shared, SharedClock, SharedDraws};
 use crate::tally::Tally;
 use crate::ticket::Ticket;
 use soc_desk::KeepingDesk;
 use soc_edge::{Clock, Draws};
-use soc_http::{Buffer, Routes};
+use soc_http::Buffer;
 use soc_listen::Listener;
-use soc_session::Rules;
-use std::alloc::Global;
+use soc_session::Setting;
+use std::sync::Wait;
 use std::sync::ledger::Ledger;
-use std::sync::{Mutex, Wait};
 
 /// Serves the connections that a shared listener hands out, one after another, until a receipt says stopped or no further
 /// one comes.
@@ -30,16 +29,12 @@ pub fn collect<
     R: Wait,
 >(
     rt: &R,
-    alloc: Global,
+    setting: Setting<'_>,
     desk: &mut K,
     served: &mut Tally<L::Conn>,
     ticket: &mut Ticket<N, M>,
-    door: &Mutex<Door<L, N, M, J>>,
-    rules: &Rules,
-    routes: &Routes,
     buffer: &mut Buffer,
-    clock: &Mutex<C>,
-    draws: &Mutex<W>,
+    shared: &Shared<L, N, M, J, C, W>,
 )
     requires unserved { served.old ≡ nothing_served }
     requires unused { (ticket.old.handed.amount ≡ 0) × (ticket.old.refused.amount ≡ 0) }
@@ -51,15 +46,13 @@ pub fn collect<
     ensures parts { (ticket.new.handed.parts ≡ ticket.old.handed.parts) × (ticket.new.refused.parts ≡ ticket.old.refused.parts) }
     ensures over { (served.new.stopped ≡ true) ⊎ (0 < ticket.new.refused.amount) }
 {
-    let mut clock = SharedClock::new(rt, clock);
-    let mut draws = SharedDraws::new(rt, draws);
+    let mut clock = SharedClock::new(rt, &shared.clock);
+    let mut draws = SharedDraws::new(rt, &shared.draws);
     for _ in rt.forever() {
-        let Some(conn) = door.lock(rt).accept(ticket) else {
+        let Some(conn) = shared.door.lock(rt).accept(ticket) else {
             return;
         };
-        drop(serve_one(
-            alloc, desk, served, conn, rules, routes, buffer, &mut clock, &mut draws,
-        ));
+        drop(serve_one(setting, desk, served, conn, buffer, &mut clock, &mut draws));
         if served.stopped() {
             return;
         }

@@ -15,7 +15,7 @@ mod watch;
 pub use collecting::collect;
 pub use door::{Door, Naming};
 pub use serving::serve_one;
-pub use shared::{SharedClock, SharedDraws};
+pub use shared::{Shared, SharedClock, SharedDraws};
 pub use shut::Shut;
 pub use tally::Tally;
 pub use ticket::Ticket;

@@ -12,11 +12,10 @@ use crate::tally::Tally;
 use crate::watch::Watched;
 use soc_desk::{Command, Desk, KeepingDesk};
 use soc_edge::{Clock, Draws, Sink, Source};
-use soc_http::{Buffer, Routes};
+use soc_http::Buffer;
 use soc_listen::Conn;
 use soc_raw::CrashId;
-use soc_session::{Rules, SessionEnd, session};
-use std::alloc::Global;
+use soc_session::{SessionEnd, Setting, session};
 
 /// The id by which a turn looks whether the desk has stopped. No drawn id is this one, since a draw gives version 4.
 const NO_CRASH: &str = "00000000-0000-0000-0000-000000000101";
@@ -24,12 +23,10 @@ const NO_CRASH: &str = "00000000-0000-0000-0000-000000000101";
 /// Serves one connection: looks in one turn whether the desk has stopped, and where it hasn't answers the connection's
 /// messages. Where a receipt said stopped the connection is poked, so that its listener's next wait ends.
 pub fn serve_one<K: KeepingDesk, X: Conn, C: Clock, W: Draws>(
-    alloc: Global,
+    setting: Setting<'_>,
     desk: &mut K,
     served: &mut Tally<X>,
     conn: X,
-    rules: &Rules,
-    routes: &Routes,
     buffer: &mut Buffer,
     clock: &mut C,
     draws: &mut W,
@@ -37,7 +34,7 @@ pub fn serve_one<K: KeepingDesk, X: Conn, C: Clock, W: Draws>(
     requires connections { served.old.connections + 1 < 2 ^ 64 }
     requires kept { served.old.kept < 2 ^ 63 }
     ensures serves { (stopped : Bool)
-        × ServesOne K.Asks rules.now
+        × ServesOne K.Asks setting.entry.rules.now
         (around (X.told conn) desk.old (outlook (C.told clock.old) (W.told draws.old)))
         (around (X.told result.conn) desk.new (outlook (C.told clock.new) (W.told draws.new)))
         buffer.new result.end stopped
@@ -50,7 +47,7 @@ pub fn serve_one<K: KeepingDesk, X: Conn, C: Clock, W: Draws>(
     let mut conn = conn;
     buffer.clear();
     let kept = desk.kept();
-    let (end, stopped) = attend(alloc, desk, &mut conn, rules, routes, buffer, clock, draws);
+    let (end, stopped) = attend(setting, desk, &mut conn, buffer, clock, draws);
     if stopped {
         conn.poke();
     }
@@ -61,17 +58,15 @@ pub fn serve_one<K: KeepingDesk, X: Conn, C: Clock, W: Draws>(
 /// Looks in one turn whether the desk has stopped, and where it hasn't answers the connection's messages. Also answers
 /// whether a receipt said stopped.
 fn attend<K: KeepingDesk, X: Source + Sink, C: Clock, W: Draws>(
-    alloc: Global,
+    setting: Setting<'_>,
     desk: &mut K,
     conn: &mut X,
-    rules: &Rules,
-    routes: &Routes,
     buffer: &mut Buffer,
     clock: &mut C,
     draws: &mut W,
 ) -> (Option<SessionEnd>, bool)
     requires { buffer.old ≡ [] }
-    ensures serves { ServesOne K.Asks rules.now
+    ensures serves { ServesOne K.Asks setting.entry.rules.now
         (around (X.told conn.old) desk.old (outlook (C.told clock.old) (W.told draws.old)))
         (around (X.told conn.new) desk.new (outlook (C.told clock.new) (W.told draws.new)))
         buffer.new result.0 result.1 }
@@ -84,26 +79,15 @@ fn attend<K: KeepingDesk, X: Source + Sink, C: Clock, W: Draws>(
         desk,
         stopped: false,
     };
-    let end = answer(
-        alloc,
-        &mut watched,
-        conn,
-        rules,
-        routes,
-        buffer,
-        clock,
-        draws,
-    );
+    let end = answer(setting, &mut watched, conn, buffer, clock, draws);
     (end, watched.stopped)
 }
 
 /// The same at a desk that is watched, which tells afterwards whether a receipt said stopped.
 fn answer<K: KeepingDesk, X: Source + Sink, C: Clock, W: Draws>(
-    alloc: Global,
+    setting: Setting<'_>,
     watched: &mut Watched<'_, K>,
     conn: &mut X,
-    rules: &Rules,
-    routes: &Routes,
     buffer: &mut Buffer,
     clock: &mut C,
     draws: &mut W,
@@ -111,7 +95,7 @@ fn answer<K: KeepingDesk, X: Source + Sink, C: Clock, W: Draws>(
     requires window { buffer.old ≡ [] }
     requires unstopped { watched.old.stopped ≡ false }
     ensures same_desk { watched.new.desk.ghost_name ≡ watched.old.desk.ghost_name }
-    ensures serves { ServesOne K.Asks rules.now
+    ensures serves { ServesOne K.Asks setting.entry.rules.now
         (around (X.told conn.old) watched.old.desk.now (outlook (C.told clock.old) (W.told draws.old)))
         (around (X.told conn.new) watched.new.desk.now (outlook (C.told clock.new) (W.told draws.new)))
         buffer.new result watched.new.stopped }
@@ -123,7 +107,7 @@ fn answer<K: KeepingDesk, X: Source + Sink, C: Clock, W: Draws>(
     if has_stopped(watched) {
         return None;
     }
-    let end = session(alloc, watched, conn, rules, routes, buffer, clock, draws);
+    let end = session(setting, watched, conn, buffer, clock, draws);
     Some(end)
 }
 

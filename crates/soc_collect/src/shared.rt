@@ -1,6 +1,17 @@
-//! A clock and draws that threads take turns at.
+//! What collectors take turns at: a door, a clock and draws.
+use crate::door::{Door, Naming};
 use soc_edge::{Clock, Draws};
+use soc_listen::Listener;
+use std::sync::ledger::Ledger;
 use std::sync::{Mutex, Wait};
+
+/// What collectors share, each under a lock of its own.
+#[derive(Drop)]
+pub struct Shared<L: Listener, N: Ledger, M: Ledger, J: Naming, C, W> {
+    pub door: Mutex<Door<L, N, M, J>>,
+    pub clock: Mutex<C>,
+    pub draws: Mutex<W>,
+}
 
 /// A clock under a lock. What it gives next isn't told, since another thread may ask it first.
 #[derive(Drop)]

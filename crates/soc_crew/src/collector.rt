@@ -3,15 +3,14 @@ ghost use Rattle.std.specs.Prelude.{◌≡◌, ◌⊎◌, ◌<◌, ◌^◌, List
 ghost use Rattle.soc_collect.specs.Asked.{AsksAll, Step};
 ghost use Rattle.soc_collect.specs.Tallies.{nothing_served};
 
-use soc_collect::{Door, Naming, Tally, Ticket, collect};
+use soc_collect::{Naming, Shared, Tally, Ticket, collect};
 use soc_desk::KeepingDesk;
 use soc_edge::{Clock, Draws};
-use soc_http::{Buffer, Routes};
+use soc_http::Buffer;
 use soc_listen::{Conn, Listener};
-use soc_session::Rules;
-use std::alloc::Global;
+use soc_session::Setting;
+use std::sync::Wait;
 use std::sync::ledger::Ledger;
-use std::sync::{Mutex, Wait};
 
 /// A collector's desk, the buffer of its connections, and what it has served.
 #[derive(Drop)]
@@ -27,12 +26,8 @@ impl<K: KeepingDesk, X: Conn, N: Ledger, M: Ledger> Collector<K, X, N, M> {
     pub(crate) fn collect<J: Naming, L: Listener<Conn = X>, C: Clock, W: Draws, R: Wait>(
         &mut self,
         rt: &R,
-        alloc: Global,
-        door: &Mutex<Door<L, N, M, J>>,
-        rules: &Rules,
-        routes: &Routes,
-        clock: &Mutex<C>,
-        draws: &Mutex<W>,
+        setting: Setting<'_>,
+        shared: &Shared<L, N, M, J, C, W>,
     )
         requires new { (self.old.served ≡ nothing_served) × (K.added self.old.desk ≡ 0) }
         requires ticket { (self.old.ticket.handed.parts ≡ 1) × (self.old.ticket.refused.parts ≡ 1) × (self.old.ticket.handed.amount ≡ 0) × (self.old.ticket.refused.amount ≡ 0) }
@@ -43,16 +38,12 @@ impl<K: KeepingDesk, X: Conn, N: Ledger, M: Ledger> Collector<K, X, N, M> {
     {
         collect(
             rt,
-            alloc,
+            setting,
             &mut self.desk,
             &mut self.served,
             &mut self.ticket,
-            door,
-            rules,
-            routes,
             &mut self.buffer,
-            clock,
-            draws,
+            shared,
         )
     }
 }

@@ -9,15 +9,13 @@ use crate::leaving::{leave_collectors, leave_processors};
 use crate::stations::{Stock, collectors, processors};
 use crate::work::work;
 use soc_base::NoMemory;
-use soc_collect::{Door, Naming, Tally, Ticket};
+use soc_collect::{Door, Naming, Shared, Tally, Ticket};
 use soc_edge::{Clock, Draws};
 use soc_hall::Hall;
-use soc_http::Routes;
 use soc_listen::Listener;
 use soc_schema::Reporter;
-use soc_service::{Gate, SharedDesk};
-use soc_session::Rules;
-use std::alloc::Global;
+use soc_service::{Gate, SharedDesk, Site};
+use soc_session::Setting;
 use std::marker::Brand;
 use std::snapshot::Snapshot;
 use std::sync::ledger::{Blank, Ledger};
@@ -31,19 +29,33 @@ pub struct Crew {
     pub processors: u32,
 }
 
+/// What a crew goes by.
+#[derive(Clone, Copy)]
+pub struct CrewSetting<'s, P, G> {
+    pub crew: Crew,
+    /// What messages are answered by.
+    pub session: Setting<'s>,
+    /// What makes the reports: the desk's own.
+    pub reporter: &'s P,
+    /// What each turn passes.
+    pub gate: &'s G,
+}
+
 /// What a crew leaves.
 #[derive(Drop)]
-pub struct CrewEnd<T, L> {
+pub struct CrewEnd<T, L: Listener> {
     pub desk: T,
     pub listener: L,
     /// Whether the listener has failed; `NoMemory` where memory was wanting before the first thread started.
     pub failed: Result<bool, NoMemory>,
+    pub served: Tally<L::Conn>,
 }
 
 /// Serves the connections of a listener at one desk, by collectors and processors beside each other, until a receipt says
 /// stopped, no further connection comes, or the listener fails. Where memory is wanting before the first thread starts, nothing
 /// is served.
 pub fn serve_together<
+    's,
     R: Threads + Wait + Sync,
     T: SharedDesk + Send,
     P: Reporter + Sync,
@@ -52,52 +64,41 @@ pub fn serve_together<
     W: Draws + Send,
     G: Gate + Sync,
 >(
-    rt: &R,
-    alloc: Global,
-    crew: Crew,
+    rt: &'s R,
+    setting: CrewSetting<'s, P, G>,
     desk: T,
-    reporter: &P,
-    rules: &Rules,
-    routes: &Routes,
     listener: L,
     clock: &mut C,
     draws: &mut W,
-    gate: &G,
-    served: &mut Tally<L::Conn>,
 ) -> CrewEnd<T, L>
-    requires collectors { (0 < crew.collectors) × (crew.collectors ≤ 8) }
-    requires processors { (0 < crew.processors) × (crew.processors ≤ 8) }
-    requires reporter { (T.desk_of (T.basis_of desk)).row_of ≡ P.row_of reporter.now }
-    requires served { served.old ≡ nothing_served }
+    requires collectors { (0 < setting.crew.collectors) × (setting.crew.collectors ≤ 8) }
+    requires processors { (0 < setting.crew.processors) × (setting.crew.processors ≤ 8) }
+    requires reporter { (T.desk_of (T.basis_of desk)).row_of ≡ P.row_of setting.reporter.now }
     ensures ends { ∥ Ends (T.log_of desk) (T.log_of result.desk)
-        (T.basis_of desk) (T.basis_of result.desk) served.new.kept ∥₁ }
-    ensures handed { (L.told result.listener).handed ≡ (L.told listener).handed + served.new.connections }
+        (T.basis_of desk) (T.basis_of result.desk) result.served.kept ∥₁ }
+    ensures handed { (L.told result.listener).handed ≡ (L.told listener).handed + result.served.connections }
     ensures no_fewer { (L.told listener).faults ≤ (L.told result.listener).faults }
-    ensures failed { IfOk result.failed (λ failed. failed ≡ true → Rose (L.told listener).faults (L.told result.listener).faults) }
-    ensures over { IfOk result.failed (λ failed. (served.new.stopped ≡ true) ⊎ ((failed || (L.told result.listener).ended) ≡ true)) }
-    ensures unserved { OnErr result.failed (served.new ≡ nothing_served) }
+    ensures failed { IfOk result.failed (λ failed. failed ≡ true
+        → Rose (L.told listener).faults (L.told result.listener).faults) }
+    ensures over { IfOk result.failed (λ failed. (result.served.stopped ≡ true)
+        ⊎ ((failed || (L.told result.listener).ended) ≡ true)) }
+    ensures unserved { OnErr result.failed (result.served ≡ nothing_served) }
 {
-    let parts = crew.collectors as u64 + 1;
+    let parts = setting.crew.collectors as u64 + 1;
     serve_with::<Brand, Brand, Brand, R, T, P, L, C, W, G>(
         rt,
-        alloc,
-        crew,
+        setting,
         desk,
-        reporter,
-        rules,
-        routes,
         listener,
         clock,
         draws,
-        gate,
-        served,
-        Blank::new(parts),
-        Blank::new(parts),
+        (Blank::new(parts), Blank::new(parts)),
     )
 }
 
-/// The same, with the ledgers by which the listener's counts are known, and with what it told.
+/// The same, with the ledgers by which the counts of connections handed out and refused are known.
 fn serve_with<
+    's,
     N: Ledger + Send + Sync,
     M: Ledger + Send + Sync,
     J: Naming + Send + Sync,
@@ -109,36 +110,39 @@ fn serve_with<
     W: Draws + Send,
     G: Gate + Sync,
 >(
-    rt: &R,
-    alloc: Global,
-    crew: Crew,
+    rt: &'s R,
+    setting: CrewSetting<'s, P, G>,
     desk: T,
-    reporter: &P,
-    rules: &Rules,
-    routes: &Routes,
     listener: L,
     clock: &mut C,
     draws: &mut W,
-    gate: &G,
-    served: &mut Tally<L::Conn>,
-    handed: Blank,
-    refused: Blank,
+    blanks: (Blank, Blank),
 ) -> CrewEnd<T, L>
-    requires collectors { (0 < crew.collectors) × (crew.collectors ≤ 8) }
-    requires processors { (0 < crew.processors) × (crew.processors ≤ 8) }
-    requires reporter { (T.desk_of (T.basis_of desk)).row_of ≡ P.row_of reporter.now }
-    requires served { served.old ≡ nothing_served }
+    requires collectors { (0 < setting.crew.collectors) × (setting.crew.collectors ≤ 8) }
+    requires processors { (0 < setting.crew.processors) × (setting.crew.processors ≤ 8) }
+    requires reporter { (T.desk_of (T.basis_of desk)).row_of ≡ P.row_of setting.reporter.now }
     requires listener { L.told listener ≡ J.opened }
-    requires handed { (handed.name ≡ N.name) × (handed.parts ≡ N.parts) × (handed.parts ≡ crew.collectors + 1) }
-    requires refused { (refused.name ≡ M.name) × (refused.parts ≡ M.parts) × (refused.parts ≡ crew.collectors + 1) }
+    requires handed { (blanks.0.name ≡ N.name) × (blanks.0.parts ≡ N.parts)
+        × (blanks.0.parts ≡ setting.crew.collectors + 1) }
+    requires refused { (blanks.1.name ≡ M.name) × (blanks.1.parts ≡ M.parts)
+        × (blanks.1.parts ≡ setting.crew.collectors + 1) }
     ensures ends { ∥ Ends (T.log_of desk) (T.log_of result.desk)
-        (T.basis_of desk) (T.basis_of result.desk) served.new.kept ∥₁ }
-    ensures handed { (L.told result.listener).handed ≡ (L.told listener).handed + served.new.connections }
+        (T.basis_of desk) (T.basis_of result.desk) result.served.kept ∥₁ }
+    ensures handed { (L.told result.listener).handed ≡ (L.told listener).handed + result.served.connections }
     ensures no_fewer { (L.told listener).faults ≤ (L.told result.listener).faults }
-    ensures failed { IfOk result.failed (λ failed. failed ≡ true → Rose (L.told listener).faults (L.told result.listener).faults) }
-    ensures over { IfOk result.failed (λ failed. (served.new.stopped ≡ true) ⊎ ((failed || (L.told result.listener).ended) ≡ true)) }
-    ensures unserved { OnErr result.failed (served.new ≡ nothing_served) }
+    ensures failed { IfOk result.failed (λ failed. failed ≡ true
+        → Rose (L.told listener).faults (L.told result.listener).faults) }
+    ensures over { IfOk result.failed (λ failed. (result.served.stopped ≡ true)
+        ⊎ ((failed || (L.told result.listener).ended) ≡ true)) }
+    ensures unserved { OnErr result.failed (result.served ≡ nothing_served) }
 {
+    let CrewSetting {
+        crew,
+        session,
+        reporter,
+        gate,
+    } = setting;
+    let alloc = session.alloc;
     let Ok(stock) = Stock::new(alloc, crew) else {
         return unserved(desk, listener);
     };
@@ -160,16 +164,20 @@ fn serve_with<
         Ok(made) => made,
         Err(desk) => return unserved(desk, listener),
     };
+    let (handed, refused) = blanks;
     let (door, mut ticket): (Door<L, N, M, J>, Ticket<N, M>) = Door::open(
         listener, handed, refused,
     );
-    let collecting = collectors(
+    let site = Site {
         rt,
         alloc,
-        &hall,
-        &opened,
-        &jobs,
+        hall: &hall,
+        jobs: &jobs,
         gate,
+    };
+    let collecting = collectors(
+        &site,
+        &opened,
         collecting,
         buffers,
         &mut seats,
@@ -177,42 +185,28 @@ fn serve_with<
         &mut ticket,
     );
     let processing = processors(
-        rt,
-        alloc,
-        &hall,
+        &site,
         &opened,
-        &jobs,
         reporter,
-        gate,
         processing,
         crew.processors,
         &mut seats,
         &mut passes,
     );
-    let door = Mutex::new(door);
-    let (collecting, processing) = work(
-        rt,
-        alloc,
-        &jobs,
-        own,
-        crew.processors,
-        collecting,
-        processing,
-        &door,
-        rules,
-        routes,
-        clock,
-        draws,
-    );
-    let mut door = door.into_inner();
-    leave_collectors(
+    let shared = Shared {
+        door: Mutex::new(door),
+        clock: Mutex::new(&mut *clock),
+        draws: Mutex::new(&mut *draws),
+    };
+    let (collecting, processing) = work(rt, session, &jobs, own, collecting, processing, &shared);
+    let mut door = shared.door.into_inner();
+    let served = leave_collectors(
         &hall,
         &opened,
         collecting,
         &mut seats,
         &mut door,
         &mut ticket,
-        served,
     );
     leave_processors(&hall, &opened, processing, &mut seats);
     let desk = hall.close(seats);
@@ -221,16 +215,19 @@ fn serve_with<
         desk,
         listener,
         failed: Ok(failed),
+        served,
     }
 }
 
 /// Nothing was served, for want of memory.
-fn unserved<T, L>(desk: T, listener: L) -> CrewEnd<T, L>
-    ensures { (result.desk ≡ desk) × (result.listener ≡ listener) × IsErr result.failed }
+fn unserved<T, L: Listener>(desk: T, listener: L) -> CrewEnd<T, L>
+    ensures { (result.desk ≡ desk) × (result.listener ≡ listener) × IsErr result.failed
+        × (result.served ≡ nothing_served) }
 {
     CrewEnd {
         desk,
         listener,
         failed: Err(NoMemory),
+        served: Tally::new(),
     }
 }

@@ -24,7 +24,7 @@ pub(crate) fn put_due<T: SharedDesk, R: Wait>(rt: &R, jobs: &Jobs, mut pass: Pas
 
 /// Puts so many `End`s. Where the ring is full a job is taken out first, and where that one was an `End` it is put again.
 /// A crash whose job is taken out so is left to the last sweep.
-pub(crate) fn put_ends<R: Wait>(rt: &R, jobs: &Jobs, mut pass: Pass, ends: u32) -> Pass
+pub(crate) fn put_ends<R: Wait>(rt: &R, jobs: &Jobs, mut pass: Pass, ends: usize) -> Pass
     requires { IsPassOf jobs.now pass }
     ensures { IsPassOf jobs.now result }
 {

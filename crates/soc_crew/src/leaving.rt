@@ -1,6 +1,5 @@
 //! What collectors and processors leave when they have ended.
 ghost use Rattle.std.specs.Prelude.{◌≡◌, ◌⊎◌, ℕ, ◌+◌, ◌*◌, ◌^◌, ◌≤◌, ◌<◌, [], length, All, IsSomeAnd, true, vec_len};
-ghost use Rattle.soc_collect.specs.Tallies.{nothing_served};
 ghost use Rattle.soc_hall.specs.Seats.{IsNew, IsSeatOf, known_of, room_of, seats_in};
 ghost use Rattle.soc_service.specs.Desks.{HasTurned};
 ghost use Rattle.soc_crew.specs.inner.Seated.{AreSeated};
@@ -33,22 +32,22 @@ pub(crate) fn leave_collectors<
     seats: &mut Seats<T>,
     door: &mut Door<L, N, M, J>,
     ticket: &mut Ticket<N, M>,
-    served: &mut Tally<L::Conn>,
-)
+) -> Tally<L::Conn>
     requires each { All (λ c. (c.desk.hall.now ≡ hall.now)
         × IsNew (T.basis_of opened.now.value) (T.log_of opened.now.value) (known_of c.desk.began.value)
         × (c.served.connections ≡ c.ticket.handed.amount) × (c.served.kept ≡ c.desk.kept) × (c.served.kept < 2 ^ 60)
         × (c.ticket.handed.parts ≡ 1) × (c.ticket.refused.parts ≡ 1)
         × ((c.served.stopped ≡ true) ⊎ (0 < c.ticket.refused.amount))) collectors.items }
     requires few { (0 < vec_len collectors) × (vec_len collectors ≤ 8) × (vec_len collectors ≤ room_of seats.old) }
-    requires none { (seats_in seats.old ≡ []) × (served.old ≡ nothing_served) × (ticket.old.handed.amount ≡ 0) × (ticket.old.refused.amount ≡ 0) × (0 < ticket.old.handed.parts) }
+    requires none { (seats_in seats.old ≡ []) × (ticket.old.handed.amount ≡ 0) × (ticket.old.refused.amount ≡ 0) × (0 < ticket.old.handed.parts) }
     ensures count { (length (seats_in seats.new) ≡ vec_len collectors.entry) × (room_of seats.new ≡ room_of seats.old) }
     ensures seats { All (λ seat. IsSeatOf hall.now seat) (seats_in seats.new) }
-    ensures seated { ∥ AreSeated (T.basis_of opened.now.value) (T.log_of opened.now.value) served.new.kept (seats_in seats.new) ∥₁ }
-    ensures connections { served.new.connections ≡ ticket.new.handed.amount }
+    ensures seated { ∥ AreSeated (T.basis_of opened.now.value) (T.log_of opened.now.value) result.kept (seats_in seats.new) ∥₁ }
+    ensures connections { result.connections ≡ ticket.new.handed.amount }
     ensures parts { (ticket.new.handed.parts ≡ ticket.old.handed.parts + vec_len collectors.entry) × (ticket.new.refused.parts ≡ ticket.old.refused.parts + vec_len collectors.entry) }
-    ensures over { (served.new.stopped ≡ true) ⊎ (0 < ticket.new.refused.amount) }
+    ensures over { (result.stopped ≡ true) ⊎ (0 < ticket.new.refused.amount) }
 {
+    let mut served = Tally::new();
     while let Some(collector) = collectors.pop() {
         let Collector {
             desk,
@@ -62,6 +61,7 @@ pub(crate) fn leave_collectors<
         door.confirm(ticket);
         served.add(own);
     }
+    served
 }
 
 /// Takes the seats of processors back.

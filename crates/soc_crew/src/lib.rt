@@ -11,4 +11,4 @@ mod stations;
 mod work;
 
 pub use beside::side_by_side;
-pub use crew::{Crew, CrewEnd, serve_together};
+pub use crew::{Crew, CrewEnd, CrewSetting, serve_together};

@@ -4,11 +4,10 @@ ghost use Rattle.soc_hall.specs.Seats.{IsSeatOf, known_of};
 ghost use Rattle.soc_pool.specs.Passes.{IsPassOf};
 ghost use Rattle.soc_service.specs.Desks.{HasTurned};
 
-use soc_hall::{Hall, Seat};
-use soc_pool::{Jobs, Pass};
+use soc_hall::Seat;
+use soc_pool::Pass;
 use soc_schema::Reporter;
-use soc_service::{Gate, SharedDesk, worker};
-use std::alloc::Global;
+use soc_service::{Gate, SharedDesk, Site, worker};
 use std::snapshot::Snapshot;
 use std::sync::Wait;
 
@@ -25,15 +24,11 @@ pub(crate) trait Task {
         ensures did { Did self.old self.new };
 }
 
-/// A processor: where it takes jobs, and its seat and pass.
+/// A processor: where it works, and its seat and pass.
 #[derive(Drop)]
 pub(crate) struct Processor<'h, T: SharedDesk, P: Reporter, G: Gate, R: Wait> {
-    pub(crate) rt: &'h R,
-    pub(crate) alloc: Global,
-    pub(crate) hall: &'h Hall<T>,
-    pub(crate) jobs: &'h Jobs,
+    pub(crate) site: &'h Site<'h, T, G, R>,
     pub(crate) reporter: &'h P,
-    pub(crate) gate: &'h G,
     // There, but while it works.
     pub(crate) seat: Option<Seat<T>>,
     pub(crate) pass: Option<Pass>,
@@ -47,27 +42,18 @@ impl<'h, T: SharedDesk, P: Reporter, G: Gate, R: Wait> Task for Processor<'h, T,
     ghost use Rattle.soc_pool.specs.Passes.{IsPassOf};
     ghost use Rattle.soc_service.specs.Desks.{HasTurned};
 
-    ghost Ready = { λ p. (p.seat ≡ Some p.began.value) × IsSeatOf p.hall.now p.began.value
-        × IsSomeAnd p.pass (λ q. IsPassOf p.jobs.now q)
+    ghost Ready = { λ p. (p.seat ≡ Some p.began.value) × IsSeatOf p.site.now.hall.now p.began.value
+        × IsSomeAnd p.pass (λ q. IsPassOf p.site.now.jobs.now q)
         × IfSome (known_of p.began.value).basis (λ basis. (T.desk_of basis).row_of ≡ P.row_of p.reporter.now) };
 
-    ghost Did = { λ before after. (after.began ≡ before.began) × (after.hall ≡ before.hall)
-        × IsSomeAnd after.seat (λ s. IsSeatOf before.hall.now s × HasTurned (known_of before.began.value) (known_of s) 0) };
+    ghost Did = { λ before after. (after.began ≡ before.began) × (after.site ≡ before.site)
+        × IsSomeAnd after.seat (λ s. IsSeatOf before.site.now.hall.now s × HasTurned (known_of before.began.value) (known_of s) 0) };
 
     fn run(&mut self) {
         let (Some(seat), Some(pass)) = (self.seat.take(), self.pass.take()) else {
             unreachable!()
         };
-        let end = worker(
-            self.rt,
-            self.alloc,
-            self.hall,
-            seat,
-            self.jobs,
-            pass,
-            self.reporter,
-            self.gate,
-        );
+        let end = worker(self.site, seat, pass, self.reporter);
         self.seat = Some(end.seat);
         self.pass = Some(end.pass);
     }

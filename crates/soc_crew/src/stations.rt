@@ -9,12 +9,12 @@ use crate::crew::Crew;
 use crate::processor::Processor;
 use soc_base::NoMemory;
 use soc_collect::{Tally, Ticket};
-use soc_hall::{Hall, Seat, Seats};
+use soc_hall::{Seat, Seats};
 use soc_http::Buffer;
 use soc_listen::Conn;
 use soc_pool::{Jobs, Pass, Passes};
 use soc_schema::Reporter;
-use soc_service::{Gate, HallDesk, SharedDesk};
+use soc_service::{Gate, HallDesk, SharedDesk, Site};
 use std::alloc::Global;
 use std::snapshot::Snapshot;
 use std::sync::Wait;
@@ -77,12 +77,8 @@ fn station<T: SharedDesk>(seats: &mut Seats<T>, passes: &mut Passes) -> (Seat<T>
 
 /// A collector for each buffer.
 pub(crate) fn collectors<'h, T: SharedDesk, G: Gate, R: Wait, X: Conn, N: Ledger, M: Ledger>(
-    rt: &'h R,
-    alloc: Global,
-    hall: &'h Hall<T>,
+    site: &'h Site<'h, T, G, R>,
     opened: &Snapshot<T>,
-    jobs: &'h Jobs,
-    gate: &'h G,
     mut list: Vec<Collector<HallDesk<'h, T, G, R>, X, N, M>>,
     mut buffers: Vec<Buffer>,
     seats: &mut Seats<T>,
@@ -90,17 +86,17 @@ pub(crate) fn collectors<'h, T: SharedDesk, G: Gate, R: Wait, X: Conn, N: Ledger
     ticket: &mut Ticket<N, M>,
 ) -> Vec<Collector<HallDesk<'h, T, G, R>, X, N, M>>
     requires list { (list.items ≡ []) × (vec_len buffers ≤ vec_capacity list) }
-    requires seats { All (λ seat. IsSeatOf hall.now seat × IsNew (T.basis_of opened.now.value) (T.log_of opened.now.value) (known_of seat)) (seats_in seats.old) }
-    requires passes { All (λ pass. IsPassOf jobs.now pass) (passes_in passes.old) }
+    requires seats { All (λ seat. IsSeatOf site.now.hall.now seat × IsNew (T.basis_of opened.now.value) (T.log_of opened.now.value) (known_of seat)) (seats_in seats.old) }
+    requires passes { All (λ pass. IsPassOf site.now.jobs.now pass) (passes_in passes.old) }
     requires enough { (vec_len buffers ≤ length (seats_in seats.old)) × (vec_len buffers ≤ length (passes_in passes.old)) × (vec_len buffers < ticket.old.handed.parts) × (vec_len buffers < ticket.old.refused.parts) }
     requires unused { (ticket.old.handed.amount ≡ 0) × (ticket.old.refused.amount ≡ 0) }
     ensures count { vec_len result ≡ vec_len buffers }
-    ensures each { All (λ c. (c.desk.hall.now ≡ hall.now)
+    ensures each { All (λ c. (c.desk.hall.now ≡ site.now.hall.now)
         × IsNew (T.basis_of opened.now.value) (T.log_of opened.now.value) (known_of c.desk.began.value)
         × (c.served ≡ nothing_served) × (c.desk.kept ≡ 0)
         × (c.ticket.handed.parts ≡ 1) × (c.ticket.refused.parts ≡ 1) × (c.ticket.handed.amount ≡ 0) × (c.ticket.refused.amount ≡ 0)) result.items }
-    ensures seats { All (λ seat. IsSeatOf hall.now seat × IsNew (T.basis_of opened.now.value) (T.log_of opened.now.value) (known_of seat)) (seats_in seats.new) }
-    ensures passes { All (λ pass. IsPassOf jobs.now pass) (passes_in passes.new) }
+    ensures seats { All (λ seat. IsSeatOf site.now.hall.now seat × IsNew (T.basis_of opened.now.value) (T.log_of opened.now.value) (known_of seat)) (seats_in seats.new) }
+    ensures passes { All (λ pass. IsPassOf site.now.jobs.now pass) (passes_in passes.new) }
     ensures left { (length (seats_in seats.new) + vec_len buffers ≡ length (seats_in seats.old)) × (room_of seats.new ≡ room_of seats.old) × (length (passes_in passes.new) + vec_len buffers ≡ length (passes_in passes.old)) }
     ensures parts { (ticket.new.handed.parts + vec_len buffers ≡ ticket.old.handed.parts) × (ticket.new.refused.parts + vec_len buffers ≡ ticket.old.refused.parts) }
     ensures unused { (ticket.new.handed.amount ≡ 0) × (ticket.new.refused.amount ≡ 0) }
@@ -108,7 +104,7 @@ pub(crate) fn collectors<'h, T: SharedDesk, G: Gate, R: Wait, X: Conn, N: Ledger
     while let Some(buffer) = buffers.pop() {
         let (seat, pass) = station(seats, passes);
         list.push_reserved(Collector {
-            desk: HallDesk::new(rt, alloc, hall, seat, jobs, pass, gate),
+            desk: HallDesk::new(site, seat, pass),
             buffer,
             served: Tally::new(),
             ticket: ticket.split_off(),
@@ -119,27 +115,23 @@ pub(crate) fn collectors<'h, T: SharedDesk, G: Gate, R: Wait, X: Conn, N: Ledger
 
 /// So many processors.
 pub(crate) fn processors<'h, T: SharedDesk, P: Reporter, G: Gate, R: Wait>(
-    rt: &'h R,
-    alloc: Global,
-    hall: &'h Hall<T>,
+    site: &'h Site<'h, T, G, R>,
     opened: &Snapshot<T>,
-    jobs: &'h Jobs,
     reporter: &'h P,
-    gate: &'h G,
     mut list: Vec<Processor<'h, T, P, G, R>>,
     count: u32,
     seats: &mut Seats<T>,
     passes: &mut Passes,
 ) -> Vec<Processor<'h, T, P, G, R>>
     requires list { (list.items ≡ []) × (count ≤ vec_capacity list) }
-    requires seats { All (λ seat. IsSeatOf hall.now seat × IsNew (T.basis_of opened.now.value) (T.log_of opened.now.value) (known_of seat)) (seats_in seats.old) }
-    requires passes { All (λ pass. IsPassOf jobs.now pass) (passes_in passes.old) }
+    requires seats { All (λ seat. IsSeatOf site.now.hall.now seat × IsNew (T.basis_of opened.now.value) (T.log_of opened.now.value) (known_of seat)) (seats_in seats.old) }
+    requires passes { All (λ pass. IsPassOf site.now.jobs.now pass) (passes_in passes.old) }
     requires enough { (count ≤ length (seats_in seats.old)) × (count ≤ length (passes_in passes.old)) }
     requires reporter { (T.desk_of (T.basis_of opened.now.value)).row_of ≡ P.row_of reporter.now }
     ensures count { vec_len result ≡ count }
-    ensures each { All (λ p. ((p.seat ≡ Some p.began.value) × IsSeatOf p.hall.now p.began.value × IsSomeAnd p.pass (λ q. IsPassOf p.jobs.now q)
+    ensures each { All (λ p. ((p.seat ≡ Some p.began.value) × IsSeatOf p.site.now.hall.now p.began.value × IsSomeAnd p.pass (λ q. IsPassOf p.site.now.jobs.now q)
         × IfSome (known_of p.began.value).basis (λ basis. (T.desk_of basis).row_of ≡ P.row_of p.reporter.now))
-        × (p.hall.now ≡ hall.now)
+        × (p.site.now.hall.now ≡ site.now.hall.now)
         × IsNew (T.basis_of opened.now.value) (T.log_of opened.now.value) (known_of p.began.value)) result.items }
     ensures left { (length (seats_in seats.new) + count ≡ length (seats_in seats.old)) × (room_of seats.new ≡ room_of seats.old) }
 {
@@ -147,12 +139,8 @@ pub(crate) fn processors<'h, T: SharedDesk, P: Reporter, G: Gate, R: Wait>(
         let (seat, pass) = station(seats, passes);
         let began = Snapshot::of(&seat);
         list.push_reserved(Processor {
-            rt,
-            alloc,
-            hall,
-            jobs,
+            site,
             reporter,
-            gate,
             seat: Some(seat),
             pass: Some(pass),
             began,

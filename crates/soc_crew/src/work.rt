@@ -9,19 +9,17 @@ use crate::beside::side_by_side;
 use crate::collector::Collector;
 use crate::jobs::put_ends;
 use crate::processor::Task;
-use soc_collect::{Door, Naming};
+use soc_collect::{Naming, Shared};
 use soc_desk::KeepingDesk;
 use soc_edge::{Clock, Draws};
-use soc_http::Routes;
 use soc_listen::Listener;
 use soc_pool::{Jobs, Pass};
-use soc_session::Rules;
-use std::alloc::Global;
+use soc_session::Setting;
+use std::sync::Wait;
 use std::sync::ledger::Ledger;
-use std::sync::{Mutex, Wait};
 use std::thread::Threads;
 
-/// Has each collector, and each processor, work in a thread of its own. When all collectors have ended, so many `End`s are put.
+/// Has each collector, and each processor, work in a thread of its own. When all collectors have ended, an `End` is put for each processor.
 pub(crate) fn work<
     K: KeepingDesk + Send + Drop,
     T: Task + Send + Drop,
@@ -34,17 +32,12 @@ pub(crate) fn work<
     W: Draws + Send,
 >(
     rt: &R,
-    alloc: Global,
+    setting: Setting<'_>,
     jobs: &Jobs,
     own: Pass,
-    ends: u32,
     collectors: Vec<Collector<K, L::Conn, N, M>>,
     processors: Vec<T>,
-    door: &Mutex<Door<L, N, M, J>>,
-    rules: &Rules,
-    routes: &Routes,
-    clock: &mut C,
-    draws: &mut W,
+    shared: &Shared<L, N, M, J, C, W>,
 ) -> (Vec<Collector<K, L::Conn, N, M>>, Vec<T>)
     requires collectors { All (λ c. (c.served ≡ nothing_served) × (K.added c.desk ≡ 0)
         × (c.ticket.handed.parts ≡ 1) × (c.ticket.refused.parts ≡ 1) × (c.ticket.handed.amount ≡ 0) × (c.ticket.refused.amount ≡ 0)) collectors.items }
@@ -56,8 +49,7 @@ pub(crate) fn work<
         × ((after.served.stopped ≡ true) ⊎ (0 < after.ticket.refused.amount))) collectors.items result.0.items }
     ensures processors { AllZip T.Did processors.items result.1.items }
 {
-    let clock = Mutex::new(clock);
-    let draws = Mutex::new(draws);
+    let ends = processors.len();
     let (collectors, processors, _own) = side_by_side(
         rt,
         collectors,
@@ -69,7 +61,7 @@ pub(crate) fn work<
             ensures served { (collector.new.served.connections ≡ collector.new.ticket.handed.amount) × (collector.new.served.kept ≡ K.added collector.new.desk) × (collector.new.served.kept < 2 ^ 60) }
             ensures ticket { (collector.new.ticket.handed.parts ≡ 1) × (collector.new.ticket.refused.parts ≡ 1) }
             ensures over { (collector.new.served.stopped ≡ true) ⊎ (0 < collector.new.ticket.refused.amount) }
-        { collector.collect(rt, alloc, door, rules, routes, &clock, &draws) },
+        { collector.collect(rt, setting, shared) },
         &|_place: usize, processor: &mut T|
             requires { T.Ready processor.old }
             ensures { T.Did processor.old processor.new }

@@ -20,7 +20,7 @@ use soc_desk::{Refusal, Reply};
 use soc_edge::{Clock, Disk, Draws, Sink, Source};
 use soc_http::{Buffer, Routes};
 use soc_schema::Reporter;
-use soc_session::{SessionEnd, session};
+use soc_session::{SessionEnd, Setting, session};
 use std::alloc::Global;
 
 /// Opens the desk whose log the disk's journal keeps, answers the messages of the streams' source on their sink, and then
@@ -55,16 +55,12 @@ pub(crate) fn serve<R: Reporter, X: Source + Sink, D: Disk, C: Clock, W: Draws>(
         Err(end) => return end,
     };
     let mut book = Book::over(alloc, disk, reporter, setup.limits, restored);
-    let end = session(
+    let setting = Setting {
         alloc,
-        &mut book,
-        streams,
-        &setup.rules,
-        &routes,
-        &mut buffer,
-        clock,
-        draws,
-    );
+        rules: &setup.rules,
+        routes: &routes,
+    };
+    let end = session(setting, &mut book, streams, &mut buffer, clock, draws);
     let keeping = keep_after(end, &mut book);
     let _disk = book.into_disk();
     RunEnd::Served(end, keeping)

@@ -19,13 +19,14 @@ use crate::sweep::{SweepFault, sweep};
 use soc_base::NoMemory;
 use soc_book::Book;
 use soc_collect::Tally;
-use soc_crew::{Crew, CrewEnd, serve_together};
+use soc_crew::{Crew, CrewEnd, CrewSetting, serve_together};
 use soc_edge::{Clock, Disk, Draws, Sink, Telling};
 use soc_http::Routes;
 use soc_listen::Listener;
 use soc_replay::{RunEnd, Setup, open};
 use soc_schema::Reporter;
 use soc_service::Gate;
+use soc_session::Setting;
 use soc_turns::SharedBook;
 use std::alloc::Global;
 use std::snapshot::Snapshot;
@@ -99,24 +100,23 @@ pub(crate) fn serve<
         Err(end) => return (HostEnd::Before(end), listener),
     };
     let book = SharedBook::over(alloc, disk, reporter, setup.limits, restored, opened);
+    let setting = CrewSetting {
+        crew: purpose.site.crew,
+        session: Setting {
+            alloc,
+            rules: &setup.rules,
+            routes: &routes,
+        },
+        reporter,
+        gate: purpose.site.gate,
+    };
     let CrewEnd {
         desk: book,
         listener,
         failed,
-    } = serve_together(
-        purpose.site.rt,
-        alloc,
-        purpose.site.crew,
-        book,
-        reporter,
-        &setup.rules,
-        &routes,
-        listener,
-        clock,
-        draws,
-        purpose.site.gate,
-        served,
-    );
+        served: counted,
+    } = serve_together(purpose.site.rt, setting, book, listener, clock, draws);
+    *served = counted;
     let mut book = book.into_book();
     let end = close(alloc, &mut book, output, failed);
     let _disk = book.into_disk();

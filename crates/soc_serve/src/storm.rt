@@ -14,8 +14,8 @@ use crate::lines::LinesFault;
 use crate::summary::sum_up;
 use soc_base::{Blobs, Bytes, NoMemory};
 use soc_book::Restored;
-use soc_collect::Tally;
-use soc_crew::{Crew, CrewEnd, serve_together};
+use soc_crew::{Crew, CrewEnd, CrewSetting, serve_together};
+use soc_desk::Limits;
 use soc_edge::{BytesList, Ids16, MemClock, MemDisk, MemDraws, MemTree, Numbers, Sink, write_all};
 use soc_http::Routes;
 use soc_listen::MemListener;
@@ -24,6 +24,7 @@ use soc_replay::Setup;
 use soc_report::Kit;
 use soc_schema::Reporter;
 use soc_service::Gate;
+use soc_session::Setting;
 use soc_siglists::RegexMaker;
 use soc_turns::SharedBook;
 use soc_words::Words;
@@ -91,13 +92,13 @@ fn play<R: Threads + Wait + Sync, G: Gate + Sync>(
 }
 
 /// Plays a storm by a setup and a reporter.
-fn play_by<R: Threads + Wait + Sync, P: Reporter + Sync, G: Gate + Sync>(
-    rt: &R,
+fn play_by<'s, R: Threads + Wait + Sync, P: Reporter + Sync, G: Gate + Sync>(
+    rt: &'s R,
     alloc: Global,
     words: &Words,
-    setup: &Setup,
-    reporter: &P,
-    gate: &G,
+    setup: &'s Setup,
+    reporter: &'s P,
+    gate: &'s G,
 ) -> Result<Bytes, NoMemory>
     requires ranges { LieInRanges words.now }
     requires few { words.now.count ≤ 65536 }
@@ -108,37 +109,52 @@ fn play_by<R: Threads + Wait + Sync, P: Reporter + Sync, G: Gate + Sync>(
         processors: words.processors,
     };
     let routes = Routes::new(alloc)?;
-    let listener = new_listener(alloc, words.seed, words.count, words.collectors)?;
     let mut disk = new_disk(alloc, words.count)?;
+    let setting = CrewSetting {
+        crew,
+        session: Setting {
+            alloc,
+            rules: &setup.rules,
+            routes: &routes,
+        },
+        reporter,
+        gate,
+    };
+    play_on(rt, setting, words, setup.limits, &mut disk)
+}
+
+/// Plays a storm by a crew over a disk.
+fn play_on<'s, R: Threads + Wait + Sync, P: Reporter + Sync, G: Gate + Sync>(
+    rt: &'s R,
+    setting: CrewSetting<'s, P, G>,
+    words: &Words,
+    limits: Limits,
+    disk: &'s mut MemDisk,
+) -> Result<Bytes, NoMemory>
+    requires ranges { LieInRanges words.now }
+    requires few { words.now.count ≤ 65536 }
+    requires crew { (setting.crew.collectors ≡ words.now.collectors)
+        × (setting.crew.processors ≡ words.now.processors) }
+    ensures { IfOk result (λ text. ∥ PlaysBy (P.row_of setting.entry.reporter.now) (P.digest_of setting.entry.reporter.now) limits words.now.count text ∥₁) }
+{
+    let alloc = setting.session.alloc;
+    let reporter = setting.reporter;
+    let listener = new_listener(alloc, words.seed, words.count, words.collectors)?;
     let mut clock = MemClock::new(Numbers::new([MOMENT].to_vec(alloc)?));
     let mut draws = MemDraws::new(
         Numbers::new([0u64].to_vec(alloc)?),
         Ids16::new([[0u8; 16]].to_vec(alloc)?),
     );
-    let mut served = Tally::new();
-    let opened = Snapshot::of(&disk);
-    let Ok(restored) = Restored::read(alloc, &mut disk, reporter, setup.limits) else {
+    let opened = Snapshot::of(&*disk);
+    let Ok(restored) = Restored::read(alloc, disk, reporter, limits) else {
         return Err(NoMemory);
     };
-    let book = SharedBook::over(alloc, &mut disk, reporter, setup.limits, restored, opened);
+    let book = SharedBook::over(alloc, disk, reporter, limits, restored, opened);
     let CrewEnd {
         desk: book,
         failed,
         ..
-    } = serve_together(
-        rt,
-        alloc,
-        crew,
-        book,
-        reporter,
-        &setup.rules,
-        &routes,
-        listener,
-        &mut clock,
-        &mut draws,
-        gate,
-        &mut served,
-    );
+    } = serve_together(rt, setting, book, listener, &mut clock, &mut draws);
     if failed? {
         return Err(NoMemory);
     }

@@ -8,6 +8,7 @@ ghost use Rattle.soc_service.specs.Turns.{MayTurn};
 use crate::due::{asked_id, due_after, is_either, keeps_all, kept_between};
 use crate::gate::{Gate, Point};
 use crate::sharing::SharedDesk;
+use crate::site::Site;
 use crate::turn::take_turn;
 use soc_desk::{Command, Desk, KeepingDesk, Receipt};
 use soc_hall::{Hall, Seat};
@@ -39,19 +40,11 @@ pub struct HallDesk<'h, T: SharedDesk, G: Gate, W: Wait> {
 
 impl<'h, T: SharedDesk, G: Gate, W: Wait> HallDesk<'h, T, G, W> {
     /// A desk that takes its turns by this seat, and puts jobs by this pass.
-    pub fn new(
-        rt: &'h W,
-        alloc: Global,
-        hall: &'h Hall<T>,
-        seat: Seat<T>,
-        jobs: &'h Jobs,
-        pass: Pass,
-        gate: &'h G,
-    ) -> HallDesk<'h, T, G, W>
-        requires seat { IsSeatOf hall.now seat }
-        requires pass { IsPassOf jobs.now pass }
-        ensures hall { result.hall.now ≡ hall.now }
-        ensures jobs { result.jobs.now ≡ jobs.now }
+    pub fn new(site: &Site<'h, T, G, W>, seat: Seat<T>, pass: Pass) -> HallDesk<'h, T, G, W>
+        requires seat { IsSeatOf site.now.hall.now seat }
+        requires pass { IsPassOf site.now.jobs.now pass }
+        ensures hall { result.hall.now ≡ site.now.hall.now }
+        ensures jobs { result.jobs.now ≡ site.now.jobs.now }
         ensures seat { result.seat ≡ Some seat }
         ensures pass { result.pass ≡ Some pass }
         ensures began { result.began.value ≡ seat }
@@ -60,11 +53,11 @@ impl<'h, T: SharedDesk, G: Gate, W: Wait> HallDesk<'h, T, G, W> {
     {
         let began = Snapshot::of(&seat);
         HallDesk {
-            rt,
-            alloc,
-            hall,
-            jobs,
-            gate,
+            rt: site.rt,
+            alloc: site.alloc,
+            hall: site.hall,
+            jobs: site.jobs,
+            gate: site.gate,
             seat: Some(seat),
             pass: Some(pass),
             began,

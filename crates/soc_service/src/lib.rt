@@ -10,6 +10,7 @@ mod lists;
 mod process;
 mod processor;
 mod sharing;
+mod site;
 mod turn;
 
 pub use change::Change;
@@ -18,3 +19,4 @@ pub use gate::{Gate, OpenGate, Point};
 pub use process::Outcome;
 pub use processor::{WorkerEnd, WorkerStop, worker};
 pub use sharing::SharedDesk;
+pub use site::Site;

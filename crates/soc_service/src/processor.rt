@@ -8,11 +8,11 @@ use crate::gate::{Gate, Point};
 use crate::lists::Lists;
 use crate::process::process;
 use crate::sharing::SharedDesk;
-use soc_hall::{Hall, Seat};
-use soc_pool::{Job, Jobs, Pass};
+use crate::site::Site;
+use soc_hall::Seat;
+use soc_pool::{Job, Pass};
 use soc_raw::CrashId;
 use soc_schema::Reporter;
-use std::alloc::Global;
 use std::sync::Wait;
 
 /// Why a processor stopped.
@@ -65,38 +65,36 @@ fn end_of<S>(lists: Lists, seat: S, pass: Pass, stop: WorkerStop) -> WorkerEnd<S
 /// Makes the reports of the crashes whose jobs it takes, by the desk's own reporter, until it takes an `End`. Where the
 /// ring is empty it sleeps. Where memory is wanting, it stops.
 pub fn worker<T: SharedDesk, R: Reporter, G: Gate, W: Wait>(
-    rt: &W,
-    alloc: Global,
-    hall: &Hall<T>,
+    site: &Site<'_, T, G, W>,
     mut seat: Seat<T>,
-    jobs: &Jobs,
     mut pass: Pass,
     reporter: &R,
-    gate: &G,
 ) -> WorkerEnd<Seat<T>>
-    requires seat { IsSeatOf hall.now seat }
-    requires pass { IsPassOf jobs.now pass }
+    requires seat { IsSeatOf site.now.hall.now seat }
+    requires pass { IsPassOf site.now.jobs.now pass }
     requires reporter { IfSome (known_of seat).basis (λ basis. (T.desk_of basis).row_of ≡ R.row_of reporter.now) }
-    ensures seat { IsSeatOf hall.now result.seat }
-    ensures pass { IsPassOf jobs.now result.pass }
+    ensures seat { IsSeatOf site.now.hall.now result.seat }
+    ensures pass { IsPassOf site.now.jobs.now result.pass }
     ensures taken { (seen_of result.pass).takes ≡ (seen_of pass).takes ++ (crash_jobs result.taken.items ++ last_job result.stop) }
     ensures puts_none { ((seen_of result.pass).number ≡ (seen_of pass).number) × ((seen_of result.pass).puts ≡ (seen_of pass).puts) × (fulls_of result.pass ≡ fulls_of pass) }
     ensures worked { Worked T.Logged T.command_of (known_of seat) result.taken.items result.made.items result.stale.items result.missed.items result.stop (known_of result.seat) }
 {
-    let mut lists = Lists::new(alloc);
-    for _ in rt.forever() {
+    let mut lists = Lists::new(site.alloc);
+    for _ in site.rt.forever() {
         if lists.taken.reserve(1).is_err() {
             return end_of(lists, seat, pass, WorkerStop::NoMemory);
         }
-        let (after, job) = jobs.next(rt, pass);
+        let (after, job) = site.jobs.next(site.rt, pass);
         pass = after;
         let id = match job {
             Job::Crash(id) => id,
             Job::End => return end_of(lists, seat, pass, WorkerStop::Ended),
         };
         lists.taken.push_reserved(id);
-        gate.at(Point::Taken);
-        let (after, outcome) = process(rt, alloc, hall, seat, reporter, gate, id);
+        site.gate.at(Point::Taken);
+        let (after, outcome) = process(
+            site.rt, site.alloc, site.hall, seat, reporter, site.gate, id,
+        );
         seat = after;
         let outcome = match outcome {
             Some(outcome) => outcome,

@@ -13,10 +13,10 @@ use crate::answers::answer;
 use crate::arrivals::{Incoming, next_message};
 use crate::ending::SessionEnd;
 use crate::replies::Room;
-use crate::rules::Rules;
+use crate::setting::Setting;
 use soc_desk::Desk;
 use soc_edge::{Clock, Draws, Sink, Source};
-use soc_http::{Answered, Buffer, HeadError, Routes, WriteFault, write_reply};
+use soc_http::{Answered, Buffer, HeadError, WriteFault, write_reply};
 use std::alloc::Global;
 
 /// Whether a session goes on behind a message.
@@ -28,47 +28,32 @@ pub(crate) enum Next {
     Ends(SessionEnd),
 }
 
-/// What each message of a session is answered by.
-#[derive(Clone, Copy)]
-struct Setting<'s> {
-    alloc: Global,
-    rules: &'s Rules,
-    routes: &'s Routes,
-}
-
 /// Answers the messages of a link in order, over whatever desk stands behind, until the input ends, a reply is the last
 /// one, or the messages answered hold `session_bytes` bytes or more. The buffer's window is empty at the call.
-pub fn session<'s, K: Desk, X: Source + Sink, C: Clock, W: Draws>(
-    alloc: Global,
+pub fn session<K: Desk, X: Source + Sink, C: Clock, W: Draws>(
+    setting: Setting<'_>,
     desk: &mut K,
     link: &mut X,
-    rules: &'s Rules,
-    routes: &'s Routes,
     buffer: &mut Buffer,
     clock: &mut C,
     draws: &mut W,
 ) -> SessionEnd
     requires { buffer.old ≡ [] }
-    ensures serves { Serves K.Asks rules.now
+    ensures serves { Serves K.Asks setting.entry.rules.now
         (around (X.told link.old) desk.old (outlook (C.told clock.old) (W.told draws.old)))
         (around (X.told link.new) desk.new (outlook (C.told clock.new) (W.told draws.new)))
         buffer.new result }
     ensures never_fall { NeverFall (X.told link.old) (X.told link.new) }
     ensures cause { HasCause (result ≡ SessionEnd.ReadFault) (result ≡ SessionEnd.WriteFault) (X.told link.old) (X.told link.new) }
 {
-    let mut left = rules.session_bytes;
+    let mut left = setting.rules.session_bytes;
     if left == 0 {
         return SessionEnd::TooLong;
     }
-    let Ok(room) = Room::new(alloc) else {
+    let Ok(room) = Room::new(setting.alloc) else {
         return SessionEnd::NoMemory;
     };
     let mut spare = room.no_memory();
-    let setting = Setting {
-        alloc,
-        rules,
-        routes,
-    };
     while left > 0 {
         match answer_next(setting, desk, link, buffer, clock, draws, &mut spare) {
             Next::GoesOn(bytes) => left = left.saturating_sub(bytes),

@@ -18,8 +18,10 @@ mod question;
 mod replies;
 mod routes;
 mod rules;
+mod setting;
 
 pub use connection::session;
 pub use ending::SessionEnd;
 pub use laws::plan_is_one;
 pub use rules::Rules;
+pub use setting::Setting;

@@ -8,7 +8,7 @@ use soc_edge::{
 use soc_http::{Buffer, Routes};
 use soc_replay::read_tokens;
 use soc_schema::Products;
-use soc_session::{Rules, SessionEnd, session};
+use soc_session::{Rules, SessionEnd, Setting, session};
 use soc_tables::Fault;
 use soc_throttle::RuleSet;
 use std::alloc::Global;
@@ -41,16 +41,12 @@ pub fn served_with<X: Source + Sink, C: Clock, W: Draws>(
     let mut desk = Sample { alloc, choice };
     let routes = Routes::new(alloc)?;
     let mut buffer = Buffer::new(alloc)?;
-    Ok(session(
+    let setting = Setting {
         alloc,
-        &mut desk,
-        link,
         rules,
-        &routes,
-        &mut buffer,
-        clock,
-        draws,
-    ))
+        routes: &routes,
+    };
+    Ok(session(setting, &mut desk, link, &mut buffer, clock, draws))
 }
 
 /// How a session ends, with these rules and a clock that stands still and equal draws.

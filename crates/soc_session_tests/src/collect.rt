@@ -11,7 +11,7 @@ use soc_edge::{BytesList, Ids16, MemClock, MemDraws, Numbers};
 use soc_http::{Buffer, Routes};
 use soc_listen::{Listener, MemConn, MemListener};
 use soc_schema::{Products, Tokens};
-use soc_session::{Rules, SessionEnd};
+use soc_session::{Rules, SessionEnd, Setting};
 use soc_throttle::RuleSet;
 use std::alloc::Global;
 use std::marker::Brand;
@@ -110,13 +110,16 @@ fn serve_next(
     let Ok(Some(conn)) = listener.accept() else {
         return Err(Fail::from("no connection"));
     };
-    let shut = serve_one(
+    let setting = Setting {
         alloc,
+        rules: &around.rules,
+        routes: &around.routes,
+    };
+    let shut = serve_one(
+        setting,
         desk,
         served,
         conn,
-        &around.rules,
-        &around.routes,
         &mut around.buffer,
         &mut around.clock,
         &mut around.draws,
@@ -239,25 +242,28 @@ fn collect_alone<N: Ledger, M: Ledger, J: Naming, R: Wait>(
     let (door, mut ticket): (Door<MemListener, N, M, J>, Ticket<N, M>) = Door::open(
         listener, handed, refused,
     );
-    let door = Mutex::new(door);
-    let clock = Mutex::new(clock);
-    let draws = Mutex::new(draws);
+    let shared = Shared {
+        door: Mutex::new(door),
+        clock: Mutex::new(clock),
+        draws: Mutex::new(draws),
+    };
+    let setting = Setting {
+        alloc,
+        rules: &rules,
+        routes: &routes,
+    };
     let mut desk = Booth::new();
     let mut served = Tally::new();
     collect(
         rt,
-        alloc,
+        setting,
         &mut desk,
         &mut served,
         &mut ticket,
-        &door,
-        &rules,
-        &routes,
         &mut buffer,
-        &clock,
-        &draws,
+        &shared,
     );
-    let (_listener, failed) = door.into_inner().close(&mut ticket);
+    let (_listener, failed) = shared.door.into_inner().close(&mut ticket);
     Ok(Collected { served, failed })
 }
 

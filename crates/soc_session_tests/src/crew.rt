@@ -12,7 +12,7 @@ use soc_http::Routes;
 use soc_listen::{MemConn, MemListener};
 use soc_schema::{Bare, Products, Tokens};
 use soc_service::OpenGate;
-use soc_session::Rules;
+use soc_session::{Rules, Setting};
 use soc_throttle::RuleSet;
 use soc_turns::SharedBook;
 use std::alloc::Global;
@@ -127,24 +127,28 @@ fn served_over<'a, R: Threads + Wait + Sync>(
         return Err(Fail::from("the journal wasn't opened"));
     };
     let book = SharedBook::over(alloc, disk, reporter, LIMITS, restored, opened);
-    let mut served = Tally::new();
+    let setting = CrewSetting {
+        crew,
+        session: Setting {
+            alloc,
+            rules: &around.rules,
+            routes: &around.routes,
+        },
+        reporter,
+        gate: &OpenGate,
+    };
     let CrewEnd {
         listener,
         failed,
+        served,
         ..
     } = serve_together(
         rt,
-        alloc,
-        crew,
+        setting,
         book,
-        reporter,
-        &around.rules,
-        &around.routes,
         listener,
         &mut around.clock,
         &mut around.draws,
-        &OpenGate,
-        &mut served,
     );
     Ok(Served {
         served,

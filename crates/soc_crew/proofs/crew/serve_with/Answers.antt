@@ -21,22 +21,22 @@ use Rattle.soc_crew.proofs.crew.serve_with.Goals as goal
 pub returns-in_default-clause-ends : goal.returns-in_default-clause-ends
 returns-in_default-clause-ends g c =
     ∣ stays_as (c.unserved.ensures.0)
-    g.T.Logged.log_of g.T.Logged.basis_of _ (ap (λ t. t.kept) c.requires.served) ∣₁
+    g.T.Logged.log_of g.T.Logged.basis_of _ (ap (λ t. t.kept) c.unserved.ensures.3) ∣₁
 
 pub returns-in_default-with_capacity-clause-ends : goal.returns-in_default-with_capacity-clause-ends
 returns-in_default-with_capacity-clause-ends g c =
     ∣ stays_as (c.unserved-in_default-with_capacity.ensures.0)
-    g.T.Logged.log_of g.T.Logged.basis_of _ (ap (λ t. t.kept) c.requires.served) ∣₁
+    g.T.Logged.log_of g.T.Logged.basis_of _ (ap (λ t. t.kept) c.unserved-in_default-with_capacity.ensures.3) ∣₁
 
 pub returns-in_default-with_capacity-2-clause-ends : goal.returns-in_default-with_capacity-2-clause-ends
 returns-in_default-with_capacity-2-clause-ends g c =
     ∣ stays_as (c.unserved-in_default-with_capacity-2.ensures.0)
-    g.T.Logged.log_of g.T.Logged.basis_of _ (ap (λ t. t.kept) c.requires.served) ∣₁
+    g.T.Logged.log_of g.T.Logged.basis_of _ (ap (λ t. t.kept) c.unserved-in_default-with_capacity-2.ensures.3) ∣₁
 
 pub returns-in-Err-clause-ends : goal.returns-in-Err-clause-ends
 returns-in-Err-clause-ends g c =
     ∣ stays_as (c.unserved-in-Err.ensures.0 ∙ c.in-Err.ensures.back)
-    g.T.Logged.log_of g.T.Logged.basis_of _ (ap (λ t. t.kept) c.requires.served) ∣₁
+    g.T.Logged.log_of g.T.Logged.basis_of _ (ap (λ t. t.kept) c.unserved-in-Err.ensures.3) ∣₁
 
 pub work-collecting-requires-send-K : goal.work-collecting-requires-send-K
 work-collecting-requires-send-K g c κs within =
@@ -54,8 +54,8 @@ work-collecting-requires-send-T g c κs within =
     let runtime = c.type_bounds.sync-R in
     search (sendable, crosses, jobs_sync, pass_send, place_send, room_sync, seat_send) depth 60 fits 100000
 
-pub leave_collectors-requires-clause-each : goal.leave_collectors-requires-clause-each
-leave_collectors-requires-clause-each g c κs within =
+pub leave_collectors-served-requires-clause-each : goal.leave_collectors-served-requires-clause-each
+leave_collectors-served-requires-clause-each g c κs within =
     let opened = c.of-opened.result.value in
     let basis = g.T.Logged.basis_of opened in
     let opening = g.T.Logged.log_of opened in
@@ -79,8 +79,8 @@ leave_collectors-requires-clause-each g c κs within =
       r.6,
     ))
 
-pub leave_collectors-requires-clause-few : goal.leave_collectors-requires-clause-few
-leave_collectors-requires-clause-few g c κs within =
+pub leave_collectors-served-requires-clause-few : goal.leave_collectors-served-requires-clause-few
+leave_collectors-served-requires-clause-few g c κs within =
     let zip = c.work-collecting.ensures.collectors in
     let long = AllZip-long _ _ _ zip in
     let long_processors = AllZip-long _ _ _ c.work-collecting.ensures.processors in
@@ -101,8 +101,8 @@ leave_collectors-requires-clause-few g c κs within =
     let gone_room = c.processors-processing.ensures.left.1 in
     (omega arith, omega arith, omega arith)
 
-pub leave_collectors-requires-clause-none : goal.leave_collectors-requires-clause-none
-leave_collectors-requires-clause-none g c κs within =
+pub leave_collectors-served-requires-clause-none : goal.leave_collectors-served-requires-clause-none
+leave_collectors-served-requires-clause-none g c κs within =
     let zip = c.work-collecting.ensures.collectors in
     let long = AllZip-long _ _ _ zip in
     let long_processors = AllZip-long _ _ _ c.work-collecting.ensures.processors in
@@ -126,7 +126,7 @@ leave_collectors-requires-clause-none g c κs within =
     let whole = c.open-door.ensures.parts.0 in
     let asked = c.requires.handed.1 in
     let many = c.requires.handed.2 in
-    (none_long _ empty, c.requires.served, c.collectors-collecting.ensures.unused.0, c.collectors-collecting.ensures.unused.1, omega arith)
+    (none_long _ empty, c.collectors-collecting.ensures.unused.0, c.collectors-collecting.ensures.unused.1, omega arith)
 
 pub leave_processors-requires-clause-each : goal.leave_processors-requires-clause-each
 leave_processors-requires-clause-each g c =
@@ -135,12 +135,12 @@ leave_processors-requires-clause-each g c =
     let opening = g.T.Logged.log_of opened in
     let hall = c.in-Ok-over.made.0 in
     all_through c.processors-processing.result.items c.work-collecting.result.1.items c.work-collecting.ensures.processors
-    (λ p. ((p.seat ≡ Some p.began.value) × IsSeatOf p.hall.now p.began.value × IsSomeAnd p.pass (λ q. IsPassOf p.jobs.now q)
-    × IfSome (known_of p.began.value).basis (λ b. (g.T.SharedDesk.desk_of b).row_of ≡ g.P.Reporter.row_of p.reporter.now)) × (p.hall.now ≡ hall) × IsNew basis opening (known_of p.began.value)) c.processors-processing.ensures.each
+    (λ p. ((p.seat ≡ Some p.began.value) × IsSeatOf p.site.now.hall.now p.began.value × IsSomeAnd p.pass (λ q. IsPassOf p.site.now.jobs.now q)
+    × IfSome (known_of p.began.value).basis (λ b. (g.T.SharedDesk.desk_of b).row_of ≡ g.P.Reporter.row_of p.reporter.now)) × (p.site.now.hall.now ≡ hall) × IsNew basis opening (known_of p.began.value)) c.processors-processing.ensures.each
     (λ p. IsSomeAnd p.seat (λ s. IsSeatOf hall s × HasTurned (known_of p.began.value) (known_of s) 0) × IsNew basis opening (known_of p.began.value))
     (λ x y p r. (
       subst (λ h. IsSomeAnd y.seat (λ s. IsSeatOf h s × HasTurned (known_of y.began.value) (known_of s) 0)) p.1
-          (subst (λ b. IsSomeAnd y.seat (λ s. IsSeatOf x.hall.now s × HasTurned (known_of b.value) (known_of s) 0)) (sym r.0) r.2),
+          (subst (λ b. IsSomeAnd y.seat (λ s. IsSeatOf x.site.now.hall.now s × HasTurned (known_of b.value) (known_of s) 0)) (sym r.0) r.2),
       subst (λ b. IsNew basis opening (known_of b.value)) (sym r.0) p.2,
     ))
 
@@ -164,8 +164,8 @@ leave_processors-requires-clause-room g c =
     let left_room = c.collectors-collecting.ensures.left.1 in
     let gone = c.processors-processing.ensures.left.0 in
     let gone_room = c.processors-processing.ensures.left.1 in
-    let now = c.leave_collectors.ensures.count.0 in
-    let now_room = c.leave_collectors.ensures.count.1 in
+    let now = c.leave_collectors-served.ensures.count.0 in
+    let now_room = c.leave_collectors-served.ensures.count.1 in
     omega arith
 
 pub close-desk-requires-clause-all : goal.close-desk-requires-clause-all
@@ -188,7 +188,7 @@ close-desk-requires-clause-all g c =
     let left_room = c.collectors-collecting.ensures.left.1 in
     let gone = c.processors-processing.ensures.left.0 in
     let gone_room = c.processors-processing.ensures.left.1 in
-    let now = c.leave_collectors.ensures.count.0 in
+    let now = c.leave_collectors-served.ensures.count.0 in
     let all = c.leave_processors.ensures.count in
     let of = c.in-Ok-over.ensures.hall in
     omega arith
@@ -215,7 +215,7 @@ close-listener-requires-clause-handed g c =
     let gone_room = c.processors-processing.ensures.left.1 in
     let parts = c.collectors-collecting.ensures.parts.0 in
     let whole = c.open-door.ensures.parts.0 in
-    let back = c.leave_collectors.ensures.parts.0 in
+    let back = c.leave_collectors-served.ensures.parts.0 in
     omega arith
 
 pub close-listener-requires-clause-refused : goal.close-listener-requires-clause-refused
@@ -240,7 +240,7 @@ close-listener-requires-clause-refused g c =
     let gone_room = c.processors-processing.ensures.left.1 in
     let parts = c.collectors-collecting.ensures.parts.1 in
     let whole = c.open-door.ensures.parts.1 in
-    let back = c.leave_collectors.ensures.parts.1 in
+    let back = c.leave_collectors-served.ensures.parts.1 in
     omega arith
 
 pub returns-clause-ends : goal.returns-clause-ends
@@ -267,13 +267,13 @@ returns-clause-ends g c =
     let left_room = c.collectors-collecting.ensures.left.1 in
     let gone = c.processors-processing.ensures.left.0 in
     let gone_room = c.processors-processing.ensures.left.1 in
-    let now = c.leave_collectors.ensures.count.0 in
+    let now = c.leave_collectors-served.ensures.count.0 in
     let all = c.leave_processors.ensures.count in
     let some_seat : 0 < length (seats_in c.leave_processors.new.seats) = omega arith in
     let end = c.close-desk.result in
-    let kept = c.leave_collectors.new.served.kept in
+    let kept = c.leave_collectors-served.result.kept in
     subst
     (λ b. ∥ Ends (g.T.Logged.log_of b) (g.T.Logged.log_of end) (g.T.Logged.basis_of b) (g.T.Logged.basis_of end) kept ∥₁)
     c.of-opened.ensures
-    (∥∥₁_map (c.leave_processors.ensures.seated kept c.leave_collectors.ensures.seated)
+    (∥∥₁_map (c.leave_processors.ensures.seated kept c.leave_collectors-served.ensures.seated)
     (λ seated. closed basis (g.T.Logged.basis_of end) opening (g.T.Logged.log_of end) kept (seats_in c.leave_processors.new.seats) some_seat seated c.close-desk.ensures))

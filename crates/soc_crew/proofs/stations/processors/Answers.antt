@@ -17,13 +17,13 @@ loop-made-preserved g c =
     let opened = c.args.opened.now.value in
     let basis = g.T.Logged.basis_of opened in
     let opening = g.T.Logged.log_of opened in
-    let hall = c.args.hall.now in
+    let hall = c.args.site.now.hall.now in
     let before = c.loop-made.invariant in
     let seat = c.station-seat.result.0 in
     let pass = c.station-seat.result.1 in
     let seat_is = c.station-seat.ensures.seat.0 in
     let seats = pop_all _ _ seat seat_is (λ s. IsSeatOf hall s × IsNew basis opening (known_of s)) before.seats in
-    let passes = pop_all _ _ pass c.station-seat.ensures.pass (λ p. IsPassOf c.args.jobs.now p) before.passes in
+    let passes = pop_all _ _ pass c.station-seat.ensures.pass (λ p. IsPassOf c.args.site.now.jobs.now p) before.passes in
     let began_is = c.of-began.ensures in
     let new : IsNew basis opening (known_of c.of-began.result.value) = subst (λ s. IsNew basis opening (known_of s)) (sym began_is) seats.1.1 in
     let sits : IsSeatOf hall c.of-began.result.value = subst (λ s. IsSeatOf hall s) (sym began_is) seats.1.0 in
@@ -43,7 +43,7 @@ loop-made-preserved g c =
       enough = before.enough;
       reporter = before.reporter;
       each = push_all c.push_reserved.new.self.items c.loop-made.list.items _ c.push_reserved.ensures.items
-          (λ p. ((p.seat ≡ Some p.began.value) × IsSeatOf p.hall.now p.began.value × IsSomeAnd p.pass (λ q. IsPassOf p.jobs.now q)
-          × IfSome (known_of p.began.value).basis (λ b. (g.T.SharedDesk.desk_of b).row_of ≡ g.P.Reporter.row_of p.reporter.now)) × (p.hall.now ≡ hall) × IsNew basis opening (known_of p.began.value)) before.each
+          (λ p. ((p.seat ≡ Some p.began.value) × IsSeatOf p.site.now.hall.now p.began.value × IsSomeAnd p.pass (λ q. IsPassOf p.site.now.jobs.now q)
+          × IfSome (known_of p.began.value).basis (λ b. (g.T.SharedDesk.desk_of b).row_of ≡ g.P.Reporter.row_of p.reporter.now)) × (p.site.now.hall.now ≡ hall) × IsNew basis opening (known_of p.began.value)) before.each
           ((ap (λ s. Some s) (sym began_is), sits, passes.1, subst (λ o. IfSome o (λ b. (g.T.SharedDesk.desk_of b).row_of ≡ g.P.Reporter.row_of c.args.reporter.now)) (sym new.0) before.reporter), refl, new);
     }

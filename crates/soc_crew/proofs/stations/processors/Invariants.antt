@@ -8,17 +8,17 @@ abbrev pub invariant-loop-made : goal.invariant-loop-made
 invariant-loop-made g l = record {
   count : vec_len l.list ≡ l.made;
   capacity : l.count ≤ vec_capacity l.list;
-  seats : All (λ seat. IsSeatOf l.hall seat × IsNew (g.T.Logged.basis_of l.opened.value)
+  seats : All (λ seat. IsSeatOf l.site.hall.now seat × IsNew (g.T.Logged.basis_of l.opened.value)
       (g.T.Logged.log_of l.opened.value) (known_of seat)) (seats_in l.seats);
-  passes : All (λ pass. IsPassOf l.jobs pass) (passes_in l.passes);
+  passes : All (λ pass. IsPassOf l.site.jobs.now pass) (passes_in l.passes);
   left : length (seats_in l.seats) + l.made ≡ length (seats_in l.fn.seats);
   room : room_of l.seats ≡ room_of l.fn.seats;
   left_passes : length (passes_in l.passes) + l.made ≡ length (passes_in l.fn.passes);
   enough : (l.count ≤ length (seats_in l.fn.seats)) × (l.count ≤ length (passes_in l.fn.passes));
   reporter : (g.T.SharedDesk.desk_of (g.T.Logged.basis_of l.opened.value)).row_of ≡ g.P.Reporter.row_of l.reporter;
-  each : All (λ p. ((p.seat ≡ Some p.began.value) × IsSeatOf p.hall.now p.began.value × IsSomeAnd p.pass (λ q. IsPassOf p.jobs.now q)
+  each : All (λ p. ((p.seat ≡ Some p.began.value) × IsSeatOf p.site.now.hall.now p.began.value × IsSomeAnd p.pass (λ q. IsPassOf p.site.now.jobs.now q)
       × IfSome (known_of p.began.value).basis (λ basis. (g.T.SharedDesk.desk_of basis).row_of ≡ g.P.Reporter.row_of p.reporter.now))
-      × (p.hall.now ≡ l.hall)
+      × (p.site.now.hall.now ≡ l.site.hall.now)
       × IsNew (g.T.Logged.basis_of l.opened.value)
       (g.T.Logged.log_of l.opened.value) (known_of p.began.value)) l.list.items;
 }

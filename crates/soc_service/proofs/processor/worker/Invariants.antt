@@ -7,8 +7,8 @@ use Rattle.soc_service.proofs.processor.worker.Given as goal
 
 abbrev pub invariant-loop : goal.invariant-loop
 invariant-loop g l = record {
-  seat : IsSeatOf l.hall l.seat;
-  pass : IsPassOf l.jobs l.pass;
+  seat : IsSeatOf l.site.hall.now l.seat;
+  pass : IsPassOf l.site.jobs.now l.pass;
   basis : (known_of l.seat).basis ≡ (known_of l.initial.seat).basis;
   takes : (seen_of l.pass).takes ≡ (seen_of l.initial.pass).takes ++ crash_jobs l.lists.taken.items;
   puts_none : ((seen_of l.pass).number ≡ (seen_of l.initial.pass).number) × ((seen_of l.pass).puts ≡ (seen_of l.initial.pass).puts) × (fulls_of l.pass ≡ fulls_of l.initial.pass);

@@ -11,9 +11,9 @@ use Rattle.soc_session.proofs.connection.session.Given as goal
 abbrev pub invariant-loop-left : goal.invariant-loop-left
 invariant-loop-left g l =
     ((after : Around g.row.K.Denot) (held : List ℕ) (end : SessionEnd)
-    → ServesFrom g.K.Desk.Asks l.rules l.buffer l.left
+    → ServesFrom g.K.Desk.Asks l.setting.rules.now l.buffer l.left
     (around (g.X.Tells.told l.link) l.desk (outlook (g.C.Clock.told l.clock) (g.W.Draws.told l.draws))) after held end
-    → ServesFrom g.K.Desk.Asks l.rules [] l.rules.session_bytes
+    → ServesFrom g.K.Desk.Asks l.setting.rules.now [] l.setting.rules.now.session_bytes
     (around (g.X.Tells.told l.initial.link) l.initial.desk (outlook (g.C.Clock.told l.initial.clock) (g.W.Draws.told l.initial.draws))) after held end)
     × (closing false l.spare ≡ no_memory)
     × NeverFall (g.X.Tells.told l.initial.link) (g.X.Tells.told l.link)

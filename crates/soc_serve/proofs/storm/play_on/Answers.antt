@@ -10,7 +10,7 @@ use Rattle.soc_book.specs.inner.Stands.{Stands}
 use Rattle.soc_turns.proofs.Crossing.{shared_send}
 use Rattle.soc_serve.specs.Storm.{Subsides}
 use Rattle.soc_serve.proofs.Storms.{plays_ok}
-use Rattle.soc_serve.proofs.storm.play_by.Goals as goal
+use Rattle.soc_serve.proofs.storm.play_on.Goals as goal
 
 pub serve_together-book-requires-send-T : goal.serve_together-book-requires-send-T
 serve_together-book-requires-send-T g c κs within =
@@ -21,8 +21,8 @@ pub returns : goal.returns
 returns g c =
     let shared = c.serve_together-book.result.desk in
     let book = shared.book in
-    plays_ok (g.P.Reporter.row_of c.args.reporter.now) (g.P.Reporter.row_of book.reporter.now) (g.P.Reporter.digest_of c.args.reporter.now) (g.P.Reporter.digest_of book.reporter.now)
-    c.args.setup.now.limits book.limits c.args.words.now.count book.ledger book.store book.doubt book.vault.journal (disk_told book.vault.disk.now) c.sum_up-text.result
+    plays_ok (g.P.Reporter.row_of c.args.setting.reporter.now) (g.P.Reporter.row_of book.reporter.now) (g.P.Reporter.digest_of c.args.setting.reporter.now) (g.P.Reporter.digest_of book.reporter.now)
+    c.args.limits book.limits c.args.words.now.count book.ledger book.store book.doubt book.vault.journal (disk_told book.vault.disk.now) c.sum_up-text.result
     (subst (λ b. IfOk c.sum_up-text.result (λ text. (basis : Basis) (state : State) → basis.row_of ≡ g.P.Reporter.row_of b.reporter.now → IsTrue basis.is_told
     → Stands basis b.limits b.ledger b.store b.doubt b.vault.journal (disk_told b.vault.disk.now) state → Subsides basis state c.args.words.now.count text))
     c.into_book-book.ensures c.sum_up-text.ensures.subsides)
