@@ -1,15 +1,19 @@
 -- An answer by its parts.
 use Rattle.std.proofs.Common.{◌≡◌, ℕ, Bool, cond, List, [], ◌∷◌, filter, refl, ap, ◌∙◌}
+use Rattle.std.specs.List.{AllByRecursion}
 use Rattle.soc_schema.specs.declared.value.Cell.{Cell}
 use Rattle.soc_query.specs.declared.answer.Facet.{Facet}
 use Rattle.soc_query.specs.declared.answer.Answer.{Answer}
 use Rattle.soc_search.specs.inner.Selections.{Selects}
 
+-- tests that agree on each keep the same
+pub kept_agree : {X : Type 0} (a b : X → Bool) (xs : List X) → AllByRecursion (λ x. a x ≡ b x) xs → filter a xs ≡ filter b xs
+kept_agree a b [] all = refl
+kept_agree a b (x ∷ xs) all = ap (λ t. cond t (x ∷ filter a xs) (filter a xs)) all.0 ∙ ap (λ l. cond (b x) (x ∷ l) l) (kept_agree a b xs all.1)
+
 -- the selected rows are those that pass the test
 pub selected_rows : (set : ℕ → Bool) (test : List Cell → Bool) (rows : List (ℕ × List Cell)) → Selects set test rows → filter (λ s. set s.0) rows ≡ filter (λ s. test s.1) rows
-selected_rows set test [] all = refl
-selected_rows set test (s ∷ ss) all =
-    ap (λ b. cond b (s ∷ filter (λ r. set r.0) ss) (filter (λ r. set r.0) ss)) all.0 ∙ ap (λ l. cond (test s.1) (s ∷ l) l) (selected_rows set test ss all.1)
+selected_rows set test rows all = kept_agree (λ s. set s.0) (λ s. test s.1) rows all
 
 pub same_answer : (t u : ℕ) (cs ds : List ℕ) (hs gs : List (List Cell)) (fs es : List Facet) → t ≡ u → cs ≡ ds → hs ≡ gs → fs ≡ es → ◌≡◌ {A = Answer} (record { total = t; columns = cs; hits = hs; facets = fs }) (record { total = u; columns = ds; hits = gs; facets = es })
 same_answer t u cs ds hs gs fs es a b c d =

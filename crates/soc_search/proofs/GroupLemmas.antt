@@ -9,7 +9,6 @@ use Rattle.std.specs.declared.cmp.Ordering.{Ordering}
 use Rattle.std.specs.declared.cmp.Ordering.TheVariants.{Less, Equal, Greater}
 use Rattle.soc_base.proofs.Folk.{equal_from}
 use Rattle.soc_schema.specs.Orders.{in_order, put_in_order}
-use Rattle.soc_search.proofs.HitLemmas.{length_dropped}
 use Rattle.soc_search.proofs.SortLemmas.{order_all}
 
 less_from : (r : Ordering) → is_gt r ≡ false → is_eq r ≡ false → r ≡ Less
@@ -176,21 +175,3 @@ module _ {X C : Type 0} (key : X → C) (K : C → C → Ordering) (k : IsTotalO
   groups_all (c ∷ cs) xs rise all =
       least_first c xs (least_all c cs xs rise.0 all)
       ∙ ap (λ l. in_order Rest (filter (keyed c) xs) ++ l) (groups_all cs (filter (λ x. not (keyed c x)) xs) rise.1 (left_have c cs xs all) ∙ groups_left c cs xs rise.0)
-
--- a part of a list that begins with enough
-drop_front : {X : Type 0} (n : ℕ) (xs ys : List X) → n ≤ length xs → drop n (xs ++ ys) ≡ drop n xs ++ ys
-drop_front zero [] ys h = refl
-drop_front zero (x ∷ xs) ys h = refl
-drop_front (suc n) [] ys h = absurd (omega arith)
-drop_front (suc n) (x ∷ xs) ys h = drop_front n xs ys (omega arith)
-
-take_front : {X : Type 0} (n : ℕ) (xs ys : List X) → n ≤ length xs → take n (xs ++ ys) ≡ take n xs
-take_front zero [] [] h = refl
-take_front zero [] (y ∷ ys) h = refl
-take_front zero (x ∷ xs) ys h = refl
-take_front (suc n) [] ys h = absurd (omega arith)
-take_front (suc n) (x ∷ xs) ys h = ap (λ l. x ∷ l) (take_front n xs ys (omega arith))
-
-pub enough_front : {X : Type 0} (number offset : ℕ) (xs ys : List X) → offset ≤ length xs → number ≤ length xs - offset → take number (drop offset (xs ++ ys)) ≡ take number (drop offset xs)
-enough_front number offset xs ys h g =
-    ap (take number) (drop_front offset xs ys h) ∙ take_front number (drop offset xs) ys (let e = length_dropped xs offset in omega (arith, e))

@@ -1,7 +1,7 @@
 -- What a row has of some fields, and the rows at the places of rows.
 use Rattle.std.proofs.Common.{◌≡◌, ℕ, zero, suc, ◌+◌, ◌-◌, ◌<◌, ◌≤◌, min, Bool, true, false, cond, List, [], ◌∷◌, ◌++◌, Option, None, Some, length, map, filter, take, drop, get_or, refl, sym, ap, ◌∙◌, arith, subst, append-nil, append_assoc, ⊎_elim}
 use Rattle.std.proofs.lemmas.Bool.{lt-ltb, cases_lt}
-use Rattle.std.proofs.lemmas.List.{take_all, take_more, map-append}
+use Rattle.std.proofs.lemmas.List.{drop-take, take_all, take_more, map-append}
 use Rattle.std.proofs.lemmas.List.Elements.{filter_map-append}
 use Rattle.std.proofs.lemmas.Cmp.{nat_cmp_total, tied_itself}
 use Rattle.std.specs.List.{AllByRecursion, filter_map, cons_option}
@@ -75,7 +75,7 @@ keeps_kind test row rest left shown f v w at same k =
     let rises : RisesFrom k.low (cell f v ∷ left) = subst (RisesFrom k.low) at k.rises in
     ap kind_of_value same ∙ rises.1.of_kind
 
-pub length_dropped : {X : Type 0} (xs : List X) (n : ℕ) → length (drop n xs) ≡ length xs - n
+length_dropped : {X : Type 0} (xs : List X) (n : ℕ) → length (drop n xs) ≡ length xs - n
 length_dropped [] zero = refl
 length_dropped [] (suc n) = omega arith
 length_dropped (x ∷ xs) zero = omega arith
@@ -113,6 +113,17 @@ cut_out f xs offset number first count at many =
     let left : take (length xs - first) (drop first xs) ≡ drop offset xs = take_all (length xs - first) (drop first xs) (omega (arith, length_dropped xs first)) ∙ drop_min xs offset first at in
     let counted : count ≡ min (length (drop offset xs)) number = many ∙ ap (λ l. min (length l) number) left in
     ap (λ l. map f (take count l)) left ∙ ap (map f) (take_min (drop offset xs) number count counted) ∙ map_take f number (drop offset xs) ∙ ap (take number) (map_drop f offset xs)
+
+-- as many as are wanted and left
+pub wanted_part : {X : Type 0} (number offset total wanted : ℕ) (some sorted : List X) → total ≡ length sorted → wanted ≡ min number (total - offset) → take (offset + wanted) some ≡ take (offset + wanted) sorted
+    → take wanted (drop offset some) ≡ take number (drop offset sorted)
+wanted_part number offset total wanted some sorted all is same =
+    sym (drop-take offset wanted some) ∙ ap (drop offset) same ∙ drop-take offset wanted sorted ∙ take_min (drop offset sorted) number wanted (let left = length_dropped sorted offset in omega (arith, all, is, left))
+
+-- none are left, or none are wanted
+pub none_wanted : {X : Type 0} (number offset total wanted : ℕ) (sorted : List X) → total ≡ length sorted → wanted ≡ min number (total - offset) → wanted ≡ 0 → [] ≡ take number (drop offset sorted)
+none_wanted number offset total wanted sorted all is none =
+    ap (λ n. take n (drop offset sorted)) (sym none) ∙ take_min (drop offset sorted) number wanted (let left = length_dropped sorted offset in omega (arith, all, is, left))
 
 -- one more of those that a list is mapped to
 pub mapped_more : {X Y : Type 0} (f : X → Y) (xs : List X) (done now : List Y) (i : ℕ) (x : X) (y : Y) → i < length xs → get_or xs i x ≡ x → y ≡ f x → done ≡ map f (take i xs) → now ≡ done ++ y ∷ [] → now ≡ map f (take (i + 1) xs)

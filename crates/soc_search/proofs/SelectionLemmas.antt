@@ -95,13 +95,13 @@ each_all set rows i all so_far = subst (Selects set (λ _. true)) (take_all i ro
 abbrev pub inn : ℕ → List ℕ → Bool
 inn p places = list_any (λ q. nat_eq p q) places
 
--- of the rows those have a value whose places are the value's
-not_after : (p : ℕ) (f : ℕ) (v : Value) (ss : List (ℕ × List Cell)) → AllByRecursion (λ s. nat_cmp p s.0 ≡ Less) ss → inn p (places_of f v ss) ≡ false
-not_after p f v [] less = refl
-not_after p f v (s ∷ ss) less =
-    elim (is_value v (value_of s.1 f)) as (λ b. inn p (map (λ t. t.0) (cond b (s ∷ rows_with f v ss) (rows_with f v ss))) ≡ false) [
-      | true ↦ or_no (nat_eq p s.0) (inn p (places_of f v ss)) (apart p s.0 less.0) (not_after p f v ss less.1)
-      | false ↦ not_after p f v ss less.1
+-- of the rows those stand at the places of some that are among these
+not_after : (p : ℕ) (test : ℕ × List Cell → Bool) (ss : List (ℕ × List Cell)) → AllByRecursion (λ s. nat_cmp p s.0 ≡ Less) ss → inn p (map (λ s. s.0) (filter test ss)) ≡ false
+not_after p test [] less = refl
+not_after p test (s ∷ ss) less =
+    elim (test s) as (λ b. inn p (map (λ t. t.0) (cond b (s ∷ filter test ss) (filter test ss))) ≡ false) [
+      | true ↦ or_no (nat_eq p s.0) (inn p (map (λ t. t.0) (filter test ss))) (apart p s.0 less.0) (not_after p test ss less.1)
+      | false ↦ not_after p test ss less.1
     ]
   where
     apart : (a b : ℕ) → nat_cmp a b ≡ Less → nat_eq a b ≡ false
@@ -113,25 +113,29 @@ not_after p f v (s ∷ ss) less =
 before_it : (p q : ℕ) → nat_cmp q p ≡ Less → nat_eq p q ≡ false
 before_it p q e = ne_eqb p q (λ same. let tied : nat_cmp q p ≡ Equal = ap (nat_cmp q) same ∙ tied_itself nat_cmp_total q in let no : Less ≡ Equal = sym e ∙ tied in cc)
 
-skip_row : (r : ℕ × List Cell) (f : ℕ) (v : Value) (rs ss : List (ℕ × List Cell)) → AllByRecursion (λ s. nat_cmp r.0 s.0 ≡ Less) ss → Selects (λ p. inn p (places_of f v rs)) (λ row. is_value v (value_of row f)) ss → Selects (λ p. inn p (places_of f v (r ∷ rs))) (λ row. is_value v (value_of row f)) ss
-skip_row r f v rs [] less all = tt
-skip_row r f v rs (s ∷ ss) less all = (
-  (elim (is_value v (value_of r.1 f)) as (λ b. inn s.0 (map (λ t. t.0) (cond b (r ∷ rows_with f v rs) (rows_with f v rs))) ≡ is_value v (value_of s.1 f)) [
-    | true ↦ ap (λ b. b || inn s.0 (places_of f v rs)) (before_it s.0 r.0 less.0) ∙ all.0
+skip_row : (r : ℕ × List Cell) (test : ℕ × List Cell → Bool) (rs ss : List (ℕ × List Cell)) → AllByRecursion (λ s. nat_cmp r.0 s.0 ≡ Less) ss → AllByRecursion (λ s. inn s.0 (map (λ t. t.0) (filter test rs)) ≡ test s) ss
+    → AllByRecursion (λ s. inn s.0 (map (λ t. t.0) (filter test (r ∷ rs))) ≡ test s) ss
+skip_row r test rs [] less all = tt
+skip_row r test rs (s ∷ ss) less all = (
+  (elim (test r) as (λ b. inn s.0 (map (λ t. t.0) (cond b (r ∷ filter test rs) (filter test rs))) ≡ test s) [
+    | true ↦ ap (λ b. b || inn s.0 (map (λ t. t.0) (filter test rs))) (before_it s.0 r.0 less.0) ∙ all.0
     | false ↦ all.0
   ]),
-  skip_row r f v rs ss less.1 all.1,
+  skip_row r test rs ss less.1 all.1,
+)
+
+pub are_placed : (test : ℕ × List Cell → Bool) (rows : List (ℕ × List Cell)) → PlacesRise rows → AllByRecursion (λ s. inn s.0 (map (λ t. t.0) (filter test rows)) ≡ test s) rows
+are_placed test [] rise = tt
+are_placed test (r ∷ rs) rise = (
+  (elim (test r) as (λ b. inn r.0 (map (λ t. t.0) (cond b (r ∷ filter test rs) (filter test rs))) ≡ b) [
+    | true ↦ ap (λ b. b || inn r.0 (map (λ t. t.0) (filter test rs))) (eq-eqb r.0 r.0 refl)
+    | false ↦ not_after r.0 test rs rise.0
+  ]),
+  skip_row r test rs rs rise.0 (are_placed test rs rise.1),
 )
 
 pub value_places : (f : ℕ) (v : Value) (rows : List (ℕ × List Cell)) → PlacesRise rows → Selects (λ p. inn p (places_of f v rows)) (λ row. is_value v (value_of row f)) rows
-value_places f v [] rise = tt
-value_places f v (r ∷ rs) rise = (
-  (elim (is_value v (value_of r.1 f)) as (λ b. inn r.0 (map (λ t. t.0) (cond b (r ∷ rows_with f v rs) (rows_with f v rs))) ≡ b) [
-    | true ↦ ap (λ b. b || inn r.0 (places_of f v rs)) (eq-eqb r.0 r.0 refl)
-    | false ↦ not_after r.0 f v rs rise.0
-  ]),
-  skip_row r f v rs rs rise.0 (value_places f v rs rise.1),
-)
+value_places f v rows rise = are_placed (λ s. is_value v (value_of s.1 f)) rows rise
 
 -- a set into which the places of the items so far were put
 abbrev pub Joins : {X : Type 0} → (ℕ → Bool) → (X → List ℕ) → List X → Type 0

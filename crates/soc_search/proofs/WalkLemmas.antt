@@ -1,11 +1,11 @@
 -- Rows that are walked to by the values of the first field that they are sorted by.
 use Rattle.std.proofs.Common.{◌≡◌, ℕ, zero, suc, ◌+◌, ◌-◌, ◌<◌, ◌≤◌, Bool, true, false, cond, List, [], ◌∷◌, ◌++◌, Option, None, Some, length, map, filter, take, drop, get_or, refl, sym, ap, ◌∙◌, arith, subst, append-nil, append_assoc, length-append}
-use Rattle.std.specs.Prelude.{OnOk, Result, Ok, Err, ◌&&◌, ◌||◌, is_none, reverse, slice_get, Contains, IfSome, All}
-use Rattle.std.proofs.lemmas.List.{take_more, map-append, take-append-drop, reverse-append, length-reverse, get_or-reverse, length-map}
+use Rattle.std.specs.Prelude.{◌&&◌, ◌||◌, is_none, reverse, slice_get, Contains, IfSome, All}
+use Rattle.std.proofs.lemmas.List.{take_all, take_more, map-append, take-append-drop, reverse-append, length-reverse, get_or-reverse, length-map}
 use Rattle.std.proofs.lemmas.List.Elements.{filter_agree, All-head, All-tail}
 use Rattle.std.proofs.lemmas.List.Folds.{list_any-append}
 use Rattle.std.proofs.lemmas.Option.{slice_get_within, slice_get-get_or, get_or_from_slice_get}
-use Rattle.std.specs.List.{AllByRecursion, filter_map, list_any}
+use Rattle.std.specs.List.{AllByRecursion, list_any}
 use Rattle.std.specs.Ordering.{is_eq, is_gt, ordering_then, ordering_reverse}
 use Rattle.std.specs.declared.cmp.Ordering.{Ordering}
 use Rattle.std.specs.declared.cmp.Ordering.TheVariants.{Less, Equal, Greater}
@@ -18,17 +18,17 @@ use Rattle.soc_schema.specs.Fields.{uuid_field}
 use Rattle.soc_schema.specs.Orders.{value_cmp, in_order, put_in_order}
 use Rattle.soc_schema.specs.Tables.{Rising}
 use Rattle.soc_schema.specs.Values.{is_value, values_of}
-use Rattle.soc_store.specs.Stored.{PlacesRise}
+use Rattle.soc_store.specs.Stored.{PlacesRise, places_of}
 use Rattle.soc_query.specs.declared.part.Sort.{Sort}
 use Rattle.soc_query.specs.Answers.{row_order, value_order}
-use Rattle.soc_search.specs.inner.Selections.{Selects, row_of, selected}
+use Rattle.soc_search.specs.inner.Selections.{Selects, selected}
 use Rattle.soc_search.specs.inner.Places.{has}
-use Rattle.soc_search.specs.inner.Walks.{IsWalked, first_of, others_of, unvalued, valued, walk_of}
-use Rattle.soc_search.proofs.AnswerLemmas.{selected_rows}
+use Rattle.soc_search.specs.inner.Walks.{first_of, is_in_group, is_keyed, key_at, others_of, walk_of}
+use Rattle.soc_search.proofs.AnswerLemmas.{kept_agree, selected_rows}
+use Rattle.soc_search.proofs.SelectionLemmas.{are_placed, inn}
 use Rattle.soc_schema.proofs.OrderLemmas.{value_total}
 use Rattle.soc_search.proofs.OrderLemmas.{option_total}
-use Rattle.soc_search.proofs.HitLemmas.{rows_found}
-use Rattle.soc_search.proofs.GroupLemmas.{Rise, enough_front, groups, groups_all, groups_append, has_one}
+use Rattle.soc_search.proofs.GroupLemmas.{Rise, groups, groups_all, groups_append, has_one}
 use Rattle.soc_search.proofs.SortLemmas.{order_agree, order_length}
 
 -- the first field decides, and then the others
@@ -42,33 +42,68 @@ first_decides [] a b = then_same (value_order false (value_of a uuid_field) (val
 first_decides (s ∷ ss) a b = refl
 
 -- the keys of a walk: each value, and then none
-abbrev pub keys_of : Bool → List Value → List (Option Value)
+abbrev keys_of : Bool → List Value → List (Option Value)
 keys_of falling vs = map Some (walk_of falling vs) ++ None ∷ []
 
--- one value more of a walk
-key_at : (falling : Bool) (vs : List Value) (i : ℕ) (v : Value) → slice_get (walk_of falling vs) i ≡ Some v → take (i + 1) (keys_of falling vs) ≡ take i (keys_of falling vs) ++ Some v ∷ []
-key_at falling vs i v at = front (walk_of falling vs) i v at
-  where
-    front : (ws : List Value) (i : ℕ) (v : Value) → slice_get ws i ≡ Some v → take (i + 1) (map Some ws ++ None ∷ []) ≡ take i (map Some ws ++ None ∷ []) ++ Some v ∷ []
-    front ws i v at =
-        let lt : i < length ws = slice_get_within ws i v at in
-        take_more (map Some ws ++ None ∷ []) i (Some v) (omega (arith, length_keys ws, lt)) ∙ ap (λ o. take i (map Some ws ++ None ∷ []) ++ o ∷ []) (there ws i v at)
-      where
-        length_keys : (us : List Value) → length (map Some us ++ None ∷ []) ≡ suc (length us)
-        length_keys [] = refl
-        length_keys (u ∷ us) = ap suc (length_keys us)
+length_walk : (falling : Bool) (vs : List Value) → length (walk_of falling vs) ≡ length vs
+length_walk true vs = length-reverse vs
+length_walk false vs = refl
 
-        there : (us : List Value) (i : ℕ) (v : Value) → slice_get us i ≡ Some v → get_or (map Some us ++ None ∷ []) i (Some v) ≡ Some v
-        there [] i v e = cc
-        there (u ∷ us) zero v e = e
-        there (u ∷ us) (suc i) v e = there us i v e
-
-all_keys : (falling : Bool) (vs : List Value) → take (length (walk_of falling vs)) (keys_of falling vs) ++ None ∷ [] ≡ keys_of falling vs
-all_keys falling vs = front (walk_of falling vs)
+length_keys : (falling : Bool) (vs : List Value) → length (keys_of falling vs) ≡ suc (length vs)
+length_keys falling vs = of (walk_of falling vs) ∙ ap suc (length_walk falling vs)
   where
-    front : (ws : List Value) → take (length ws) (map Some ws ++ None ∷ []) ++ None ∷ [] ≡ map Some ws ++ None ∷ []
-    front [] = refl
-    front (w ∷ ws) = ap (λ l. Some w ∷ l) (front ws)
+    of : (ws : List Value) → length (map Some ws ++ None ∷ []) ≡ suc (length ws)
+    of [] = refl
+    of (w ∷ ws) = ap suc (of ws)
+
+-- one key more of a walk
+key_more : (falling : Bool) (vs : List Value) (i : ℕ) → i ≤ length vs → take (i + 1) (keys_of falling vs) ≡ take i (keys_of falling vs) ++ key_at falling vs i ∷ []
+key_more falling vs i within =
+    take_more (keys_of falling vs) i None (omega (arith, length_keys falling vs)) ∙ ap (λ o. take i (keys_of falling vs) ++ o ∷ []) (same (map Some (walk_of falling vs)) i)
+  where
+    same : (os : List (Option Value)) (i : ℕ) → get_or (os ++ None ∷ []) i None ≡ get_or os i None
+    same [] zero = refl
+    same [] (suc i) = refl
+    same (o ∷ os) zero = refl
+    same (o ∷ os) (suc i) = same os i
+
+some_key : (falling : Bool) (vs : List Value) (i : ℕ) (v : Value) → slice_get (walk_of falling vs) i ≡ Some v → key_at falling vs i ≡ Some v
+some_key falling vs i v at = there (walk_of falling vs) i v at
+  where
+    there : (us : List Value) (i : ℕ) (v : Value) → slice_get us i ≡ Some v → get_or (map Some us) i None ≡ Some v
+    there [] i v e = cc
+    there (u ∷ us) zero v e = e
+    there (u ∷ us) (suc i) v e = there us i v e
+
+no_key : (falling : Bool) (vs : List Value) (i : ℕ) → length vs ≤ i → key_at falling vs i ≡ None
+no_key falling vs i past = out (walk_of falling vs) i (omega (arith, length_walk falling vs))
+  where
+    out : (us : List Value) (i : ℕ) → length us ≤ i → get_or (map Some us) i None ≡ None
+    out [] zero h = refl
+    out [] (suc i) h = refl
+    out (u ∷ us) zero h = absurd (omega arith)
+    out (u ∷ us) (suc i) h = out us i (omega arith)
+
+-- where the first ones are the same, they are with others behind them
+pub fill_more : {X : Type 0} (goal : ℕ) (a b more : List X) → take goal a ≡ take goal b → take goal (a ++ more) ≡ take goal (b ++ more)
+fill_more zero a b more e = refl
+fill_more (suc n) [] [] more e = refl
+fill_more (suc n) [] (y ∷ ys) more e = cc
+fill_more (suc n) (x ∷ xs) [] more e = cc
+fill_more (suc n) (x ∷ xs) (y ∷ ys) more e =
+    let first : x ≡ y = cc in
+    let rest : take n xs ≡ take n ys = cc in
+    ap (λ z. z ∷ take n (xs ++ more)) first ∙ ap (λ l. y ∷ l) (fill_more n xs ys more rest)
+
+-- and where they are enough, what is behind doesn't matter
+pub fill_enough : {X : Type 0} (goal : ℕ) (a b more : List X) → goal ≤ length a → take goal a ≡ take goal b → take goal a ≡ take goal (b ++ more)
+fill_enough zero a b more h e = refl
+fill_enough (suc n) [] b more h e = absurd (omega arith)
+fill_enough (suc n) (x ∷ xs) [] more h e = cc
+fill_enough (suc n) (x ∷ xs) (y ∷ ys) more h e =
+    let first : x ≡ y = cc in
+    let rest : take n xs ≡ take n ys = cc in
+    ap (λ z. z ∷ take n xs) first ∙ ap (λ l. y ∷ l) (fill_enough n xs ys more (omega arith) rest)
 
 same_keyed : (falling : Bool) (v : Value) (o : Option Value) → is_eq (value_order falling (Some v) o) ≡ is_value v o
 same_keyed falling v None = refl
@@ -173,78 +208,31 @@ module _ (sorts : List Sort) where
   rows_keyed vs [] all = tt
   rows_keyed vs (row ∷ rows) all = (row_keyed vs row all.0, rows_keyed vs rows all.1)
 
-  -- the rows of the first so many values
-  abbrev pub Walked : List Value → List (List Cell) → ℕ → List (List Cell) → Type 0
-  Walked vs rows i done = done ≡ listed (take i (keys_of falls vs)) rows
-
   module _ (vs : List Value) (rows : List (List Cell)) (rise : Rising (λ v. v) value_cmp vs) (keyed_all : AllByRecursion (λ row. IfSome (key row) (Contains vs)) rows) where
     whole : in_order (row_order sorts) rows ≡ listed (keys_of falls vs) rows
     whole =
         order_agree (row_order sorts) (λ a b. ordering_then (value_order falls (key a) (key b)) (row_order (others_of sorts) a b)) (first_decides sorts) rows
         ∙ groups_all key (value_order falls) (option_total falls) (row_order (others_of sorts)) (keys_of falls vs) rows (keys_rise vs rise) (rows_keyed vs rows keyed_all)
 
-    one_more : (i : ℕ) (v : Value) → slice_get (walk_of falls vs) i ≡ Some v → listed (take (i + 1) (keys_of falls vs)) rows ≡ listed (take i (keys_of falls vs)) rows ++ in_order (row_order (others_of sorts)) (filter (λ row. is_value v (key row)) rows)
-    one_more i v at =
-        ap (λ cs. listed cs rows) (key_at falls vs i v at)
-        ∙ groups_append key (value_order falls) (option_total falls) (row_order (others_of sorts)) (take i (keys_of falls vs)) (Some v ∷ []) rows
-        ∙ ap (λ l. listed (take i (keys_of falls vs)) rows ++ l)
-        (append-nil (in_order (row_order (others_of sorts)) (filter (λ row. is_eq (value_order falls (Some v) (key row))) rows))
-        ∙ ap (in_order (row_order (others_of sorts))) (filter_agree (λ row. is_eq (value_order falls (Some v) (key row))) (λ row. is_value v (key row)) (λ row. same_keyed falls v (key row)) rows))
-
-    pub walked_more : (i : ℕ) (v : Value) (done now : List (List Cell)) → slice_get (walk_of falls vs) i ≡ Some v → Walked vs rows i done → now ≡ done ++ in_order (row_order (others_of sorts)) (filter (λ row. is_value v (key row)) rows) → Walked vs rows (i + 1) now
-    walked_more i v done now at so_far put = put ∙ ap (λ l. l ++ in_order (row_order (others_of sorts)) (filter (λ row. is_value v (key row)) rows)) so_far ∙ sym (one_more i v at)
-
-    pub walked_last : (i : ℕ) (done now : List (List Cell)) → i ≡ length vs → Walked vs rows i done → now ≡ done ++ in_order (row_order (others_of sorts)) (filter (λ row. is_none (key row)) rows) → now ≡ in_order (row_order sorts) rows
-    walked_last i done now at so_far put =
-        put ∙ ap (λ l. l ++ in_order (row_order (others_of sorts)) (filter (λ row. is_none (key row)) rows)) (so_far ∙ ap (λ n. listed (take n (keys_of falls vs)) rows) (at ∙ sym (length_walk falls vs)))
-        ∙ ap (λ l. listed (take (length (walk_of falls vs)) (keys_of falls vs)) rows ++ l)
-        (ap (in_order (row_order (others_of sorts))) (sym (filter_agree (λ row. is_eq (value_order falls None (key row))) (λ row. is_none (key row)) (λ row. none_keyed falls (key row)) rows))
-        ∙ sym (append-nil (in_order (row_order (others_of sorts)) (filter (λ row. is_eq (value_order falls None (key row))) rows))))
-        ∙ sym (groups_append key (value_order falls) (option_total falls) (row_order (others_of sorts)) (take (length (walk_of falls vs)) (keys_of falls vs)) (None ∷ []) rows)
-        ∙ ap (λ cs. listed cs rows) (all_keys falls vs) ∙ sym whole
-      where
-        length_walk : (b : Bool) (ws : List Value) → length (walk_of b ws) ≡ length ws
-        length_walk true ws = length-reverse ws
-        length_walk false ws = refl
-
     split : (i : ℕ) → in_order (row_order sorts) rows ≡ listed (take i (keys_of falls vs)) rows ++ listed (drop i (keys_of falls vs)) rows
     split i =
         whole ∙ ap (λ cs. listed cs rows) (sym (take-append-drop i (keys_of falls vs)))
         ∙ groups_append key (value_order falls) (option_total falls) (row_order (others_of sorts)) (take i (keys_of falls vs)) (drop i (keys_of falls vs)) rows
 
-    pub walked_enough : (i : ℕ) (done : List (List Cell)) (number offset : ℕ) → Walked vs rows i done → offset ≤ length done → number ≤ length done - offset → take number (drop offset done) ≡ take number (drop offset (in_order (row_order sorts) rows))
-    walked_enough i done number offset so_far h g =
-        sym (enough_front number offset done (listed (drop i (keys_of falls vs)) rows) h g)
-        ∙ ap (λ l. take number (drop offset (l ++ listed (drop i (keys_of falls vs)) rows))) so_far ∙ ap (λ l. take number (drop offset l)) (sym (split i))
-
-    -- no more are read than there are
-    pub walked_few : (i : ℕ) (done : List (List Cell)) → Walked vs rows i done → length done ≤ length rows
-    walked_few i done so_far =
-        let parts : length rows ≡ length (listed (take i (keys_of falls vs)) rows) + length (listed (drop i (keys_of falls vs)) rows) =
-        sym (order_length (row_order sorts) rows) ∙ ap length (split i) ∙ length-append (listed (take i (keys_of falls vs)) rows) (listed (drop i (keys_of falls vs)) rows) in
-        omega (arith, ap length so_far, parts)
-
-    pub group_few : (i : ℕ) (v : Value) (done : List (List Cell)) → slice_get (walk_of falls vs) i ≡ Some v → Walked vs rows i done → length done + length (filter (λ row. is_value v (key row)) rows) ≤ length rows
-    group_few i v done at so_far =
-        let group : List (List Cell) = in_order (row_order (others_of sorts)) (filter (λ row. is_value v (key row)) rows) in
-        let now : Walked vs rows (i + 1) (done ++ group) = walked_more i v done (done ++ group) at so_far refl in
-        let few : length (done ++ group) ≤ length rows = walked_few (i + 1) (done ++ group) now in
-        omega (arith, few, length-append done group, order_length (row_order (others_of sorts)) (filter (λ row. is_value v (key row)) rows))
-
-    pub last_few : (i : ℕ) (done : List (List Cell)) → i ≡ length vs → Walked vs rows i done → length done + length (filter (λ row. is_none (key row)) rows) ≤ length rows
-    last_few i done at so_far =
-        let group : List (List Cell) = in_order (row_order (others_of sorts)) (filter (λ row. is_none (key row)) rows) in
-        let all : done ++ group ≡ in_order (row_order sorts) rows = walked_last i done (done ++ group) at so_far refl in
-        omega (arith, ap length all, order_length (row_order sorts) rows, length-append done group, order_length (row_order (others_of sorts)) (filter (λ row. is_none (key row)) rows))
+    one_more : (i : ℕ) → i ≤ length vs → listed (take (i + 1) (keys_of falls vs)) rows ≡ listed (take i (keys_of falls vs)) rows ++ in_order (row_order (others_of sorts)) (filter (is_keyed (first_of sorts) (key_at falls vs i)) rows)
+    one_more i within =
+        ap (λ cs. listed cs rows) (key_more falls vs i within)
+        ∙ groups_append key (value_order falls) (option_total falls) (row_order (others_of sorts)) (take i (keys_of falls vs)) (key_at falls vs i ∷ []) rows
+        ∙ ap (λ l. listed (take i (keys_of falls vs)) rows ++ l) (append-nil (in_order (row_order (others_of sorts)) (filter (is_keyed (first_of sorts) (key_at falls vs i)) rows)))
 
 -- the value at an index of a walk
-pub value_walked : (falling : Bool) (vs : List Value) (i k : ℕ) (v : Value) → i < length vs → k ≡ cond falling (length vs - 1 - i) i → slice_get vs k ≡ Some v → slice_get (walk_of falling vs) i ≡ Some v
+value_walked : (falling : Bool) (vs : List Value) (i k : ℕ) (v : Value) → i < length vs → k ≡ cond falling (length vs - 1 - i) i → slice_get vs k ≡ Some v → slice_get (walk_of falling vs) i ≡ Some v
 value_walked false vs i k v within is at = ap (slice_get vs) (sym is) ∙ at
 value_walked true vs i k v within is at =
     slice_get-get_or (reverse vs) i v (omega (arith, within, length-reverse vs)) ∙ ap Some (get_or-reverse vs i v within ∙ ap (λ n. get_or vs n v) (sym is) ∙ get_or_from_slice_get vs k v v at)
 
 -- of the rows at places those that are selected
-both_kept : (set : ℕ → Bool) (test : List Cell → Bool) (rows : List (ℕ × List Cell)) → filter set (map (λ s. s.0) (filter (λ s. test s.1) rows)) ≡ map (λ s. s.0) (filter (λ s. set s.0 && test s.1) rows)
+pub both_kept : (set : ℕ → Bool) (test : List Cell → Bool) (rows : List (ℕ × List Cell)) → filter set (map (λ s. s.0) (filter (λ s. test s.1) rows)) ≡ map (λ s. s.0) (filter (λ s. set s.0 && test s.1) rows)
 both_kept set test [] = refl
 both_kept set test (s ∷ ss) =
     let rest = both_kept set test ss in
@@ -256,7 +244,7 @@ both_kept set test (s ∷ ss) =
       | false ↦ rest ∙ elim (set s.0) as (λ b. map (λ t. t.0) (filter (λ t. set t.0 && test t.1) ss) ≡ map (λ t. t.0) (cond (b && false) (s ∷ filter (λ t. set t.0 && test t.1) ss) (filter (λ t. set t.0 && test t.1) ss))) [ true ↦ refl | false ↦ refl ]
     ]
 
-both_rows : (set : ℕ → Bool) (test : List Cell → Bool) (rows : List (ℕ × List Cell)) → map (λ s. s.1) (filter (λ s. set s.0 && test s.1) rows) ≡ filter test (map (λ s. s.1) (filter (λ s. set s.0) rows))
+pub both_rows : (set : ℕ → Bool) (test : List Cell → Bool) (rows : List (ℕ × List Cell)) → map (λ s. s.1) (filter (λ s. set s.0 && test s.1) rows) ≡ filter test (map (λ s. s.1) (filter (λ s. set s.0) rows))
 both_rows set test [] = refl
 both_rows set test (s ∷ ss) =
     let rest = both_rows set test ss in
@@ -267,17 +255,6 @@ both_rows set test (s ∷ ss) =
       ]
       | false ↦ rest
     ]
-
-pub group_rows : (set : ℕ → Bool) (test : List Cell → Bool) (rows : List (ℕ × List Cell)) (places chosen : List ℕ) → PlacesRise rows → places ≡ map (λ s. s.0) (filter (λ s. test s.1) rows) → chosen ≡ filter set places
-    → filter_map (row_of rows) chosen ≡ filter test (map (λ s. s.1) (filter (λ s. set s.0) rows))
-group_rows set test rows places chosen rise are is =
-    ap (filter_map (row_of rows)) (is ∙ ap (filter set) are ∙ both_kept set test rows) ∙ rows_found rows (λ s. set s.0 && test s.1) rise ∙ both_rows set test rows
-
-pub group_size : (set : ℕ → Bool) (test : List Cell → Bool) (rows : List (ℕ × List Cell)) (places chosen : List ℕ) → places ≡ map (λ s. s.0) (filter (λ s. test s.1) rows) → chosen ≡ filter set places
-    → length chosen ≡ length (filter test (map (λ s. s.1) (filter (λ s. set s.0) rows)))
-group_size set test rows places chosen are is =
-    ap length (is ∙ ap (filter set) are ∙ both_kept set test rows) ∙ length-map (filter (λ s. set s.0 && test s.1) rows) (λ s. s.0)
-    ∙ sym (length-map (filter (λ s. set s.0 && test s.1) rows) (λ s. s.1)) ∙ ap length (both_rows set test rows)
 
 -- each selected row's value is among those of the store
 pub selected_values : (set : ℕ → Bool) (f : ℕ) (vs : List Value) (rows : List (ℕ × List Cell)) → All (λ s. IfSome (value_of s.1 f) (Contains vs)) rows → AllByRecursion (λ row. IfSome (value_of row f) (Contains vs)) (map (λ s. s.1) (filter (λ s. set s.0) rows))
@@ -290,10 +267,6 @@ selected_values set f vs (s ∷ ss) all =
       | false ↦ selected_values set f vs ss more
     ]
 
--- as many steps as there are rows to read
-pub few_read : (now before n m : ℕ) → now ≤ before + n → n ≡ m → now ≤ before + m
-few_read now before n m few is = omega (arith, few, is)
-
 -- where the set has the rows that pass a test, the selected places are theirs
 pub places_by : (set : List (List ℕ)) (test : List Cell → Bool) (rows : List (ℕ × List Cell)) → Selects (has set) test rows → map (λ s. s.0) (filter (λ s. selected (Some set) s.0) rows) ≡ map (λ s. s.0) (filter (λ s. test s.1) rows)
 places_by set test rows selects = ap (map (λ s. s.0)) (selected_rows (has set) test rows selects)
@@ -303,69 +276,82 @@ pub every_row : (rows : List (ℕ × List Cell)) → Selects (selected None) (λ
 every_row [] = tt
 every_row (s ∷ ss) = (refl, every_row ss)
 
--- a walk over a store's values
-module _ (sorts : List Sort) (set : ℕ → Bool) (store : List (ℕ × List Cell)) (field : ℕ) (same : field ≡ (first_of sorts).field) (rising_values : Rising (λ v. v) value_cmp (values_of field store))
-    (each : All (λ s. IfSome (value_of s.1 field) (Contains (values_of field store))) store) where
-  abbrev all_values : List Value
-  all_values = values_of (first_of sorts).field store
+-- the places of a group of a walk
+pub value_group : (s : Sort) (store : List (ℕ × List Cell)) (i k : ℕ) (v : Value) → i < length (values_of s.field store) → k ≡ cond s.falling (length (values_of s.field store) - 1 - i) i → slice_get (values_of s.field store) k ≡ Some v
+    → places_of s.field v store ≡ map (λ t. t.0) (filter (λ t. is_in_group s store i t.1) store)
+value_group s store i k v within is at =
+    let here : key_at s.falling (values_of s.field store) i ≡ Some v = some_key s.falling (values_of s.field store) i v (value_walked s.falling (values_of s.field store) i k v within is at) in
+    ap (map (λ t. t.0)) (filter_agree (λ t. is_value v (value_of t.1 s.field)) (λ t. is_in_group s store i t.1) (λ t. sym (ap (λ key. is_keyed s key t.1) here ∙ same_keyed s.falling v (value_of t.1 s.field))) store)
 
-  abbrev selected_all : List (List Cell)
-  selected_all = map (λ s. s.1) (filter (λ s. set s.0) store)
+pub keyless_group : (s : Sort) (store : List (ℕ × List Cell)) (i : ℕ) → length (values_of s.field store) ≤ i → map (λ t. t.0) (filter (λ t. is_none (value_of t.1 s.field)) store) ≡ map (λ t. t.0) (filter (λ t. is_in_group s store i t.1) store)
+keyless_group s store i past =
+    let here : key_at s.falling (values_of s.field store) i ≡ None = no_key s.falling (values_of s.field store) i past in
+    ap (map (λ t. t.0)) (filter_agree (λ t. is_none (value_of t.1 s.field)) (λ t. is_in_group s store i t.1) (λ t. sym (ap (λ key. is_keyed s key t.1) here ∙ none_keyed s.falling (value_of t.1 s.field))) store)
+
+-- the rows at the places of rows
+pub rows_placed : (group : ℕ → Bool) (test : ℕ × List Cell → Bool) (rows : List (ℕ × List Cell)) (places : List ℕ) → PlacesRise rows → places ≡ map (λ s. s.0) (filter test rows) → ((p : ℕ) → group p ≡ inn p places) → filter (λ s. group s.0) rows ≡ filter test rows
+rows_placed group test rows places rise are puts = kept_agree (λ s. group s.0) test rows (each rows (are_placed test rows rise))
+  where
+    each : (ss : List (ℕ × List Cell)) → AllByRecursion (λ s. inn s.0 (map (λ t. t.0) (filter test rows)) ≡ test s) ss → AllByRecursion (λ s. group s.0 ≡ test s) ss
+    each [] all = tt
+    each (s ∷ ss) all = (puts s.0 ∙ ap (inn s.0) are ∙ all.0, each ss all.1)
+
+-- the selected rows of the first groups of a walk over a store, in order
+abbrev pub groups_to : List Sort → List (ℕ × List Cell) → (ℕ → Bool) → ℕ → List (List Cell)
+groups_to sorts store set i = listed sorts (take i (keys_of (first_of sorts).falling (values_of (first_of sorts).field store))) (map (λ s. s.1) (filter (λ s. set s.0) store))
+
+module _ (sorts : List Sort) (store : List (ℕ × List Cell)) (set : ℕ → Bool) (sort : Sort) (same : sort ≡ first_of sorts) (rising_values : Rising (λ v. v) value_cmp (values_of sort.field store))
+    (each : All (λ s. IfSome (value_of s.1 sort.field) (Contains (values_of sort.field store))) store) where
+  abbrev vs : List Value
+  vs = values_of (first_of sorts).field store
+
+  abbrev chosen : List (List Cell)
+  chosen = map (λ s. s.1) (filter (λ s. set s.0) store)
 
   rise_all : Rising (λ v. v) value_cmp (values_of (first_of sorts).field store)
-  rise_all = subst (λ f. Rising (λ v. v) value_cmp (values_of f store)) same rising_values
+  rise_all = subst (λ (s : Sort). Rising (λ v. v) value_cmp (values_of s.field store)) same rising_values
 
   keyed_rows : AllByRecursion (λ row. IfSome (value_of row (first_of sorts).field) (Contains (values_of (first_of sorts).field store))) (map (λ s. s.1) (filter (λ s. set s.0) store))
   keyed_rows =
-      selected_values set (first_of sorts).field (values_of (first_of sorts).field store) store
-      (subst (λ f. All (λ s. IfSome (value_of s.1 f) (Contains (values_of f store))) store) same each)
+      selected_values set (first_of sorts).field vs store
+      (subst (λ (s : Sort). All (λ t. IfSome (value_of t.1 s.field) (Contains (values_of s.field store))) store) same each)
 
-  many : length (map (λ s. s.1) (filter (λ s. set s.0) store)) ≡ length (filter (λ s. set s.0) store)
-  many = length-map (filter (λ s. set s.0) store) (λ s. s.1)
+  -- one group more
+  more : (i : ℕ) → i ≤ length (values_of sort.field store)
+      → groups_to sorts store set (i + 1) ≡ groups_to sorts store set i ++ in_order (row_order (others_of sorts)) (map (λ s. s.1) (filter (λ s. set s.0 && is_in_group sort store i s.1) store))
+  more i within =
+      one_more sorts vs chosen rise_all keyed_rows i (subst (λ (s : Sort). i ≤ length (values_of s.field store)) same within)
+      ∙ ap (λ l. groups_to sorts store set i ++ in_order (row_order (others_of sorts)) l)
+      (sym (ap (λ (s : Sort). map (λ t. t.1) (filter (λ t. set t.0 && is_in_group s store i t.1) store)) same ∙ both_rows set (is_in_group (first_of sorts) store i) store))
 
-  pub nth_more : (i : ℕ) (v : Value) (done now : List (List Cell)) → slice_get (walk_of (first_of sorts).falling (values_of (first_of sorts).field store)) i ≡ Some v → Walked sorts (values_of (first_of sorts).field store) (map (λ s. s.1) (filter (λ s. set s.0) store)) i done
-      → now ≡ done ++ in_order (row_order (others_of sorts)) (valued v sorts (map (λ s. s.1) (filter (λ s. set s.0) store))) → Walked sorts (values_of (first_of sorts).field store) (map (λ s. s.1) (filter (λ s. set s.0) store)) (i + 1) now
-  nth_more i v done now at so_far put = walked_more sorts all_values selected_all rise_all keyed_rows i v done now at so_far put
+  pub filled_more : (goal i : ℕ) (old now next : List (List Cell)) (others : List Sort) → i ≤ length (values_of sort.field store) → others ≡ others_of sorts → take goal now ≡ take goal (old ++ groups_to sorts store set i)
+      → take goal next ≡ take goal (now ++ in_order (row_order others) (map (λ s. s.1) (filter (λ s. set s.0 && is_in_group sort store i s.1) store))) → take goal next ≡ take goal (old ++ groups_to sorts store set (i + 1))
+  filled_more goal i old now next others within are so_far put =
+      let group : List (List Cell) = map (λ s. s.1) (filter (λ s. set s.0 && is_in_group sort store i s.1) store) in
+      put ∙ ap (λ ss. take goal (now ++ in_order (row_order ss) group)) are ∙ fill_more goal now (old ++ groups_to sorts store set i) (in_order (row_order (others_of sorts)) group) so_far
+      ∙ ap (take goal) (append_assoc old (groups_to sorts store set i) (in_order (row_order (others_of sorts)) group) ∙ ap (λ l. old ++ l) (sym (more i within)))
 
-  pub nth_steps : (v : Value) (done now : List (List Cell)) (start old new n m : ℕ) → old ≤ start + n → new ≤ old + length (valued v sorts (map (λ s. s.1) (filter (λ s. set s.0) store)))
-      → now ≡ done ++ in_order (row_order (others_of sorts)) (valued v sorts (map (λ s. s.1) (filter (λ s. set s.0) store))) → length done ≡ n → length now ≡ m → new ≤ start + m
-  nth_steps v done now start old new n m few more put is now_is =
-      omega (arith, few, more, is, now_is, ap length put, length-append done (in_order (row_order (others_of sorts)) (valued v sorts selected_all)), order_length (row_order (others_of sorts)) (valued v sorts selected_all))
+  pub filled_enough : (goal i : ℕ) (old now : List (List Cell)) → goal ≤ length now → take goal now ≡ take goal (old ++ groups_to sorts store set i) → take goal now ≡ take goal (old ++ in_order (row_order sorts) (map (λ s. s.1) (filter (λ s. set s.0) store)))
+  filled_enough goal i old now enough so_far =
+      let behind : List (List Cell) = listed sorts (drop i (keys_of (first_of sorts).falling vs)) chosen in
+      fill_enough goal now (old ++ groups_to sorts store set i) behind enough so_far
+      ∙ ap (take goal) (append_assoc old (groups_to sorts store set i) behind ∙ ap (λ l. old ++ l) (sym (split sorts vs chosen rise_all keyed_rows i)))
 
-  pub nth_few : (i : ℕ) (v : Value) (done : List (List Cell)) (start old new n : ℕ) → slice_get (walk_of (first_of sorts).falling (values_of (first_of sorts).field store)) i ≡ Some v → Walked sorts (values_of (first_of sorts).field store) (map (λ s. s.1) (filter (λ s. set s.0) store)) i done
-      → old ≤ start + n → length done ≡ n → new ≤ old + length (valued v sorts (map (λ s. s.1) (filter (λ s. set s.0) store))) → new ≤ start + length (filter (λ s. set s.0) store)
-  nth_few i v done start old new n at so_far few is more =
-      let fits : length done + length (valued v sorts selected_all) ≤ length selected_all = group_few sorts all_values selected_all rise_all keyed_rows i v done at so_far in
-      omega (arith, few, is, more, fits, many)
+  pub filled_all : (goal i : ℕ) (old now : List (List Cell)) → length (values_of sort.field store) < i → take goal now ≡ take goal (old ++ groups_to sorts store set i) → take goal now ≡ take goal (old ++ in_order (row_order sorts) (map (λ s. s.1) (filter (λ s. set s.0) store)))
+  filled_all goal i old now past so_far =
+      let all : length (keys_of (first_of sorts).falling vs) ≤ i = omega (arith, length_keys (first_of sorts).falling vs, ap (λ (s : Sort). length (values_of s.field store)) same, past) in
+      so_far
+      ∙ ap (λ cs. take goal (old ++ listed sorts cs chosen)) (take_all i (keys_of (first_of sorts).falling vs) all)
+      ∙ ap (λ l. take goal (old ++ l)) (sym (whole sorts vs chosen rise_all keyed_rows))
 
-  pub all_few : (i : ℕ) (done : List (List Cell)) (start old n : ℕ) → Walked sorts (values_of (first_of sorts).field store) (map (λ s. s.1) (filter (λ s. set s.0) store)) i done → old ≤ start + n → length done ≡ n → old ≤ start + length (filter (λ s. set s.0) store)
-  all_few i done start old n so_far few is =
-      let fits : length done ≤ length selected_all = walked_few sorts all_values selected_all rise_all keyed_rows i done so_far in
-      omega (arith, few, is, fits, many)
+  -- no more are read than there are
+  pub steps_more : (i start old new n : ℕ) → i ≤ length (values_of sort.field store) → old ≤ start + length (groups_to sorts store set i) → new ≤ old + n → n ≡ length (filter (λ s. set s.0 && is_in_group sort store i s.1) store)
+      → new ≤ start + length (groups_to sorts store set (i + 1))
+  steps_more i start old new n within few read is =
+      let group : List (ℕ × List Cell) = filter (λ s. set s.0 && is_in_group sort store i s.1) store in
+      omega (arith, few, read, is, ap length (more i within), length-append (groups_to sorts store set i) (in_order (row_order (others_of sorts)) (map (λ s. s.1) group)), order_length (row_order (others_of sorts)) (map (λ s. s.1) group), length-map group (λ s. s.1))
 
-  pub enough_is : (i : ℕ) (done : List (List Cell)) (number offset n : ℕ) → Walked sorts (values_of (first_of sorts).field store) (map (λ s. s.1) (filter (λ s. set s.0) store)) i done → length done ≡ n → offset ≤ n → number ≤ n - offset
-      → take number (drop offset done) ≡ take number (drop offset (in_order (row_order sorts) (map (λ s. s.1) (filter (λ s. set s.0) store))))
-  enough_is i done number offset n so_far is h g = walked_enough sorts all_values selected_all rise_all keyed_rows i done number offset so_far (omega (arith, is, h)) (omega (arith, is, g))
-
-  pub left_is : (i n : ℕ) (done : List (List Cell)) → n ≡ length (values_of field store) → i ≤ n → n ≤ i → Walked sorts (values_of (first_of sorts).field store) (map (λ s. s.1) (filter (λ s. set s.0) store)) i done → IsWalked sorts (map (λ s. s.1) (filter (λ s. set s.0) store)) done
-  left_is i n done count low high so_far =
-      let at : i ≡ length all_values = omega (arith, count, low, high, ap (λ f. length (values_of f store)) same) in
-      sym (walked_last sorts all_values selected_all rise_all keyed_rows i done (done ++ in_order (row_order (others_of sorts)) (unvalued sorts selected_all)) at so_far refl)
-
-  pub left_few : (i n : ℕ) (done : List (List Cell)) (start old m : ℕ) → n ≡ length (values_of field store) → i ≤ n → n ≤ i → Walked sorts (values_of (first_of sorts).field store) (map (λ s. s.1) (filter (λ s. set s.0) store)) i done → old ≤ start + m → length done ≡ m
-      → old + length (unvalued sorts (map (λ s. s.1) (filter (λ s. set s.0) store))) ≤ start + length (filter (λ s. set s.0) store)
-  left_few i n done start old m count low high so_far few is =
-      let at : i ≡ length all_values = omega (arith, count, low, high, ap (λ f. length (values_of f store)) same) in
-      let fits : length done + length (unvalued sorts selected_all) ≤ length selected_all = last_few sorts all_values selected_all rise_all keyed_rows i done at so_far in
-      omega (arith, few, is, fits, many)
-
--- the places of the rows without the first field
-pub unvalued_places : (sorts : List Sort) (store : List (ℕ × List Cell)) (first : Sort) (places : List ℕ) → first ≡ first_of sorts → places ≡ map (λ s. s.0) (filter (λ s. is_none (value_of s.1 first.field)) store)
-    → places ≡ map (λ s. s.0) (filter (λ s. is_none (value_of s.1 (first_of sorts).field)) store)
-unvalued_places sorts store first places is are = are ∙ ap (λ (s : Sort). map (λ t. t.0) (filter (λ t. is_none (value_of t.1 s.field)) store)) is
-
--- and with them all are in order
-pub last_put : {E : Type 0} (sorts : List Sort) (rows : List (List Cell)) (others : List Sort) (done now : List (List Cell)) (r : Result (Unit {0}) E) → others ≡ others_of sorts → IsWalked sorts rows done
-    → OnOk r (now ≡ done ++ in_order (row_order others) (unvalued sorts rows)) → OnOk r (now ≡ in_order (row_order sorts) rows)
-last_put sorts rows others done now (Ok u) are walked put = put ∙ ap (λ ss. done ++ in_order (row_order ss) (unvalued sorts rows)) are ∙ sym walked
-last_put sorts rows others done now (Err e) are walked put = tt
+  pub steps_all : (i start n : ℕ) → n ≤ start + length (groups_to sorts store set i) → n ≤ start + length (filter (λ s. set s.0) store)
+  steps_all i start n few =
+      let behind : List (List Cell) = listed sorts (drop i (keys_of (first_of sorts).falling vs)) chosen in
+      omega (arith, few, ap length (split sorts vs chosen rise_all keyed_rows i), length-append (groups_to sorts store set i) behind, order_length (row_order sorts) chosen, length-map (filter (λ s. set s.0) store) (λ s. s.1))

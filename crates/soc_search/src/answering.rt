@@ -12,7 +12,7 @@ use soc_store::Store;
 use std::alloc::Global;
 use std::sync::ledger::Ledger;
 
-/// The answer to a query over the rows of a store that its caller may see.
+/// The answer to a query over the rows of a store that its caller may see. It reads no row where it shows none.
 pub fn answer_of<L: Ledger>(
     alloc: Global,
     store: &Store,
@@ -21,6 +21,7 @@ pub fn answer_of<L: Ledger>(
 ) -> Result<Answer, NoMemory>
     ensures value { IfOk result (λ answer. answer ≡ answer_of query.now store.now) }
     ensures none { query.now.number ≡ 0 → steps.new ≡ steps.old }
+    ensures past { (answer_of query.now store.now).total ≤ query.now.offset → steps.new ≡ steps.old }
     ensures few { steps.new ≤ steps.old + (answer_of query.now store.now).total }
 {
     let set = matching(alloc, store, query)?;

@@ -1,14 +1,15 @@
 //! Hits: the selected rows in order, from an offset on.
-ghost use Rattle.std.specs.Prelude.{◌≡◌, ◌+◌, ◌≤◌, ◌==◌, ℕ, List, [], IfOk, OnOk, length, map, take, drop};
+ghost use Rattle.std.specs.Prelude.{◌≡◌, ◌+◌, ◌≤◌, ◌==◌, ℕ, Bool, List, [], IfOk, OnOk, length, map, take, drop};
 ghost use Rattle.std.specs.List.{filter, filter_map, list_any};
 ghost use Rattle.std.specs.Option.{option_copied};
+ghost use Rattle.soc_schema.specs.declared.value.Cell.{Cell};
 ghost use Rattle.soc_query.specs.Answers.{columns_of, hits_of, row_order, value_order};
 ghost use Rattle.soc_schema.specs.Orders.{in_order};
 ghost use Rattle.soc_search.specs.inner.Selections.{AreAmong, row_of, selected};
 
 use crate::places::PlaceSet;
 use crate::selection::selected_places;
-use crate::walk::walked_rows;
+use crate::walk::{FEW, walked_rows};
 use soc_base::NoMemory;
 use soc_edge::Steps;
 use soc_query::{Hits, Query, Sort};
@@ -18,11 +19,8 @@ use std::alloc::Global;
 use std::cmp::Ordering;
 use std::sync::ledger::Ledger;
 
-/// As many selected rows as are read and sorted at once. Further ones are walked to.
-const FEW: usize = 1_000;
-
-/// The hits that a query asks for among the selected rows, which are among these places. Each row that may be a hit is
-/// read once at most, and none where no hit is asked.
+/// The hits that a query asks for among so many selected rows, which are among these places. Each row that may be a hit
+/// is read once at most, and none where there is no hit.
 pub(crate) fn hits<L: Ledger>(
     alloc: Global,
     store: &Store,
@@ -32,63 +30,52 @@ pub(crate) fn hits<L: Ledger>(
     total: usize,
     steps: &mut Steps<L>,
 ) -> Result<Hits, NoMemory>
-    requires { AreAmong (selected set.now) store.now (option_copied among) }
+    requires among { AreAmong (selected set.now) store.now (option_copied among) }
+    requires total { total ≡ length (filter (λ s. selected set.now s.0) store.now) }
     ensures value { IfOk result (λ hits. hits ≡ hits_of query.now (filter (λ s. selected set.now s.0) store.now)) }
     ensures none { query.now.number ≡ 0 → steps.new ≡ steps.old }
+    ensures past { total ≤ query.now.offset → steps.new ≡ steps.old }
     ensures few { steps.new ≤ steps.old + length (filter (λ s. selected set.now s.0) store.now) }
 {
-    if query.number() == 0 {
+    let left = (total as u64).saturating_sub(query.offset());
+    let wanted = query.number().min(left);
+    if wanted == 0 {
         return Ok(Hits::new(alloc));
     }
-    let rows = ordered_rows(alloc, store, query, among, set, total, steps)?;
-    copied(alloc, query, rows.as_slice())
-}
-
-/// The selected rows in order, as far as the hits reach.
-fn ordered_rows<'a, L: Ledger>(
-    alloc: Global,
-    store: &'a Store,
-    query: &Query,
-    among: Option<&[u32]>,
-    set: &Option<PlaceSet>,
-    total: usize,
-    steps: &mut Steps<L>,
-) -> Result<Vec<&'a Row>, NoMemory>
-    requires { AreAmong (selected set.now) store.now (option_copied among) }
-    ensures rows { IfOk result (λ rows. take query.now.number (drop query.now.offset (map (λ row. row.now) rows.items)) ≡ take query.now.number (drop query.now.offset (in_order (row_order query.now.sorts) (map (λ s. s.1) (filter (λ s. selected set.now s.0) store.now))))) }
-    ensures few { steps.new ≤ steps.old + length (filter (λ s. selected set.now s.0) store.now) }
-{
     if total > FEW {
-        return walked_rows(alloc, store, query, set, steps);
+        let goal = (query.offset() + wanted) as usize;
+        let rows = walked_rows(alloc, store, query.sorts(), goal, set, steps)?;
+        return copied(alloc, query, rows.as_slice(), wanted);
     }
-    sorted_rows(alloc, store, query.sorts(), among, set, steps)
+    let places = selected_places(alloc, store, among, set)?;
+    let rows = sorted_rows(alloc, store, query.sorts(), places.as_slice(), steps)?;
+    copied(alloc, query, rows.as_slice(), wanted)
 }
 
-/// The selected rows in order.
-fn sorted_rows<'a, L: Ledger>(
+/// The rows at the places, which are those of rows of the store, in order.
+pub(crate) fn sorted_rows<'a, L: Ledger>(
     alloc: Global,
     store: &'a Store,
     sorts: &[Sort],
-    among: Option<&[u32]>,
-    set: &Option<PlaceSet>,
+    places: &[u32],
     steps: &mut Steps<L>,
 ) -> Result<Vec<&'a Row>, NoMemory>
-    requires { AreAmong (selected set.now) store.now (option_copied among) }
-    ensures rows { IfOk result (λ rows. map (λ row. row.now) rows.items ≡ in_order (row_order sorts.now) (map (λ s. s.1) (filter (λ s. selected set.now s.0) store.now))) }
-    ensures few { steps.new ≤ steps.old + length (filter (λ s. selected set.now s.0) store.now) }
+    ensures rows { (test : ℕ × List Cell → Bool) → places.now ≡ map (λ s. s.0) (filter test store.now)
+        → IfOk result (λ rows. map (λ row. row.now) rows.items ≡ in_order (row_order sorts.now) (map (λ s. s.1) (filter test store.now))) }
+    ensures few { steps.new ≤ steps.old + length places.now }
 {
-    let places = selected_places(alloc, store, among, set)?;
-    let mut rows = read_rows(alloc, store, places.as_slice(), steps)?;
+    store.places_rise();
+    let mut rows = read_rows(alloc, store, places, steps)?;
     sort_rows(&mut rows, sorts)?;
     Ok(rows)
 }
 
-/// As many rows as the query asks for from its offset on, with its columns.
-fn copied(alloc: Global, query: &Query, rows: &[&Row]) -> Result<Hits, NoMemory>
-    ensures { IfOk result (λ hits. hits ≡ map (columns_of query.now.columns) (take query.now.number (drop query.now.offset (map (λ row. row.now) rows.now)))) }
+/// As many rows as are wanted from the query's offset on, with its columns.
+fn copied(alloc: Global, query: &Query, rows: &[&Row], wanted: u64) -> Result<Hits, NoMemory>
+    ensures { IfOk result (λ hits. hits ≡ map (columns_of query.now.columns) (take wanted (drop query.now.offset (map (λ row. row.now) rows.now)))) }
 {
     let mut hits = Hits::new(alloc);
-    for row in part_of(rows, query.offset(), query.number()) {
+    for row in part_of(rows, query.offset(), wanted) {
         hits.push(columns_of(alloc, query.columns(), row)?)?;
     }
     Ok(hits)
@@ -130,7 +117,7 @@ fn is_among(fields: &[Field], field: Field) -> bool
 }
 
 /// The rows at these places, each of which is read once.
-pub(crate) fn read_rows<'a, L: Ledger>(
+fn read_rows<'a, L: Ledger>(
     alloc: Global,
     store: &'a Store,
     places: &[u32],
@@ -149,7 +136,7 @@ pub(crate) fn read_rows<'a, L: Ledger>(
 }
 
 /// Puts rows in order; what ties stays as it stands.
-pub(crate) fn sort_rows(rows: &mut Vec<&Row>, sorts: &[Sort]) -> Result<(), NoMemory>
+fn sort_rows(rows: &mut Vec<&Row>, sorts: &[Sort]) -> Result<(), NoMemory>
     ensures { OnOk result (map (λ row. row.now) rows.new.items ≡ in_order (row_order sorts.now) (map (λ row. row.now) rows.old.items)) }
 {
     rows.sort_by(|a, b| compare_rows(sorts, a, b))?;

@@ -1,5 +1,5 @@
 //! Sets of places.
-ghost use Rattle.std.specs.Prelude.{◌≡◌, ◌<◌, ◌≤◌, ◌/◌, ◌%◌, ◌^◌, ◌&&◌, ◌||◌, not, Bool, false, ℕ, List, [], OnOk, OnErr, length, slice_index, slice_index_or, count_by, ◌==◌};
+ghost use Rattle.std.specs.Prelude.{◌≡◌, ◌<◌, ◌≤◌, ◌/◌, ◌%◌, ◌^◌, ◌&&◌, ◌||◌, not, Bool, false, ℕ, List, [], IfOk, OnOk, OnErr, length, slice_index, slice_index_or, count_by, ◌==◌};
 ghost use Rattle.std.specs.List.{list_any};
 ghost use Rattle.soc_search.specs.inner.Places.{bit, has, met, word_has};
 
@@ -52,6 +52,15 @@ impl PlaceSet {
         PlaceSet {
             pages: Vec::new(alloc),
         }
+    }
+
+    /// These places.
+    pub(crate) fn of(alloc: Global, places: &[u32]) -> Result<PlaceSet, NoMemory>
+        ensures { IfOk result (λ set. (p : ℕ) → has set p ≡ list_any (λ q. p == q) places.now) }
+    {
+        let mut set = PlaceSet::new(alloc);
+        set.add_all(places)?;
+        Ok(set)
     }
 
     /// Puts a place into the set.

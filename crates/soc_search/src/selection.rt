@@ -283,10 +283,8 @@ fn value_places(
 ) -> Result<PlaceSet, NoMemory>
     ensures { IfOk result (λ set. Selects (has set) (λ row. option_map_or (λ v. is_eq (value_cmp value.now v)) (value_of row field) false) store.now) }
 {
-    let mut set = PlaceSet::new(alloc);
     store.places_rise();
-    set.add_all(store.places(field, value))?;
-    Ok(set)
+    PlaceSet::of(alloc, store.places(field, value))
 }
 
 /// The places of the rows whose value is in a run. No other value is asked.

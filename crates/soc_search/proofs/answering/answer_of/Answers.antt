@@ -45,5 +45,33 @@ returns-clause-few g c =
 pub selected_count-total-requires : goal.selected_count-total-requires
 selected_count-total-requires g c = among_is c.args.query.now (selected c.in_ok-set.set) c.args.store.now c.candidates-among.result c.candidates-among.ensures c.in_ok-set.ensures
 
-pub hits-requires : goal.hits-requires
-hits-requires g c = among_is c.args.query.now (selected c.in_ok-set.set) c.args.store.now c.candidates-among.result c.candidates-among.ensures c.in_ok-set.ensures
+pub hits-requires-clause-among : goal.hits-requires-clause-among
+hits-requires-clause-among g c = among_is c.args.query.now (selected c.in_ok-set.set) c.args.store.now c.candidates-among.result c.candidates-among.ensures c.in_ok-set.ensures
+
+pub returns-in_err-hits-clause-past : goal.returns-in_err-hits-clause-past
+returns-in_err-hits-clause-past g c =
+    λ few.
+    let q = c.args.query.now in
+    let rows = selected_rows (selected c.in_ok-set.set) (λ row. sees q.caller row && meets q.conditions row) c.args.store.now c.in_ok-set.ensures in
+    c.hits.ensures.past (omega (arith, few, c.selected_count-total.ensures, ap length rows))
+
+pub returns-in_err-facets-clause-past : goal.returns-in_err-facets-clause-past
+returns-in_err-facets-clause-past g c =
+    λ few.
+    let q = c.args.query.now in
+    let rows = selected_rows (selected c.in_ok-set.set) (λ row. sees q.caller row && meets q.conditions row) c.args.store.now c.in_ok-set.ensures in
+    c.hits.ensures.past (omega (arith, few, c.selected_count-total.ensures, ap length rows))
+
+pub returns-in_err-from_slice-clause-past : goal.returns-in_err-from_slice-clause-past
+returns-in_err-from_slice-clause-past g c =
+    λ few.
+    let q = c.args.query.now in
+    let rows = selected_rows (selected c.in_ok-set.set) (λ row. sees q.caller row && meets q.conditions row) c.args.store.now c.in_ok-set.ensures in
+    c.hits.ensures.past (omega (arith, few, c.selected_count-total.ensures, ap length rows))
+
+pub returns-clause-past : goal.returns-clause-past
+returns-clause-past g c =
+    λ few.
+    let q = c.args.query.now in
+    let rows = selected_rows (selected c.in_ok-set.set) (λ row. sees q.caller row && meets q.conditions row) c.args.store.now c.in_ok-set.ensures in
+    c.hits.ensures.past (omega (arith, few, c.selected_count-total.ensures, ap length rows))

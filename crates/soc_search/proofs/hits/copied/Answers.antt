@@ -13,4 +13,4 @@ returns c =
     let shown = columns_of c.args.query.now.columns in
     c.loop-row.invariant ∙ ap (map (λ row. shown row.now)) (take_all c.loop-row.row-index c.part_of-row-items.result.now c.loop-row-test.false)
     ∙ map_twice shown (λ row. row.now) c.part_of-row-items.result.now
-    ∙ ap (map shown) (c.part_of-row-items.ensures ∙ ap (λ n. take n (drop c.offset.result (map (λ row. row.now) c.args.rows.now))) c.number.ensures ∙ ap (λ n. take c.args.query.now.number (drop n (map (λ row. row.now) c.args.rows.now))) c.offset.ensures)
+    ∙ ap (map shown) (c.part_of-row-items.ensures ∙ ap (λ n. take c.args.wanted (drop n (map (λ row. row.now) c.args.rows.now))) c.offset.ensures)
