@@ -1,5 +1,5 @@
 // Finds the delimiters of a multipart body by the C library's memmem, a hundred times: what a program without a
-// parser of its own would do. The body is the one that `soc_bench multipart` makes. With `copy` it also copies what stands
+// parser of its own would do. The body is the one that `soc_bench bodies` makes. With `copy` it also copies what stands
 // between them into memory of its own, as a reader must that is fed in pieces.
 #define _GNU_SOURCE
 #include <stdint.h>

@@ -18,9 +18,9 @@ impl Work for Reads<'_> {
 
 /// A dump whose tables are made, in which walks look up modules and words.
 #[derive(Drop)]
-struct Tables<'a>(&'a Dump<'a>);
+struct Tables<'a, 'f>(&'a Dump<'f>);
 
-impl Work for Tables<'_> {
+impl Work for Tables<'_, '_> {
     fn once(&mut self, alloc: Global) -> Result<u64, Fault> {
         let _modules = self.0.module_table(alloc)?;
         let _words = self.0.words(alloc, 8)?;

@@ -26,12 +26,12 @@ impl Work for Reads<'_> {
 
 /// Offsets that are looked up. It counts those that have a function.
 #[derive(Drop)]
-struct LookUps<'a> {
-    file: &'a SymFile<'a>,
+struct LookUps<'a, 'f> {
+    file: &'a SymFile<'f>,
     offsets: &'a [u64],
 }
 
-impl Work for LookUps<'_> {
+impl Work for LookUps<'_, '_> {
     fn once(&mut self, _alloc: Global) -> Result<u64, Fault> {
         let mut found: u64 = 0;
         for offset in self.offsets {

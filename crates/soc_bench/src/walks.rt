@@ -13,13 +13,13 @@ use std::time::CpuClock;
 
 /// A walk, which finds the modules' ids and symbols anew each time. It counts the frames.
 #[derive(Drop)]
-struct Walks<'a, Y: Symbols> {
-    dump: &'a Dump<'a>,
+struct Walks<'a, 'f, Y: Symbols> {
+    dump: &'a Dump<'f>,
     start: &'a Start,
     symbols: &'a Y,
 }
 
-impl<Y: Symbols> Work for Walks<'_, Y> {
+impl<Y: Symbols> Work for Walks<'_, '_, Y> {
     fn once(&mut self, alloc: Global) -> Result<u64, Fault> {
         let process = Process::new(alloc, self.dump, self.start.architecture, self.symbols)?;
         Ok(process.walk(alloc, &self.start.values)?.len() as u64)

@@ -1,4 +1,4 @@
 use Rattle.soc_bench.proofs.search.AnswersWork.once.Given as goal
 
 abbrev pub ghosts-answered : goal.ghosts-answered
-ghosts-answered g a = record { name = a.blank.name; parts = a.blank.parts }
+ghosts-answered a = record { name = a.blank.name; parts = a.blank.parts }
