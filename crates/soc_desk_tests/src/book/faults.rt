@@ -3,6 +3,7 @@ ghost use Rattle.std.specs.Prelude.{◌≤◌};
 
 use super::acts::{Answer, told};
 use super::{FIREFOX, LIMITS, crash, disk, opened};
+use soc_book::{Book, Restored};
 use soc_edge::MemDisk;
 use soc_schema::Bare;
 use std::alloc::Global;
@@ -25,9 +26,10 @@ struct Thrice {
 
 /// The same over a disk, and none where the journal isn't opened.
 fn sent_thrice(alloc: Global, disk: &mut MemDisk) -> Result<Option<Thrice>, Fail> {
-    let Ok(mut book) = opened(alloc, disk, &Bare, LIMITS) else {
+    let Ok(restored) = Restored::read(alloc, disk, &Bare, LIMITS) else {
         return Ok(None);
     };
+    let mut book = Book::over(alloc, disk, &Bare, LIMITS, restored);
     let first = told(&book.submit(crash(alloc, FIREFOX)?));
     let second = told(&book.submit(crash(alloc, FIREFOX)?));
     let last = told(&book.submit(crash(alloc, FIREFOX)?));
