@@ -10,7 +10,7 @@ use Rattle.soc_desk.specs.Basis.{Basis}
 use Rattle.soc_desk.specs.State.{State}
 use Rattle.soc_book.proofs.Standing.{images_allowed}
 use Rattle.soc_book.specs.inner.Stands.{Stands}
-use Rattle.soc_book.specs.Openings.{IsBasisOf, OpensBook}
+use Rattle.soc_book.specs.Openings.{OpensBook}
 use Rattle.soc_turns.proofs.Crossing.{shared_send}
 use Rattle.soc_edge.specs.World.{surroundings}
 use Rattle.soc_replay.proofs.ServingLemmas.{moved}
@@ -29,18 +29,8 @@ pub returns-in-Err-clause-listener_cause : goal.returns-in-Err-clause-listener_c
 returns-in-Err-clause-listener_cause g c is =
     absurd ((not_served _ _ c.in-Err.end (c.in-Err.ensures.refused (record { moments = λ _. None; throttles = λ _. None; ids = λ _. None }))).0 is)
 
-pub over-book-requires-opens : goal.over-book-requires-opens
-over-book-requires-opens g c =
-    let setup = c.args.purpose.now.setup.now in
-    let reporter = c.args.purpose.now.reporter.now in
-    let restored = c.in-Ok-open.restored in
-    let after = g.D.Disk.state c.open.new.disk in
-    subst (λ disk. (basis : Basis) → IsBasisOf (g.Q.Reporter.row_of reporter) (g.Q.Reporter.digest_of reporter) setup.limits (g.D.Disk.state disk).content basis
-    → OpensBook basis (g.D.Disk.state disk) after (Stands basis setup.limits restored.ledger restored.store None restored.journal after)) (sym c.of-opened.ensures) c.in-Ok-open.ensures.opens
-
-pub over-book-requires-goes_on : goal.over-book-requires-goes_on
-over-book-requires-goes_on g c =
-    subst (λ disk. GoesOn (g.D.Disk.state disk) (g.D.Disk.state c.open.new.disk)) (sym c.of-opened.ensures) c.in-Ok-open.ensures.goes_on
+pub over-book-requires-clause-opens : goal.over-book-requires-clause-opens
+over-book-requires-clause-opens g c = rw c.of-opened.ensures c.in-Ok-open.ensures.opens
 
 pub serve_together-book-requires-send-T : goal.serve_together-book-requires-send-T
 serve_together-book-requires-send-T g c κs within =

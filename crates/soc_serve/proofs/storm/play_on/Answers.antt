@@ -12,6 +12,9 @@ use Rattle.soc_serve.specs.Storm.{Subsides}
 use Rattle.soc_serve.proofs.Storms.{plays_ok}
 use Rattle.soc_serve.proofs.storm.play_on.Goals as goal
 
+pub over-book-requires-clause-opens : goal.over-book-requires-clause-opens
+over-book-requires-clause-opens g c = rw c.of-opened.ensures c.in-Ok.ensures.opens
+
 pub serve_together-book-requires-send-T : goal.serve_together-book-requires-send-T
 serve_together-book-requires-send-T g c κs within =
     let reporter = c.type_bounds.sync-P in
