@@ -1,4 +1,6 @@
 //! Entries that are appended together.
+ghost use Rattle.std.specs.Prelude.{◌<◌, IfOk, length};
+
 use super::{LIMIT, disk_that_fails, entries_on};
 use crate::expect::same;
 use soc_edge::{Failed, MemDisk};
@@ -7,7 +9,9 @@ use std::alloc::Global;
 use std::test::Fail;
 
 // Three entries, of 8, 6 and 9 bytes.
-fn three(alloc: Global) -> Result<Vec<EntryText>, Fail> {
+fn three(alloc: Global) -> Result<Vec<EntryText>, Fail>
+    ensures { IfOk result (λ entries. 0 < length entries.items) }
+{
     let mut entries = Vec::new(alloc);
     entries.push(EntryText::new(alloc, ASK, b"id")?)?;
     entries.push(EntryText::new(alloc, REPORT, b"")?)?;
@@ -28,9 +32,12 @@ fn entries_together_are_written_as_one_by_one(rt: HostRuntime) -> Result<(), Fai
     );
     let mut other = disk_that_fails(alloc, &[])?;
     let mut one_by_one = Journal::create(&mut other, LIMIT)?;
-    for entry in &entries {
-        one_by_one.append(&mut other, entry)?;
-    }
+    let [first, second, third] = entries.as_slice() else {
+        return Err(Fail::new("not three"));
+    };
+    one_by_one.append(&mut other, first)?;
+    one_by_one.append(&mut other, second)?;
+    one_by_one.append(&mut other, third)?;
     same(&rt, disk.bytes(), other.bytes());
     same(&rt, entries_on(&mut disk)?, 3);
     Ok(())
