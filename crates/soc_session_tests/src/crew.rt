@@ -1,5 +1,5 @@
 //! A crew over a listener and a disk in memory.
-ghost use Rattle.std.specs.Prelude.{◌<◌, ◌≤◌};
+ghost use Rattle.std.specs.Prelude.{◌≡◌, ◌<◌, ◌≤◌};
 
 use crate::expect::{holds, same};
 use soc_base::{Bytes, NoMemory};
@@ -59,13 +59,11 @@ fn listener(alloc: Global, scripts: &[&[u8]], fails: &[u64]) -> Result<MemListen
     MemListener::new(alloc, BytesList::new(list), 4096, fails)
 }
 
-// What a crew has around it, but for its listener and its book.
+// What the messages of a crew are answered by.
 #[derive(Drop)]
 struct Around {
     rules: Rules,
     routes: Routes,
-    clock: MemClock,
-    draws: MemDraws,
 }
 
 fn clock(alloc: Global) -> Result<MemClock, Fail> {
@@ -79,21 +77,28 @@ fn draws(alloc: Global) -> Result<MemDraws, Fail> {
     ))
 }
 
-fn surroundings(alloc: Global) -> Result<Around, Fail> {
-    Ok(Around {
-        rules: rules(alloc)?,
-        routes: Routes::new(alloc)?,
-        clock: clock(alloc)?,
-        draws: draws(alloc)?,
-    })
-}
-
 // What a crew has served, and whether its listener failed.
 #[derive(Drop)]
 struct Served {
     served: Tally<MemConn>,
     listener: MemListener,
     failed: bool,
+}
+
+// What such a crew goes by.
+fn setting_of<'s>(alloc: Global, crew: Crew, around: &'s Around) -> CrewSetting<'s, Bare, OpenGate>
+    ensures { result.crew ≡ crew }
+{
+    CrewSetting {
+        crew,
+        session: Setting {
+            alloc,
+            rules: &around.rules,
+            routes: &around.routes,
+        },
+        reporter: &Bare,
+        gate: &OpenGate,
+    }
 }
 
 fn served_by<R: Threads + Wait + Sync>(
@@ -105,51 +110,25 @@ fn served_by<R: Threads + Wait + Sync>(
     requires collectors { (0 < crew.collectors) × (crew.collectors ≤ 8) }
     requires processors { (0 < crew.processors) × (crew.processors ≤ 8) }
 {
+    let around = Around {
+        rules: rules(alloc)?,
+        routes: Routes::new(alloc)?,
+    };
+    let mut clock = clock(alloc)?;
+    let mut draws = draws(alloc)?;
     let mut disk = MemDisk::new(alloc, 4000, 1000, Numbers::new(Vec::new(alloc)))?;
-    let reporter = Bare;
-    served_over(rt, alloc, crew, listener, &mut disk, &reporter)
-}
-
-fn served_over<'a, R: Threads + Wait + Sync>(
-    rt: &R,
-    alloc: Global,
-    crew: Crew,
-    listener: MemListener,
-    disk: &'a mut MemDisk,
-    reporter: &'a Bare,
-) -> Result<Served, Fail>
-    requires collectors { (0 < crew.collectors) × (crew.collectors ≤ 8) }
-    requires processors { (0 < crew.processors) × (crew.processors ≤ 8) }
-{
-    let mut around = surroundings(alloc)?;
-    let opened = Snapshot::of(&*disk);
-    let Ok(restored) = Restored::read(alloc, disk, reporter, LIMITS) else {
+    let opened = Snapshot::of(&disk);
+    let Ok(restored) = Restored::read(alloc, &mut disk, &Bare, LIMITS) else {
         return Err(Fail::from("the journal wasn't opened"));
     };
-    let book = SharedBook::over(alloc, disk, reporter, LIMITS, restored, opened);
-    let setting = CrewSetting {
-        crew,
-        session: Setting {
-            alloc,
-            rules: &around.rules,
-            routes: &around.routes,
-        },
-        reporter,
-        gate: &OpenGate,
-    };
+    let book = SharedBook::over(alloc, &mut disk, &Bare, LIMITS, restored, opened);
+    let setting = setting_of(alloc, crew, &around);
     let CrewEnd {
+        desk: _book,
         listener,
         failed,
         served,
-        ..
-    } = serve_together(
-        rt,
-        setting,
-        book,
-        listener,
-        &mut around.clock,
-        &mut around.draws,
-    );
+    } = serve_together(rt, setting, book, listener, &mut clock, &mut draws);
     Ok(Served {
         served,
         listener,
