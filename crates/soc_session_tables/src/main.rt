@@ -29,12 +29,12 @@ const FILES: [&str; 6] = [
 ];
 
 #[derive(Drop)]
-struct Sessions {
+struct SessionCalls {
     /// What `texts.txt` holds.
     texts: String,
 }
 
-impl Calls for Sessions {
+impl Calls for SessionCalls {
     fn call(&self, alloc: Global, name: &str, row: &Row<'_>) -> Result<String, Fault> {
         let texts = self.texts.as_str();
         match name {
@@ -64,7 +64,7 @@ impl Calls for Sessions {
 
 fn main(rt: HostRuntime) -> ExitCode {
     match fs::read_to_string(&rt, "texts.txt") {
-        Ok(texts) => run(&rt, &Sessions { texts }, &FILES),
+        Ok(texts) => run(&rt, &SessionCalls { texts }, &FILES),
         Err(error) => {
             let _ = rt.eprintln(error);
             ExitCode::from(2)
