@@ -16,12 +16,14 @@
 //! `\x20` are bytes as in Rust, and `\(ab\*3)` is `ababab`.
 #![tactic(auto)]
 
+mod answers;
 mod escapes;
 mod fault;
 mod lines;
 mod row;
 mod running;
 
+pub use answers::{append, copy, done, number_at, shown, told, word};
 pub use escapes::unescape;
 pub use fault::Fault;
 pub use row::{Row, number_of};

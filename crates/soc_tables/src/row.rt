@@ -74,6 +74,18 @@ impl<'a> Row<'a> {
         number_of(self.cell(name)?)
     }
 
+    /// The numbers that are the items of a column's cell.
+    pub fn numbers(&self, alloc: Global, name: &str) -> Result<Vec<u64>, Fault> {
+        let mut numbers = Vec::new(alloc);
+        let cell = self.cell(name)?;
+        if cell != "-" {
+            for item in cell.split(';') {
+                numbers.push(number_of(item.trim())?)?;
+            }
+        }
+        Ok(numbers)
+    }
+
     /// The texts of the items of a column's cell.
     pub fn items(&self, alloc: Global, name: &str) -> Result<Vec<String>, Fault> {
         let mut items = Vec::new(alloc);
