@@ -1,7 +1,10 @@
--- A session's run of a desk over a journal is one run of the desk's log.
-use Rattle.std.proofs.Common.{◌≡◌, ℕ, ◌+◌, ◌≤◌, IsTrue, List, [], ◌∷◌, Option, None, Some, refl, sym, ap, subst, inl, inr, ⊎_elim, arith}
+-- A session's run of a desk over a journal is one run of the desk's log, which every stop of the machine outlives.
+use Rattle.std.proofs.Common.{◌≡◌, ℕ, ◌+◌, ◌≤◌, IsTrue, List, [], ◌∷◌, ◌++◌, Option, None, Some, refl, sym, ap, ◌∙◌, subst, inl, inr, ◌⊎◌, ⊎_elim, arith}
 use Rattle.std.specs.Option.{option_map_or}
-use Rattle.soc_edge.specs.Disk.{DiskTold, IsDisk, GoesOn, LeavesOnly, DiskFailed}
+use Rattle.std.proofs.lemmas.List.{append-nil, append_assoc}
+use Rattle.std.proofs.lemmas.List.Elements.{filter_map-append}
+use Rattle.soc_edge.specs.Disk.{DiskTold, IsDisk, GoesOn}
+use Rattle.soc_edge.specs.Faults.{Rose}
 use Rattle.soc_edge.proofs.Disks.{GoesOn-none, GoesOn-append}
 use Rattle.soc_desk.specs.declared.desk.Command.{Command}
 use Rattle.soc_desk.specs.declared.desk.Receipt.{Receipt}
@@ -11,23 +14,13 @@ use Rattle.soc_desk.specs.declared.desk.Refusal.{Refusal}
 use Rattle.soc_desk.specs.declared.desk.Refusal.TheVariants as F
 use Rattle.soc_desk.specs.Asks.{Asks, IsStoreFault}
 use Rattle.soc_desk.specs.Basis.{Basis}
-use Rattle.soc_desk.specs.State.{State, Allowed}
+use Rattle.soc_desk.specs.Keeps.{KeepAllows}
+use Rattle.soc_desk.specs.Laws.{HasAll}
+use Rattle.soc_desk.specs.Log.{Change, Kept}
+use Rattle.soc_desk.specs.State.{State, Allowed, StandsFor, kept_in, kept_of}
 use Rattle.soc_session.specs.Desk.{Asking, Exchange, StepsDesk}
 use Rattle.soc_session.specs.Session.{Response, met, refused, RunsDesk}
-use Rattle.soc_replay.specs.Runs.{Answers, AllowedInRun, RoseBy, store_fault, store_faults}
-
-pub answers_of : (basis : Basis) (before : State) (disk : DiskTold) (command : Command) (receipt : Receipt) (after : State) (disk' : DiskTold)
-    → Asks basis before disk command receipt after disk' → Answers basis before command receipt after
-answers_of basis before disk command receipt after disk' asks = record {
-  kind = asks.kind;
-  gains = asks.gains;
-  legal = asks.legal;
-  front = asks.front;
-  short = asks.short;
-  stopped = asks.stopped;
-  altered = asks.altered;
-  step = asks.step;
-}
+use Rattle.soc_replay.specs.Runs.{Answers, DeskAt, RoseBy, store_fault, store_faults}
 
 -- ---- the disk's count of faults
 
@@ -40,122 +33,198 @@ no_more : (number before after : ℕ) → RoseBy number before after → RoseBy 
 no_more number before after (inl rose) = inl (omega (arith, rose))
 no_more number before after (inr last) = inr last
 
-of_refusal : (refusal : Refusal) (before after : DiskTold) → (IsStoreFault (R.Refused refusal) → DiskFailed before after) → before.faults ≤ after.faults
-    → RoseBy (store_fault (R.Refused refusal)) before.faults after.faults
+of_refusal : (refusal : Refusal) (before after : ℕ) → (IsStoreFault (R.Refused refusal) → Rose before after) → before ≤ after
+    → RoseBy (store_fault (R.Refused refusal)) before after
 of_refusal F.StoreFault before after fault le = ⊎_elim (λ more. inl (omega (arith, more))) (λ last. inr last) (fault tt)
 of_refusal _ before after fault le = inl (omega (arith, le))
 
-fault_counted : (reply : Reply) (before after : DiskTold) → (IsStoreFault reply → DiskFailed before after) → before.faults ≤ after.faults
-    → RoseBy (store_fault reply) before.faults after.faults
+fault_counted : (reply : Reply) (before after : ℕ) → (IsStoreFault reply → Rose before after) → before ≤ after → RoseBy (store_fault reply) before after
 fault_counted (R.Refused refusal) before after fault le = of_refusal refusal before after fault le
 fault_counted _ before after fault le = inl (omega (arith, le))
 
--- a state, and the log's run to it, with what a stop may leave meanwhile
-pub record Reaches (basis : Basis) (first : State) (disk : DiskTold) (responses : List Response) (disk' : DiskTold) (IsNow : State → Type 0) : Type 0 where
-  pub last : State
-  pub now : IsNow last
-  pub runs : RunsDesk (Answers basis) first responses last
-  pub goes_on : GoesOn disk disk'
-  pub faults : RoseBy (store_faults responses) disk.faults disk'.faults
-  pub survives : IsTrue basis.is_told → LeavesOnly disk disk' (AllowedInRun basis first responses)
-  pub allowed : IsTrue basis.is_told → (image : List ℕ) → disk'.images image → Allowed last image
+-- ---- what an image has
 
-pub at_first : (basis : Basis) (first : State) (responses : List Response) (image : List ℕ) → Allowed first image → AllowedInRun basis first responses image
-at_first basis first responses image allowed = record { front = []; rest = responses; responses_are = refl; between = first; runs = refl; allowed = allowed }
+-- what a state allows has all that was kept
+pub has_kept : (state : State) (image : List ℕ) → Allowed state image → HasAll (kept_of state.log) image
+has_kept state image (inl stands) = ([], subst (λ (kept : List Kept). StandsFor image kept) (sym (append-nil (kept_of state.log))) stands)
+has_kept state image (inr stands) = (state.doubt, stands)
 
--- one more response before the run
-later : (basis : Basis) (first second : State) (response : Response) (responses : List Response) (image : List ℕ)
-    → ((front : List Response) (between : State) → RunsDesk (Answers basis) second front between → RunsDesk (Answers basis) first (response ∷ front) between)
-    → AllowedInRun basis second responses image → AllowedInRun basis first (response ∷ responses) image
-later basis first second response responses image step is = record {
-  front = response ∷ is.front;
-  rest = is.rest;
-  responses_are = ap (λ rs. response ∷ rs) is.responses_are;
-  between = is.between;
-  runs = step is.front is.between is.runs;
-  allowed = is.allowed;
-}
+-- and so has what is allowed while reports are kept
+pub keeping_has : (state after : State) (image : List ℕ) → KeepAllows state after image → HasAll (kept_of state.log) image
+keeping_has state after image (inl allowed) = has_kept state image allowed
+keeping_has state after image (inr between) = (between.more, between.stands)
+
+-- a log's front had kept no more
+had_kept : (log log' piece : List Change) (image : List ℕ) → log' ≡ log ++ piece → HasAll (kept_of log') image → HasAll (kept_of log) image
+had_kept log log' piece image behind (more, stands) =
+    let split : kept_of log' ++ more ≡ kept_of log ++ (kept_of piece ++ more) =
+    ap (λ (l : List Change). kept_of l ++ more) behind
+    ∙ (ap (λ (k : List Kept). k ++ more) (filter_map-append kept_in log piece) ∙ append_assoc (kept_of log) (kept_of piece) more) in
+    (kept_of piece ++ more, subst (λ (kept : List Kept). StandsFor image kept) split stands)
+
+-- ---- a run
+
+-- each stop since this desk's moment leaves all that was kept by then
+abbrev pub Outlives : Basis → (ℕ → List ℕ → Type 0) → DeskAt → Type 0
+Outlives basis left desk = IsTrue basis.is_told → (image : List ℕ) → left desk.moment image → HasAll (kept_of desk.state.log) image
+
+-- the disk is the one of this desk: what stops since the moment until now might have left is allowed
+pub record IsOver (basis : Basis) (disk : DiskTold) (desk : DeskAt) : Type 0 where
+  pub within : desk.moment ≤ disk.moment
+  pub faults_are : desk.faults ≡ disk.faults
+  pub holds : IsTrue basis.is_told → (image : List ℕ) → disk.since desk.moment image → Allowed desk.state image
+
+-- A desk that the responses lead to, over this disk. Where time goes on from it to a final one, they are a run whose answers
+-- say what stops until then leave.
+pub record Reaches (basis : Basis) (final : DiskTold) (first : DeskAt) (responses : List Response) (disk : DiskTold) (IsNow : State → Type 0) : Type 0 where
+  pub last : DeskAt
+  pub now : IsNow last.state
+  pub over : IsOver basis disk last
+  pub no_fewer : first.faults ≤ last.faults
+  pub faults : RoseBy (store_faults responses) first.faults last.faults
+  pub runs : GoesOn disk final → Outlives basis final.since last → RunsDesk (Answers basis final.since) first responses last
+  pub outlives : GoesOn disk final → Outlives basis final.since last → Outlives basis final.since first
 
 module _ {K : Type 0} (asks : K → Command → Receipt → K → Type 0) (disk_of : K → DiskTold) (sound : (desk : K) → IsDisk (disk_of desk)) (basis : Basis)
     (Stands : K → State → Type 0)
     (steps : (desk desk' : K) (command : Command) (receipt : Receipt) → asks desk command receipt desk' → (state : State) → Stands desk state
     → (after : State) × Stands desk' after × Asks basis state (disk_of desk) command receipt after (disk_of desk')) where
-  -- nothing was asked
-  quiet : (desk : K) (state : State) → Stands desk state → (IsTrue basis.is_told → (image : List ℕ) → (disk_of desk).images image → Allowed state image)
-      → Reaches basis state (disk_of desk) [] (disk_of desk) (Stands desk)
-  quiet desk state stands allowed = record {
-    last = state;
-    now = stands;
-    runs = refl;
-    goes_on = GoesOn-none (disk_of desk) (sound desk);
-    faults = inl (omega arith);
-    survives = λ told. record { each = λ image since. at_first basis state [] image (allowed told image ((sound desk).only_now image since)) };
-    allowed = allowed;
-  }
+  -- time goes on behind a message that was answered, where it does behind it
+  went_on : (responses : List Response) (desk desk' : K) (state : State) → Stands desk state → (asked asked' : Option Asking) → asked ≡ asked'
+      → (between : K) → StepsDesk asks desk asked between → RunsDesk asks between responses desk'
+      → ((d : K) (s : State) → Stands d s → RunsDesk asks d responses desk' → GoesOn (disk_of d) (disk_of desk')) → GoesOn (disk_of desk) (disk_of desk')
+  went_on responses desk desk' state stands asked None e between step runs more =
+      let same : between ≡ desk = subst (λ a. StepsDesk asks desk a between) e step in
+      more desk state stands (subst (λ d. RunsDesk asks d responses desk') same runs)
+  went_on responses desk desk' state stands asked (Some asking) e between step runs more =
+      let one = steps desk between asking.command asking.receipt (subst (λ a. StepsDesk asks desk a between) e step) state stands in
+      GoesOn-append (disk_of desk) (disk_of between) (disk_of desk') one.2.goes_on (more between one.0 one.1 runs)
+
+  -- time goes on along a run
+  pub goes_on : (responses : List Response) (desk desk' : K) (state : State) → Stands desk state → RunsDesk asks desk responses desk' → GoesOn (disk_of desk) (disk_of desk')
+  goes_on [] desk desk' state stands runs = subst (λ d. GoesOn (disk_of desk) (disk_of d)) (sym runs) (GoesOn-none (disk_of desk) (sound desk))
+  goes_on (refused error ∷ responses) desk desk' state stands runs = goes_on responses desk desk' state stands runs
+  goes_on (met exchange ∷ responses) desk desk' state stands runs =
+      went_on responses desk desk' state stands exchange.asked exchange.asked refl runs.0 runs.1 runs.2 (λ d s st r. goes_on responses d desk' s st r)
+
+  -- one command of a run, to whose end time goes on
+  module _ (final : DiskTold) (first : DeskAt) (desk between : K) (command : Command) (receipt : Receipt) (next : State)
+      (over : IsOver basis (disk_of desk) first) (done : Asks basis first.state (disk_of desk) command receipt next (disk_of between)) where
+    abbrev pub second : DeskAt
+    second = record { state = next; moment = (disk_of between).moment; faults = (disk_of between).faults }
+
+    pub over_second : IsOver basis (disk_of between) second
+    over_second = record {
+      within = omega arith;
+      faults_are = refl;
+      holds = λ told image since. done.allowed told image ((sound between).only_now image since);
+    }
+
+    pub more_faults : first.faults ≤ (disk_of between).faults
+    more_faults = omega (arith, over.faults_are, done.goes_on.faults_never_fall)
+
+    fault : IsStoreFault receipt.reply → Rose first.faults (disk_of between).faults
+    fault is = subst (λ (n : ℕ). Rose n (disk_of between).faults) (sym over.faults_are) (done.fault is)
+
+    pub counted : RoseBy (store_fault receipt.reply) first.faults (disk_of between).faults
+    counted = fault_counted receipt.reply first.faults (disk_of between).faults fault more_faults
+
+    survives : GoesOn (disk_of between) final → IsTrue basis.is_told → (image : List ℕ) → final.since first.moment image
+        → (Allowed first.state image ⊎ Allowed next image) ⊎ final.since (disk_of between).moment image
+    survives on told image left = ⊎_elim
+        (λ early. inl (⊎_elim (λ was. inl (over.holds told image was)) (λ meanwhile. (done.survives told).each image meanwhile)
+        (done.goes_on.nothing_else first.moment image over.within early)))
+        (λ late. inr late)
+        (on.nothing_else first.moment image (omega (arith, over.within, done.goes_on.later)) left)
+
+    pub answers : GoesOn (disk_of between) final → Outlives basis final.since second → Answers basis final.since first command receipt second
+    answers on out = record {
+      kind = done.kind;
+      gains = done.gains;
+      legal = done.legal;
+      front = done.front;
+      short = done.short;
+      stopped = done.stopped;
+      later = omega (arith, over.within, done.goes_on.later);
+      no_fewer = more_faults;
+      fault = fault;
+      altered = done.altered;
+      step = done.step;
+      survives = survives on;
+      outlives = out;
+    }
+
+    pub outlives_first : GoesOn (disk_of between) final → Outlives basis final.since second → Outlives basis final.since first
+    outlives_first on out told image left = ⊎_elim
+        (λ early. ⊎_elim (λ was. has_kept first.state image was)
+        (λ is. had_kept first.state.log next.log done.gains.piece image done.gains.behind (has_kept next image is)) early)
+        (λ late. had_kept first.state.log next.log done.gains.piece image done.gains.behind (out told image late))
+        (survives on told image left)
 
   -- a message that was answered, and then a run along these responses
-  answered : (exchange : Exchange) (responses : List Response) (desk desk' : K) (state : State) → Stands desk state → (asked : Option Asking) → exchange.asked ≡ asked
+  answered : (final : DiskTold) (exchange : Exchange) (responses : List Response) (desk desk' : K) (first : DeskAt) → Stands desk first.state → IsOver basis (disk_of desk) first
+      → (asked : Option Asking) → exchange.asked ≡ asked
       → (between : K) → StepsDesk asks desk exchange.asked between → RunsDesk asks between responses desk'
-      → (IsTrue basis.is_told → (image : List ℕ) → (disk_of desk).images image → Allowed state image)
-      → ((d : K) (s : State) → Stands d s → (IsTrue basis.is_told → (image : List ℕ) → (disk_of d).images image → Allowed s image) → RunsDesk asks d responses desk'
-      → Reaches basis s (disk_of d) responses (disk_of desk') (Stands desk'))
-      → Reaches basis state (disk_of desk) (met exchange ∷ responses) (disk_of desk') (Stands desk')
-  answered exchange responses desk desk' state stands None e between step runs allowed more =
+      → ((d : K) (here : DeskAt) → Stands d here.state → IsOver basis (disk_of d) here → RunsDesk asks d responses desk' → Reaches basis final here responses (disk_of desk') (Stands desk'))
+      → Reaches basis final first (met exchange ∷ responses) (disk_of desk') (Stands desk')
+  answered final exchange responses desk desk' first stands over None e between step runs more =
       let same : between ≡ desk = subst (λ a. StepsDesk asks desk a between) e step in
-      let rest = more desk state stands allowed (subst (λ d. RunsDesk asks d responses desk') same runs) in
-      let stays : StepsDesk (Answers basis) state exchange.asked state = subst (λ a. StepsDesk (Answers basis) state a state) (sym e) refl in
+      let rest = more desk first stands over (subst (λ d. RunsDesk asks d responses desk') same runs) in
+      let stays : StepsDesk (Answers basis final.since) first exchange.asked first = subst (λ a. StepsDesk (Answers basis final.since) first a first) (sym e) refl in
       record {
         last = rest.last;
         now = rest.now;
-        runs = (state, stays, rest.runs);
-        goes_on = rest.goes_on;
-        faults = subst (λ (n : ℕ). RoseBy (n + store_faults responses) (disk_of desk).faults (disk_of desk').faults) (sym (ap (λ a. option_map_or (λ (asking : Asking). store_fault asking.receipt.reply) a 0) e)) (no_more (store_faults responses) (disk_of desk).faults (disk_of desk').faults rest.faults);
-        survives = λ told. record { each = λ image since. later basis state state (met exchange) responses image (λ front t r. (state, stays, r)) ((rest.survives told).each image since) };
-        allowed = rest.allowed;
+        over = rest.over;
+        no_fewer = rest.no_fewer;
+        faults = subst (λ (n : ℕ). RoseBy (n + store_faults responses) first.faults rest.last.faults) (sym (ap (λ a. option_map_or (λ (asking : Asking). store_fault asking.receipt.reply) a 0) e))
+            (no_more (store_faults responses) first.faults rest.last.faults rest.faults);
+        runs = λ on out. (first, stays, rest.runs on out);
+        outlives = rest.outlives;
       }
-  answered exchange responses desk desk' state stands (Some asking) e between step runs allowed more =
-      let one = steps desk between asking.command asking.receipt (subst (λ a. StepsDesk asks desk a between) e step) state stands in
-      let next = one.0 in
-      let done = one.2 in
-      let rest = more between next one.1 done.allowed runs in
-      let answers = answers_of basis state (disk_of desk) asking.command asking.receipt next (disk_of between) done in
-      let stepped : StepsDesk (Answers basis) state exchange.asked next = subst (λ a. StepsDesk (Answers basis) state a next) (sym e) answers in
+  answered final exchange responses desk desk' first stands over (Some asking) e between step runs more =
+      let one = steps desk between asking.command asking.receipt (subst (λ a. StepsDesk asks desk a between) e step) first.state stands in
+      let here = second final first desk between asking.command asking.receipt one.0 over one.2 in
+      let rest = more between here one.1 (over_second final first desk between asking.command asking.receipt one.0 over one.2) runs in
+      let to_final : GoesOn (disk_of desk') final → GoesOn (disk_of between) final =
+      λ on. GoesOn-append (disk_of between) (disk_of desk') final (goes_on responses between desk' one.0 one.1 runs) on in
       record {
         last = rest.last;
         now = rest.now;
-        runs = (next, stepped, rest.runs);
-        goes_on = GoesOn-append (disk_of desk) (disk_of between) (disk_of desk') done.goes_on rest.goes_on;
-        faults = subst (λ (n : ℕ). RoseBy (n + store_faults responses) (disk_of desk).faults (disk_of desk').faults) (sym (ap (λ a. option_map_or (λ (asking : Asking). store_fault asking.receipt.reply) a 0) e))
-            (rose-trans (store_fault asking.receipt.reply) (store_faults responses) (disk_of desk).faults (disk_of between).faults (disk_of desk').faults
-            (fault_counted asking.receipt.reply (disk_of desk) (disk_of between) done.fault done.goes_on.faults_never_fall) rest.faults rest.goes_on.faults_never_fall);
-        survives = λ told. record {
-          each = λ image since. ⊎_elim
-              (λ early. ⊎_elim
-              (λ was. at_first basis state (met exchange ∷ responses) image was)
-              (λ now. later basis state next (met exchange) responses image (λ front t r. (next, stepped, r)) (at_first basis next responses image now))
-              ((done.survives told).each image early))
-              (λ late. later basis state next (met exchange) responses image (λ front t r. (next, stepped, r)) ((rest.survives told).each image late))
-              (rest.goes_on.nothing_else (disk_of desk).moment image done.goes_on.later since);
-        };
-        allowed = rest.allowed;
+        over = rest.over;
+        no_fewer = omega (arith, more_faults final first desk between asking.command asking.receipt one.0 over one.2, rest.no_fewer);
+        faults = subst (λ (n : ℕ). RoseBy (n + store_faults responses) first.faults rest.last.faults) (sym (ap (λ a. option_map_or (λ (asking : Asking). store_fault asking.receipt.reply) a 0) e))
+            (rose-trans (store_fault asking.receipt.reply) (store_faults responses) first.faults here.faults rest.last.faults
+            (counted final first desk between asking.command asking.receipt one.0 over one.2) rest.faults rest.no_fewer);
+        runs = λ on out. (
+          here,
+          subst (λ a. StepsDesk (Answers basis final.since) first a here) (sym e) (answers final first desk between asking.command asking.receipt one.0 over one.2 (to_final on) (rest.outlives on out)),
+          rest.runs on out,
+        );
+        outlives = λ on out. outlives_first final first desk between asking.command asking.receipt one.0 over one.2 (to_final on) (rest.outlives on out);
       }
 
-  pub reaches : (responses : List Response) (desk desk' : K) (state : State) → Stands desk state
-      → (IsTrue basis.is_told → (image : List ℕ) → (disk_of desk).images image → Allowed state image) → RunsDesk asks desk responses desk'
-      → Reaches basis state (disk_of desk) responses (disk_of desk') (Stands desk')
-  reaches [] desk desk' state stands allowed runs =
-      subst (λ d. Reaches basis state (disk_of desk) [] (disk_of d) (Stands d)) (sym runs) (quiet desk state stands allowed)
-  reaches (refused error ∷ responses) desk desk' state stands allowed runs =
-      let rest = reaches responses desk desk' state stands allowed runs in
+  pub reaches : (final : DiskTold) (responses : List Response) (desk desk' : K) (first : DeskAt) → Stands desk first.state → IsOver basis (disk_of desk) first
+      → RunsDesk asks desk responses desk' → Reaches basis final first responses (disk_of desk') (Stands desk')
+  reaches final [] desk desk' first stands over runs = subst (λ d. Reaches basis final first [] (disk_of d) (Stands d)) (sym runs) (record {
+    last = first;
+    now = stands;
+    over = over;
+    no_fewer = omega arith;
+    faults = inl (omega arith);
+    runs = λ on out. refl;
+    outlives = λ on out. out;
+  })
+  reaches final (refused error ∷ responses) desk desk' first stands over runs =
+      let rest = reaches final responses desk desk' first stands over runs in
       record {
         last = rest.last;
         now = rest.now;
-        runs = rest.runs;
-        goes_on = rest.goes_on;
+        over = rest.over;
+        no_fewer = rest.no_fewer;
         faults = rest.faults;
-        survives = λ told. record { each = λ image since. later basis state state (refused error) responses image (λ front t r. r) ((rest.survives told).each image since) };
-        allowed = rest.allowed;
+        runs = rest.runs;
+        outlives = rest.outlives;
       }
-  reaches (met exchange ∷ responses) desk desk' state stands allowed runs =
-      answered exchange responses desk desk' state stands exchange.asked refl runs.0 runs.1 runs.2 allowed
-      (λ d s st al r. reaches responses d desk' s st al r)
+  reaches final (met exchange ∷ responses) desk desk' first stands over runs =
+      answered final exchange responses desk desk' first stands over exchange.asked refl runs.0 runs.1 runs.2
+      (λ d here st ov r. reaches final responses d desk' here st ov r)

@@ -22,10 +22,10 @@ use Rattle.soc_desk.specs.Opens.{OpensWith, as_told, log_of}
 use Rattle.soc_desk.specs.State.{State, Allowed, entries_of, kept_of, settled}
 use Rattle.soc_book.proofs.Kept.{kept_of-log, told_all}
 use Rattle.soc_book.specs.Openings.{IsBasisOf, OpensBook}
-use Rattle.soc_replay.proofs.RunLemmas.{Reaches, at_first, reaches}
+use Rattle.soc_replay.proofs.RunLemmas.{IsOver, Outlives, Reaches, goes_on, keeping_has, reaches}
 use Rattle.soc_session.specs.declared.ending.SessionEnd.{SessionEnd}
 use Rattle.soc_session.specs.declared.ending.SessionEnd.TheVariants.{Ended, Closed, Stopped, Refused, ReadFault, WriteFault, TooLong, NoMemory}
-use Rattle.soc_replay.specs.Runs.{AllowedInRun, RoseBy, store_faults}
+use Rattle.soc_replay.specs.Runs.{DeskAt, RoseBy, store_faults}
 use Rattle.soc_session.specs.declared.rules.Rules.{Rules}
 use Rattle.soc_session.specs.Desk.{Asking, StepsDesk}
 use Rattle.soc_session.specs.Session.{Around, Response, met, refused, RunsDesk, Serves, around}
@@ -102,10 +102,6 @@ keep_allows basis last disk disk' (Some reply) kept is told allowed image now = 
 
 -- ---- the whole
 
-if_some : {A : Type 0} (told : Option A) (P : A → Type 0) → ((a : A) → told ≡ Some a → P a) → IfSome told P
-if_some None P each = tt
-if_some (Some a) P each = each a refl
-
 module _ {K : Type 0} (asks : K → Command → Receipt → K → Type 0) (disk_of : K → DiskTold) (sound : (desk : K) → IsDisk (disk_of desk))
     (row_of : Crash → List Cell) (digest : Option (List ℕ)) (Same : K → Type 0) (Stands : K → Basis → State → Type 0)
     (steps : (desk desk' : K) (command : Command) (receipt : Receipt) → asks desk command receipt desk' → Same desk
@@ -128,19 +124,25 @@ module _ {K : Type 0} (asks : K → Command → Receipt → K → Type 0) (disk_
     opened : OpensBook basis before.disk (disk_of first) (Stands first basis)
     opened = opens basis basis_is
 
-    -- the opened disk tells this content
-    told_since : (bytes : List ℕ) → before.disk.content ≡ Some bytes → StandsSince before.disk (disk_of first) bytes opened.entries
-    told_since bytes is = subst (λ (c : Option (List ℕ)). IfSome c (λ b. StandsSince before.disk (disk_of first) b opened.entries)) is opened.stands
+    -- the moment at which the journal stood, and where the disk tells nothing that at which it was open
+    abbrev moment_of : (content : Option (List ℕ)) → IfSome content (λ bytes. StandsSince before.disk (disk_of first) bytes opened.entries) → ℕ
+    moment_of None stands = (disk_of first).moment
+    moment_of (Some bytes) stands = stands.moment
 
-    allowed_first : IsTrue basis.is_told → (image : List ℕ) → (disk_of first).images image → Allowed (settled opened.log) image
-    allowed_first told image now = by before.disk.content refl told
-      where
-        by : (content : Option (List ℕ)) → before.disk.content ≡ content → IsTrue (is_some content) → Allowed (settled opened.log) image
-        by None is never = absurd (true_is_not_false (sym never))
-        by (Some bytes) is holds =
-            let since = told_since bytes is in
-            opened_allows basis opened.entries opened.log opened.opens told image
-            (since.each image ((sound first).counts_now since.moment image since.ends now))
+    abbrev opened_at : (content : Option (List ℕ)) → IfSome content (λ bytes. StandsSince before.disk (disk_of first) bytes opened.entries) → DeskAt
+    opened_at content stands = record { state = settled opened.log; moment = moment_of content stands; faults = (disk_of first).faults }
+
+    over_opened : (content : Option (List ℕ)) (stands : IfSome content (λ bytes. StandsSince before.disk (disk_of first) bytes opened.entries))
+        → (IsTrue basis.is_told → IsTrue (is_some content)) → IsOver basis (disk_of first) (opened_at content stands)
+    over_opened None stands is_told = record { within = omega arith; faults_are = refl; holds = λ told image since. absurd (true_is_not_false (sym (is_told told))) }
+    over_opened (Some bytes) stands is_told = record {
+      within = stands.ends;
+      faults_are = refl;
+      holds = λ told image since. opened_allows basis opened.entries opened.log opened.opens told image (stands.each image since);
+    }
+
+    abbrev begun : DeskAt
+    begun = opened_at before.disk.content opened.stands
 
     abbrev IsNow : K → State → Type 0
     IsNow desk state = Same desk × Stands desk basis state
@@ -152,44 +154,49 @@ module _ {K : Type 0} (asks : K → Command → Receipt → K → Type 0) (disk_
         let next = done.1 basis state refl now.1 in
         (next.0, (done.0, next.1), next.2)
 
-    reached : Reaches basis (settled opened.log) (disk_of first) serves.responses (disk_of second) (IsNow second)
-    reached = reaches asks disk_of sound basis IsNow step serves.responses first second (settled opened.log) (same, opened.now) allowed_first serves.runs
+    reached : Reaches basis after.disk begun serves.responses (disk_of second) (IsNow second)
+    reached = reaches asks disk_of sound basis IsNow step after.disk serves.responses first second begun (same, opened.now)
+        (over_opened before.disk.content opened.stands (λ told. told)) serves.runs
 
-    kept : (kept : State) × KeepsDisk basis reached.last (disk_of second) (keep_reply keeping) kept after.disk
-    kept = keeps reached.now.0 basis reached.last refl refl reached.now.1
+    session_on : GoesOn (disk_of first) (disk_of second)
+    session_on = goes_on asks disk_of sound basis IsNow step serves.responses first second (settled opened.log) (same, opened.now) serves.runs
+
+    kept : (kept : State) × KeepsDisk basis reached.last.state (disk_of second) (keep_reply keeping) kept after.disk
+    kept = keeps reached.now.0 basis reached.last.state refl refl reached.now.1
 
     keep_on : GoesOn (disk_of second) after.disk
-    keep_on = keep_goes_on basis reached.last (disk_of second) after.disk (keep_reply keeping) kept.0 kept.1
+    keep_on = keep_goes_on basis reached.last.state (disk_of second) after.disk (keep_reply keeping) kept.0 kept.1
 
     from_opened : GoesOn (disk_of first) after.disk
-    from_opened = GoesOn-append (disk_of first) (disk_of second) after.disk reached.goes_on keep_on
+    from_opened = GoesOn-append (disk_of first) (disk_of second) after.disk session_on keep_on
 
-    in_run : IsTrue basis.is_told → (image : List ℕ) → after.disk.since (disk_of first).moment image
-        → AllowedInRun basis (settled opened.log) serves.responses image ⊎ KeepAllows reached.last kept.0 image
-    in_run told image since = ⊎_elim
-        (λ early. inl ((reached.survives told).each image early))
-        (λ late. inr (keep_survives basis reached.last (disk_of second) after.disk (keep_reply keeping) kept.0 kept.1 told (reached.allowed told) image late))
-        (keep_on.nothing_else (disk_of first).moment image reached.goes_on.later since)
+    -- as the session leaves the disk, each stop leaves what is allowed
+    allowed_last : IsTrue basis.is_told → (image : List ℕ) → (disk_of second).images image → Allowed reached.last.state image
+    allowed_last told image now = reached.over.holds told image ((sound second).counts_now reached.last.moment image reached.over.within now)
 
-    survives : (bytes : List ℕ) → before.disk.content ≡ Some bytes
-        → SurvivesStops basis before.disk after.disk bytes (record { first = settled opened.log; responses = serves.responses; last = reached.last; kept = kept.0 })
-    survives bytes is =
-        let since = told_since bytes is in
-        let told : IsTrue basis.is_told = subst (λ (c : Option (List ℕ)). IsTrue (is_some c)) (sym is) refl in
-        record {
-          moment = since.moment;
-          begins = since.begins;
-          ends = omega (arith, since.ends, from_opened.later);
-          until = λ image left. ⊎_elim
-              (λ early. ⊎_elim (λ stands. inl (from_opened.keeps since.moment image since.ends stands)) (λ torn. inr torn) (since.until image early))
-              (λ late. inl (from_opened.wider since.moment (disk_of first).moment image since.ends late))
-              (from_opened.nothing_else before.disk.moment image to_opened.later left);
-          each = λ image left. ⊎_elim
-              (λ early. inl (at_first basis (settled opened.log) serves.responses image (opened_allows basis opened.entries opened.log opened.opens told image (since.each image early))))
-              (λ late. in_run told image late)
-              (from_opened.nothing_else since.moment image since.ends left);
-          now = keep_allows basis reached.last (disk_of second) after.disk (keep_reply keeping) kept.0 kept.1 told (reached.allowed told);
-        }
+    in_keeping : IsTrue basis.is_told → (image : List ℕ) → after.disk.since reached.last.moment image → KeepAllows reached.last.state kept.0 image
+    in_keeping told image left = ⊎_elim
+        (λ early. inl (reached.over.holds told image early))
+        (λ late. keep_survives basis reached.last.state (disk_of second) after.disk (keep_reply keeping) kept.0 kept.1 told (allowed_last told) image late)
+        (keep_on.nothing_else reached.last.moment image reached.over.within left)
+
+    outlives : Outlives basis after.disk.since reached.last
+    outlives told image left = keeping_has reached.last.state kept.0 image (in_keeping told image left)
+
+    survives : (content : Option (List ℕ)) (stands : IfSome content (λ bytes. StandsSince before.disk (disk_of first) bytes opened.entries))
+        → (IsTrue (is_some content) → IsTrue basis.is_told)
+        → IfSome content (λ bytes. SurvivesStops before.disk after.disk bytes (opened_at content stands) reached.last kept.0)
+    survives None stands is_told = tt
+    survives (Some bytes) stands is_told = record {
+      begins = stands.begins;
+      ends = omega (arith, reached.over.within, keep_on.later);
+      until = λ image left. ⊎_elim
+          (λ early. ⊎_elim (λ was. inl (from_opened.keeps stands.moment image stands.ends was)) (λ torn. inr torn) (stands.until image early))
+          (λ late. inl (from_opened.wider stands.moment (disk_of first).moment image stands.ends late))
+          (from_opened.nothing_else before.disk.moment image to_opened.later left);
+      keeping = in_keeping (is_told refl);
+      now = keep_allows basis reached.last.state (disk_of second) after.disk (keep_reply keeping) kept.0 kept.1 (is_told refl) (allowed_last (is_told refl));
+    }
 
     pub serves_journal : ServesJournal (service row_of digest setup) before after end keeping
     serves_journal = record {
@@ -202,12 +209,14 @@ module _ {K : Type 0} (asks : K → Command → Receipt → K → Type 0) (disk_
         found = opened.found;
         opens = opened.opens;
       };
-      last = reached.last;
+      opened = begun;
+      opened_as = refl;
+      served = reached.last;
       window = window;
       serves = record {
         responses = serves.responses;
         by_rules = serves.by_rules;
-        runs = reached.runs;
+        runs = reached.runs keep_on outlives;
         reads = serves.reads;
         writes = serves.writes;
         hands = serves.hands;
@@ -215,14 +224,13 @@ module _ {K : Type 0} (asks : K → Command → Receipt → K → Type 0) (disk_
       };
       where_ended = where_ended;
       kept = kept.0;
-      opened = (disk_of first).faults;
-      served = (disk_of second).faults;
+      keeps = subst (λ (n : ℕ). KeepsBy basis reached.last.state n after.disk.faults (keep_reply keeping) kept.0) (sym reached.over.faults_are)
+          (keeps_by basis reached.last.state (disk_of second) after.disk (keep_reply keeping) kept.0 kept.1);
       no_fewer = to_opened.faults_never_fall;
-      at_most = keep_on.faults_never_fall;
+      at_most = omega (arith, reached.over.faults_are, keep_on.faults_never_fall);
       blames = reached.faults;
-      keeps = keeps_by basis reached.last (disk_of second) after.disk (keep_reply keeping) kept.0 kept.1;
       goes_on = GoesOn-append before.disk (disk_of first) after.disk to_opened from_opened;
-      survives = if_some before.disk.content (λ bytes. SurvivesStops basis before.disk after.disk bytes (record { first = settled opened.log; responses = serves.responses; last = reached.last; kept = kept.0 })) survives;
+      survives = survives before.disk.content opened.stands (λ told. told);
     }
 
 -- ---- the end of a run
@@ -292,8 +300,8 @@ keep_cause by before after end K.Nothing serves is = absurd (never_four end is)
 keep_cause by before after end (K.Done count) serves is = absurd (never_four end is)
 keep_cause by before after end K.NoMemory serves is = absurd (omega (arith, is))
 keep_cause by before after end K.Fault serves is =
-    rose_from before.disk.faults serves.opened serves.served after.disk.faults serves.no_fewer
-    (rose_on serves.opened serves.served (store_faults serves.serves.responses) serves.blames) (serves.keeps.fault tt)
+    rose_from before.disk.faults serves.opened.faults serves.served.faults after.disk.faults serves.no_fewer
+    (rose_on serves.opened.faults serves.served.faults (store_faults serves.serves.responses) serves.blames) (serves.keeps.fault tt)
 
 -- ---- a book that was made of what was opened
 

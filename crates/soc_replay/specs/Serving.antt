@@ -16,8 +16,8 @@ use Rattle.soc_desk.specs.Log.{Change, events}
 use Rattle.soc_desk.specs.State.{State, doubted, Allowed, IsLegalState, settled}
 use Rattle.soc_session.specs.declared.ending.SessionEnd.{SessionEnd}
 use Rattle.soc_session.specs.declared.ending.SessionEnd.TheVariants.{Ended, Closed, Stopped, Refused, ReadFault, WriteFault, TooLong, NoMemory}
-use Rattle.soc_replay.specs.Runs.{Answers, AllowedInRun, RoseBy, store_faults}
-use Rattle.soc_session.specs.Session.{Response, Serves, around}
+use Rattle.soc_replay.specs.Runs.{Answers, DeskAt, RoseBy, store_faults}
+use Rattle.soc_session.specs.Session.{Serves, around}
 use Rattle.soc_replay.specs.declared.ending.Keeping.{Keeping}
 use Rattle.soc_replay.specs.declared.ending.Keeping.TheVariants as K
 use Rattle.soc_replay.specs.declared.setup.Setup.{Setup}
@@ -61,24 +61,15 @@ KeepsBy basis last faults faults' (Some said) kept = KeepsUnder basis last fault
 
 -- ---- stops
 
--- what a desk goes through: its first state, the responses, its last state, and the one after the keeping
-pub record Course : Type 0 where
-  pub first : State
-  pub responses : List Response
-  pub last : State
-  pub kept : State
-
--- From this moment on, once the journal's first sync is done or the empty journal is made, each stop leaves what some state
--- of the run allows, or of the keeping; until then what might have been left before, or the torn creation.
-pub record SurvivesStops (basis : Basis) (before after : DiskTold) (bytes : List ℕ) (course : Course) : Type 0 where
-  pub moment : ℕ
-  pub begins : before.moment ≤ moment
-  pub ends : moment ≤ after.moment
+-- From the moment on at which the journal stood, its first sync done or the empty journal made, a stop leaves what each answer
+-- says, and since the session's end what the keeping allows; until then what might have been left before, or the torn creation.
+pub record SurvivesStops (before after : DiskTold) (bytes : List ℕ) (opened served : DeskAt) (kept : State) : Type 0 where
+  pub begins : before.moment ≤ opened.moment
+  pub ends : served.moment ≤ after.moment
   pub until : (image : List ℕ) → after.since before.moment image
-      → after.since moment image ⊎ FirstLeaves before.images bytes image
-  pub each : (image : List ℕ) → after.since moment image
-      → AllowedInRun basis course.first course.responses image ⊎ KeepAllows course.last course.kept image
-  pub now : (image : List ℕ) → after.images image → Allowed course.kept image
+      → after.since opened.moment image ⊎ FirstLeaves before.images bytes image
+  pub keeping : (image : List ℕ) → after.since served.moment image → KeepAllows served.state kept image
+  pub now : (image : List ℕ) → after.images image → Allowed kept image
 
 -- ---- the whole
 
@@ -95,22 +86,22 @@ service row_of digest setup = record { row_of = row_of; digest = digest; setup =
 -- log, and after such an end the reports are kept.
 pub record ServesJournal (by : Service) (before after : Surroundings) (end : SessionEnd) (keeping : Keeping) : Type 0 where
   pub opening : OpensJournal by.row_of by.digest by.setup.limits before.disk.content
+  -- the desk when the journal stood, and when the session had ended
+  pub opened : DeskAt
+  pub opened_as : opened.state ≡ settled opening.log
+  pub served : DeskAt
   -- the session
-  pub last : State
   pub window : List ℕ
-  pub serves : Serves (Answers opening.basis) by.setup.rules
-      (around before.streams (settled opening.log) before.outlook) (around after.streams last after.outlook) window end
+  pub serves : Serves (Answers opening.basis after.disk.since) by.setup.rules
+      (around before.streams opened before.outlook) (around after.streams served after.outlook) window end
   -- the keeping, after such an end and after no other
   pub where_ended : is_some (keep_reply keeping) ≡ keeps_reports end
   pub kept : State
-  -- the disk's count of faults when the journal was open, and when the session had ended
-  pub opened : ℕ
-  pub served : ℕ
-  pub no_fewer : before.disk.faults ≤ opened
-  pub at_most : served ≤ after.disk.faults
-  pub blames : RoseBy (store_faults serves.responses) opened served
-  pub keeps : KeepsBy opening.basis last served after.disk.faults (keep_reply keeping) kept
+  pub keeps : KeepsBy opening.basis served.state served.faults after.disk.faults (keep_reply keeping) kept
+  -- the disk's time and its faults
+  pub no_fewer : before.disk.faults ≤ opened.faults
+  pub at_most : served.faults ≤ after.disk.faults
+  pub blames : RoseBy (store_faults serves.responses) opened.faults served.faults
   pub goes_on : GoesOn before.disk after.disk
   -- every stop
-  pub survives : IfSome before.disk.content (λ bytes. SurvivesStops opening.basis before.disk after.disk bytes
-      (record { first = settled opening.log; responses = serves.responses; last = last; kept = kept }))
+  pub survives : IfSome before.disk.content (λ bytes. SurvivesStops before.disk after.disk bytes opened served kept)
