@@ -74,10 +74,12 @@ pub fn run(
 ) -> Result<Left, Fault> {
     let mut world = world_of(alloc, case, input, disk)?;
     let status = run_in_memory(alloc, words, &mut world);
+    let World { streams, disk, .. } = world;
+    let Both { sink, .. } = streams;
     Ok(Left {
         status,
-        output: world.streams.sink,
-        disk: world.disk,
+        output: sink,
+        disk,
     })
 }
 
