@@ -5,11 +5,11 @@ use std::alloc::Global;
 /// The text of a name.
 pub fn text_of(alloc: Global, texts: &str, name: &str) -> Result<Vec<u8>, Fault> {
     let mut text = Vec::new(alloc);
-    let mut title = "";
+    let mut is_ours = false;
     for line in texts.lines() {
         match line.strip_prefix("== ") {
-            Some(head) => title = head.split_once(": ").unwrap_or((head, "")).0,
-            None if title == name => push_line(alloc, &mut text, line)?,
+            Some(head) => is_ours = head.split_once(": ").unwrap_or((head, "")).0 == name,
+            None if is_ours => push_line(alloc, &mut text, line)?,
             None => (),
         }
     }
