@@ -1,4 +1,4 @@
-//! Tests of the desk, of its tables and of its searches. Those of journals and vaults are tables.
+//! Tests of the desk and of what it stands on.
 #![tactic(auto)]
 
 #[cfg(test)]
@@ -6,14 +6,18 @@ mod book;
 #[cfg(test)]
 mod expect;
 #[cfg(test)]
+mod journal;
+#[cfg(test)]
 mod ledger;
 #[cfg(test)]
 mod query;
 #[cfg(test)]
 mod schema;
 #[cfg(test)]
+mod spoilt;
+#[cfg(test)]
 mod store;
 #[cfg(test)]
 mod tops;
 #[cfg(test)]
-mod zeroed;
+mod vault;

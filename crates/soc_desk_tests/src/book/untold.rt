@@ -3,14 +3,14 @@
 use super::acts::{Answer, told, with};
 use super::{FIREFOX, LIMITS, crash, disk, opened};
 use crate::expect::same;
-use crate::zeroed::{Zeroed, zeroed};
+use crate::spoilt::{Spoilt, zeroed};
 use soc_edge::Counted;
 use soc_schema::{Bare, Permission};
 use std::alloc::Global;
 use std::test::Fail;
 
 /// The answers to a raw read, a turn, a drain and a second submission of a crash whose record was lost.
-fn answers(alloc: Global, zeroed: &mut Counted<Zeroed>) -> Result<([Answer; 5], u32, u64), Fail> {
+fn answers(alloc: Global, zeroed: &mut Counted<Spoilt>) -> Result<([Answer; 5], u32, u64), Fail> {
     let raw = crash(alloc, FIREFOX)?;
     let again = crash(alloc, FIREFOX)?;
     let mut book = opened(alloc, zeroed, &Bare, LIMITS)?;

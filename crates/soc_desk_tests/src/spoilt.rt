@@ -1,24 +1,37 @@
-//! A disk in memory of which nothing is told, and that loses what it was given.
+//! A disk in memory of which nothing is told, and that doesn't keep what it was given.
 use soc_edge::{Counted, Device, Disk, Failed, MemDisk};
 
-/// Its calls are counted from 0: from one of them on each read gives zeros.
+/// Its calls are counted from 0: from one of them on each read gives zeros, and one write writes another byte than it was
+/// given, and fails.
 #[derive(Drop)]
-pub(crate) struct Zeroed {
-    disk: MemDisk,
-    from: u64,
+pub(crate) struct Spoilt {
+    pub(crate) disk: MemDisk,
+    zeros_from: u64,
+    torn: u64,
     calls: u64,
 }
 
 /// A disk whose reads give zeros from its call of this number on.
-pub(crate) fn zeroed(disk: MemDisk, from: u64) -> Counted<Zeroed> {
-    Counted::new(Zeroed {
+pub(crate) fn zeroed(disk: MemDisk, from: u64) -> Counted<Spoilt> {
+    Counted::new(Spoilt {
         disk,
-        from,
+        zeros_from: from,
+        torn: u64::MAX,
         calls: 0,
     })
 }
 
-impl Zeroed {
+/// A disk whose call of this number, which writes, is torn.
+pub(crate) fn torn(disk: MemDisk, call: u64) -> Counted<Spoilt> {
+    Counted::new(Spoilt {
+        disk,
+        zeros_from: u64::MAX,
+        torn: call,
+        calls: 0,
+    })
+}
+
+impl Spoilt {
     /// The number of this call.
     fn call(&mut self) -> u64 {
         let call = self.calls;
@@ -27,7 +40,7 @@ impl Zeroed {
     }
 }
 
-impl Device for Zeroed {
+impl Device for Spoilt {
     type Error = Failed;
 
     fn len(&mut self) -> Result<u64, Failed> {
@@ -38,14 +51,17 @@ impl Device for Zeroed {
     fn read_at(&mut self, place: u64, into: &mut [u8]) -> Result<usize, Failed> {
         let call = self.call();
         let answer = self.disk.read_at(place, into);
-        if self.from <= call {
+        if self.zeros_from <= call {
             into.fill(0);
         }
         answer
     }
 
     fn write_at(&mut self, place: u64, bytes: &[u8]) -> Result<(), Failed> {
-        self.call();
+        if self.call() == self.torn {
+            let _ = self.disk.write_at(place, b"\xFE");
+            return Err(Failed);
+        }
         self.disk.write_at(place, bytes)
     }
 
