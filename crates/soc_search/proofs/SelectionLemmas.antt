@@ -4,7 +4,7 @@ use Rattle.std.specs.Prelude.{not, ◌&&◌, ◌||◌}
 use Rattle.std.proofs.lemmas.Bool.{eq-eqb, ne_eqb, and_left, and_right, and_from, and_parts, or_cases, or_left, eqb-true, cases_eq}
 use Rattle.std.proofs.lemmas.Cmp.{nat_cmp_total, tied_itself}
 use Rattle.std.proofs.lemmas.List.Folds.{list_any_more, list_any_kept, list_all_more}
-use Rattle.std.specs.Ordering.{nat_cmp, is_eq}
+use Rattle.std.specs.Ordering.{nat_cmp, is_eq, ordering_reverse}
 use Rattle.std.specs.declared.cmp.Ordering.{Ordering}
 use Rattle.std.specs.declared.cmp.Ordering.TheVariants.{Less, Equal, Greater}
 use Rattle.std.specs.Option.{option_map_or}
@@ -13,9 +13,15 @@ use Rattle.std.proofs.lemmas.Option.{slice_get_within, slice_get-get_or}
 use Rattle.std.specs.List.{All, Contains}
 use Rattle.soc_base.proofs.Folk.{some-injective, or_second}
 use Rattle.soc_schema.specs.declared.value.Value.{Value}
+use Rattle.soc_schema.specs.declared.value.Value.TheVariants.{Text, Number, Flag}
+use Rattle.soc_schema.specs.declared.caller.Products.TheVariants.{Some as OnlyProducts}
+use Rattle.soc_schema.specs.Fields.{product_field}
+use Rattle.soc_schema.specs.Permits.{shows}
+use Rattle.std.specs.Str.{bytes_eq}
+use Rattle.std.proofs.lemmas.Map.Text.{is_eq-slice_cmp}
 use Rattle.soc_schema.specs.Rows.{value_of}
 use Rattle.soc_schema.specs.Orders.{value_cmp}
-use Rattle.soc_schema.specs.Values.{is_value, rows_with}
+use Rattle.soc_schema.specs.Values.{is_value, product_of, text_of}
 use Rattle.soc_store.specs.Stored.{PlacesRise, places_of}
 use Rattle.soc_schema.proofs.OrderLemmas.{value_total, value_exact}
 use Rattle.std.proofs.lemmas.List.{map-append, take_all, take_more, get_or-set_other}
@@ -218,6 +224,34 @@ joined_values set f test rows vs rise each joins =
     ∙ any_agree (λ v. inn s.0 (chosen_places f test rows v)) (λ v. test v && is_value v (value_of s.1 f)) vs
     (λ v. in_chosen (test v) s.0 (places_of f v rows) ∙ ap (λ b. test v && b) (selects_at (λ p. inn p (places_of f v rows)) (λ row. is_value v (value_of row f)) rows k d within (value_places f v rows rise)))
     ∙ has_chosen test (value_of s.1 f) vs (each k d within))
+
+-- the places of the rows of some products
+no_name : (names : List (List ℕ)) → list_any (λ _. false) names ≡ false
+no_name [] = refl
+no_name (n ∷ ns) = no_name ns
+
+same_bytes : (n t : List ℕ) → is_value (Text n) (Some (Text t)) ≡ bytes_eq t n
+same_bytes n t = ap is_eq (value_total.antisymm (Text n) (Text t)) ∙ back (value_cmp (Text t) (Text n)) ∙ is_eq-slice_cmp t n
+  where
+    back : (r : Ordering) → is_eq (ordering_reverse r) ≡ is_eq r
+    back Less = refl
+    back Equal = refl
+    back Greater = refl
+
+named : (names : List (List ℕ)) (o : Option Value) → list_any (λ n. is_value (Text n) o) names ≡ shows (OnlyProducts names) (text_of o)
+named names None = no_name names
+named names (Some (Text t)) = any_agree (λ n. is_value (Text n) (Some (Text t))) (bytes_eq t) names (λ n. same_bytes n t)
+named names (Some (Number m)) = no_name names
+named names (Some (Flag b)) = no_name names
+
+pub joined_names : (set : ℕ → Bool) (names : List (List ℕ)) (rows : List (ℕ × List Cell)) → PlacesRise rows → Joins set (λ n. places_of product_field (Text n) rows) names → Selects set (λ row. shows (OnlyProducts names) (product_of row)) rows
+joined_names set names rows rise joins =
+    selects_from set (λ row. shows (OnlyProducts names) (product_of row)) rows (λ k d within.
+    let s = get_or rows k d in
+    joins s.0
+    ∙ any_agree (λ n. inn s.0 (places_of product_field (Text n) rows)) (λ n. is_value (Text n) (value_of s.1 product_field)) names
+    (λ n. selects_at (λ p. inn p (places_of product_field (Text n) rows)) (λ row. is_value (Text n) (value_of row product_field)) rows k d within (value_places product_field (Text n) rows rise))
+    ∙ named names (value_of s.1 product_field))
 
 -- sets that meet
 pub selects_meet : (a b c : ℕ → Bool) (ta tb tc : List Cell → Bool) (rows : List (ℕ × List Cell)) → Selects a ta rows → Selects b tb rows → ((p : ℕ) → c p ≡ (a p && b p)) → ((row : List Cell) → tc row ≡ (ta row && tb row)) → Selects c tc rows

@@ -4,11 +4,11 @@ ghost use Rattle.std.specs.List.{filter, list_any};
 ghost use Rattle.std.specs.Option.{option_copied, option_map_or};
 ghost use Rattle.soc_schema.specs.declared.value.Cell.{Cell};
 ghost use Rattle.soc_schema.specs.Rows.{value_of};
-ghost use Rattle.soc_schema.specs.Fields.{product_field};
 ghost use Rattle.soc_schema.specs.Permits.{shows};
+ghost use Rattle.soc_schema.specs.declared.caller.Products.TheVariants as Products;
 ghost use Rattle.std.specs.Ordering.{is_eq};
 ghost use Rattle.soc_schema.specs.Orders.{value_cmp};
-ghost use Rattle.soc_schema.specs.Values.{text_of, sees};
+ghost use Rattle.soc_schema.specs.Values.{product_of, text_of, sees};
 ghost use Rattle.soc_store.specs.Stored.{PlacesRise};
 ghost use Rattle.soc_query.specs.Answers.{compares, is_exact, meets, meets_alone, meets_one};
 ghost use Rattle.soc_search.specs.inner.Places.{has};
@@ -18,9 +18,9 @@ ghost use Rattle.soc_search.specs.inner.Selections.{AreAmong, AreCandidates, Sel
 use crate::condition::{chooses, exact_value, is_exact, is_reversed, is_run, operand};
 use crate::places::PlaceSet;
 use crate::runs::run_of;
-use soc_base::NoMemory;
+use soc_base::{NoMemory, TextList};
 use soc_query::{Comparison, Condition, Query, Test};
-use soc_schema::{Caller, Field, Products, Value, visible};
+use soc_schema::{Caller, Field, Products, Value};
 use soc_store::Store;
 use std::alloc::Global;
 
@@ -192,21 +192,19 @@ fn visible_places(
 {
     match &caller.products {
         Products::All => Ok(None),
-        Products::Some(_) => Ok(Some(shown_places(alloc, store, caller)?)),
+        Products::Some(names) => Ok(Some(shown_places(alloc, store, names.as_list())?)),
     }
 }
 
-/// The places of the rows whose product the caller may see.
-fn shown_places(alloc: Global, store: &Store, caller: &Caller) -> Result<PlaceSet, NoMemory>
-    ensures { IfOk result (λ set. Selects (has set) (λ row. option_map_or (λ v. shows caller.now.products (text_of (Some v))) (value_of row product_field) false) store.now) }
+/// The places of the rows of these products.
+fn shown_places(alloc: Global, store: &Store, names: &TextList) -> Result<PlaceSet, NoMemory>
+    ensures { IfOk result (λ set. Selects (has set) (λ row. shows (Products.Some names.now) (product_of row)) store.now) }
 {
     let mut set = PlaceSet::new(alloc);
     store.places_rise();
-    for i in 0..store.values(Field::PRODUCT) {
-        let (value, places, _) = store.term_at(Field::PRODUCT, i);
-        if visible(caller, text_of(value)) {
-            set.add_all(places)?;
-        }
+    for i in 0..names.len() {
+        let product = Value::text(alloc, names.at(i))?;
+        set.add_all(store.places(Field::PRODUCT, &product))?;
     }
     Ok(set)
 }

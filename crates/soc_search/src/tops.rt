@@ -30,6 +30,12 @@ pub fn tops_of<L: Ledger>(
     ensures few { steps.new ≤ steps.old + length (rows_with product_field (Value.Text query.now.product) store.now) }
 {
     let found = rows_found(alloc, store, query, steps)?;
+    if found.places.is_empty() {
+        return Ok(Tops {
+            total: 0,
+            tops: TopList::new(alloc),
+        });
+    }
     let counts = counts_among(alloc, store, found.places.as_slice())?;
     let ranked = ranking(alloc, counts.as_slice())?;
     let old_counts = counts_among(alloc, store, found.old_places.as_slice())?;
