@@ -6,6 +6,7 @@ pub mod Found
 pub mod Lasting
 pub mod Logs
 pub mod Steps
+pub mod Together
 pub mod Unseen
 pub mod Views
 pub mod Granted

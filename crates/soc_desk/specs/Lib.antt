@@ -1,5 +1,6 @@
 pub mod Asks
 pub mod Basis
+pub mod Batches
 pub mod Commands
 pub mod Decisions
 pub mod Desk

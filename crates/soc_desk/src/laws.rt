@@ -2,6 +2,7 @@
 ghost use Rattle.std.specs.Prelude.{IsTrue};
 ghost use Rattle.soc_desk.specs.Asks.{Asks};
 ghost use Rattle.soc_desk.specs.Basis.{Basis};
+ghost use Rattle.soc_desk.specs.Batches.{BatchesAreRuns};
 ghost use Rattle.soc_desk.specs.Laws.{HidesCrashes, KeepsViews, HidesFields, ReadsShowTheView, DueByHistory, DrainsAll, DigestsDecide, StepsGrow, Acknowledges, Lasts};
 ghost use Rattle.soc_desk.specs.State.{State};
 ghost use Rattle.soc_desk.specs.declared.desk.Command.{Command};
@@ -61,4 +62,9 @@ pub fn changes_last<D: Disk>()
         → Asks basis before (D.state disk) command receipt after (D.state disk') → Lasts before (D.state disk) after (D.state disk') }
     ensures goes_on { (first second third : State) (disk disk' disk'' : D) → Lasts first (D.state disk) second (D.state disk')
         → Lasts second (D.state disk') third (D.state disk'') → Lasts first (D.state disk) third (D.state disk'') }
+{}
+
+/// Submissions that were written together and all stored are a run of single steps.
+pub fn batches_are_runs()
+    ensures { BatchesAreRuns }
 {}

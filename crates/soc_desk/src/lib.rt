@@ -8,6 +8,6 @@ mod laws;
 pub use desk::{Command, Desk, Limits, Receipt, Refusal, Reply};
 pub use keeping::KeepingDesk;
 pub use laws::{
-    acknowledges, changes_last, digests_decide, drains_all, due_by_history, hides_crashes,
-    hides_fields, keeps_views, reads_show_the_view, steps_grow,
+    acknowledges, batches_are_runs, changes_last, digests_decide, drains_all, due_by_history,
+    hides_crashes, hides_fields, keeps_views, reads_show_the_view, steps_grow,
 };
