@@ -10,7 +10,7 @@ ghost use Rattle.std.specs.Prelude.{◌≤◌, ◌↔◌, length, IfOk, IsErr, I
 mod tests;
 
 use crate::notices::tell;
-use std::fs::{File, OpenOptions, Permissions};
+use std::fs::{File, OpenOptions, Permissions, TryLockError};
 use std::io::{self, ErrorKind};
 use std::os::fd::AsRawFd;
 use std::os::unix::fs::{FileExt, OpenOptionsExt, PermissionsExt};
@@ -38,7 +38,7 @@ impl FileDisk {
         if !metadata.is_file() {
             return Err(ErrorKind::InvalidInput.into());
         }
-        file.try_lock()?;
+        lock(rt, &file, path)?;
         settle(&file)?;
         match File::open(rt, folder_of(path)).and_then(|folder| folder.sync_all()) {
             Err(error) if is_made => return Err(error),
@@ -87,6 +87,18 @@ fn open_or_make<R: Files<File = File>>(rt: &R, path: &str) -> io::Result<(File, 
         Err(error) => Err(error),
         Ok(file) => Ok((file, false)),
     }
+}
+
+/// Locks a file, unless another process has done so, which is told.
+fn lock<R: Eprint>(rt: &R, file: &File, path: &str) -> io::Result<()> {
+    let answer = file.try_lock();
+    if let Err(TryLockError::WouldBlock) = &answer {
+        tell(
+            rt,
+            format_args!("socorro: {path}: another process has it open"),
+        );
+    }
+    Ok(answer?)
 }
 
 /// Tells of a file that was made, is empty, or may be read by others.
