@@ -40,7 +40,9 @@ impl Arm64 {
         places: &P,
         memory: &M,
     ) -> Option<(Arm64, Trust)>
-        ensures { option_map (λ found. (found.0.values, found.1)) result ≡ spec.caller64 (M.word memory.now) (P.in_module places.now) (P.in_code places.now) (P.rules places.now) first self.now.values }
+        ensures { option_map (λ found. (found.0.values, found.1)) result
+            ≡ spec.caller64 (M.word memory.now) (P.in_module places.now) (P.in_code places.now)
+            (P.rules places.now) first self.now.values }
     {
         let registers = registers_on_arm64(self);
         let caller = registers.caller(first, &Around { places, memory })?;

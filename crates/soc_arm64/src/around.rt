@@ -23,7 +23,8 @@ impl<'a, P: Places, M: Memory> Memory for Around<'a, P, M> {
 impl<'a, P: Places, M: Memory> Surroundings for Around<'a, P, M> {
     ghost is_in_module = { λ around. P.in_module around.places.now };
 
-    ghost takes = { λ around. spec.takes (P.in_module around.places.now) (P.in_code around.places.now) };
+    ghost takes = { λ around. spec.takes (P.in_module around.places.now)
+        (P.in_code around.places.now) };
 
     ghost rules = { λ around. P.rules around.places.now };
 

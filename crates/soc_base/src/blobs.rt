@@ -115,7 +115,8 @@ impl<'a> IntoIterator for &'a Blobs {
 
     type IntoIter = BlobPairs<'a>;
 
-    ghost into_iter_gives = { λ m it. (it ≡ m.now) × IsRising m.now × AllByRecursion HasTextName m.now };
+    ghost into_iter_gives = { λ m it. (it ≡ m.now) × IsRising m.now
+        × AllByRecursion HasTextName m.now };
 
     fn into_iter(self) -> BlobPairs<'a> {
         self.iter()

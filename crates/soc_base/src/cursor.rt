@@ -46,7 +46,8 @@ impl<'a> Cursor<'a> {
 
     /// The next `count` bytes.
     pub fn take(&mut self, count: usize) -> Option<&'a [u8]>
-        ensures takes { Takes (λ b. b.now) (λ b. length b ≡ count) (λ b. b) result self.old self.new }
+        ensures takes { Takes (λ b. b.now) (λ b. length b ≡ count)
+            (λ b. b) result self.old self.new }
         ensures reads { ReadsAs (λ b. b.now) (bytes_at count) result self.old self.new }
     {
         if self.rest.len() < count {
@@ -70,7 +71,8 @@ impl<'a> Cursor<'a> {
 
     /// A number of 4 bytes, the lowest first.
     pub fn u32(&mut self) -> Option<u32>
-        ensures takes { Takes (λ n. n) (λ n. n < 2 ^ 32) (to_le_bytes w32) result self.old self.new }
+        ensures takes { Takes (λ n. n) (λ n. n < 2 ^ 32)
+            (to_le_bytes w32) result self.old self.new }
         ensures reads { ReadsAs (λ n. n) (number_at w32) result self.old self.new }
     {
         let Some((front, rest)) = self.rest.split_first_chunk::<4>() else {
@@ -82,7 +84,8 @@ impl<'a> Cursor<'a> {
 
     /// A number of 8 bytes, the lowest first.
     pub fn u64(&mut self) -> Option<u64>
-        ensures takes { Takes (λ n. n) (λ n. n < 2 ^ 64) (to_le_bytes w64) result self.old self.new }
+        ensures takes { Takes (λ n. n) (λ n. n < 2 ^ 64)
+            (to_le_bytes w64) result self.old self.new }
         ensures reads { ReadsAs (λ n. n) (number_at w64) result self.old self.new }
     {
         let Some((front, rest)) = self.rest.split_first_chunk::<8>() else {
@@ -95,7 +98,8 @@ impl<'a> Cursor<'a> {
     /// Bytes behind their number in 4 bytes.
     #[tactic(auto, unfolding(crate::specs::Cursor::blob_at))]
     pub fn counted(&mut self) -> Option<&'a [u8]>
-        ensures takes { Takes (λ b. b.now) (λ b. length b < 2 ^ 32) counted result self.old self.new }
+        ensures takes { Takes (λ b. b.now)
+            (λ b. length b < 2 ^ 32) counted result self.old self.new }
         ensures reads { ReadsAs (λ b. b.now) blob_at result self.old self.new }
     {
         let mut ahead = Cursor { rest: self.rest };
@@ -112,7 +116,8 @@ impl<'a> Cursor<'a> {
     /// A text behind the number of its bytes in 4 bytes.
     #[tactic(auto, unfolding(crate::specs::Cursor::text_at))]
     pub fn text(&mut self) -> Option<&'a str>
-        ensures takes { Takes (λ t. t.now) (λ t. IsUtf8 t × (length t < 2 ^ 32)) counted result self.old self.new }
+        ensures takes { Takes (λ t. t.now)
+            (λ t. IsUtf8 t × (length t < 2 ^ 32)) counted result self.old self.new }
         ensures reads { ReadsAs (λ t. t.now) text_at result self.old self.new }
     {
         let mut ahead = Cursor { rest: self.rest };
@@ -128,7 +133,8 @@ impl<'a> Cursor<'a> {
 }
 
 pub(crate) fn text_of(blob: &[u8]) -> Option<&str>
-    ensures { MatchOption result (is_utf8 blob.now ≡ false) (λ text. (is_utf8 blob.now ≡ true) × (text.now ≡ blob.now)) }
+    ensures { MatchOption result (is_utf8 blob.now ≡ false)
+        (λ text. (is_utf8 blob.now ≡ true) × (text.now ≡ blob.now)) }
 {
     match str::from_utf8(blob) {
         Ok(text) => Some(text),

@@ -32,14 +32,17 @@ pub fn calls_of(alloc: Global, case: &Table, key: &'static str) -> Result<Number
 
 /// The number at a key, or this one where the key isn't there.
 pub fn number_of(case: &Table, key: &'static str, default: u64) -> Result<u64, Fault>
-    ensures value { IfOk result (λ number. spec.number_at key.entry.now default (table_view case.now) ≡ Some number) }
-    ensures wrong { IfErr result (λ _. spec.number_at key.entry.now default (table_view case.now) ≡ None) }
+    ensures value { IfOk result (λ number.
+        spec.number_at key.entry.now default (table_view case.now) ≡ Some number) }
+    ensures wrong { IfErr result (λ _. spec.number_at key.entry.now default (table_view case.now)
+        ≡ None) }
 {
     number_or(case, key, default, 0, u64::MAX).ok_or(Fault::Wrong(key))
 }
 
 fn number_in(value: &Value, key: &'static str) -> Result<u64, Fault>
-    ensures value { IfOk result (λ number. keys.number_of 0 spec.most (view value.now) ≡ Some number) }
+    ensures value { IfOk result (λ number. keys.number_of 0 spec.most (view value.now)
+        ≡ Some number) }
     ensures wrong { IfErr result (λ _. keys.number_of 0 spec.most (view value.now) ≡ None) }
 {
     soc_toml::number_of(value, 0, u64::MAX).ok_or(Fault::Wrong(key))
@@ -47,7 +50,8 @@ fn number_in(value: &Value, key: &'static str) -> Result<u64, Fault>
 
 /// Whether a key holds true. Without the key it is false.
 pub fn flag_of(case: &Table, key: &'static str) -> Result<bool, Fault>
-    ensures value { IfOk result (λ flag. spec.flag_at key.entry.now (table_view case.now) ≡ Some flag) }
+    ensures value { IfOk result (λ flag. spec.flag_at key.entry.now (table_view case.now)
+        ≡ Some flag) }
     ensures wrong { IfErr result (λ _. spec.flag_at key.entry.now (table_view case.now) ≡ None) }
 {
     match value_at(case, key) {
@@ -58,7 +62,8 @@ pub fn flag_of(case: &Table, key: &'static str) -> Result<bool, Fault>
 
 /// The text at a key.
 pub fn text_of<'a>(case: &'a Table, key: &'static str) -> Result<&'a str, Fault>
-    ensures value { IfOk result (λ text. keys.text_at key.entry.now (table_view case.now) ≡ Some text.now) }
+    ensures value { IfOk result (λ text. keys.text_at key.entry.now (table_view case.now)
+        ≡ Some text.now) }
     ensures wrong { IfErr result (λ _. keys.text_at key.entry.now (table_view case.now) ≡ None) }
 {
     text_at(case, key).ok_or(Fault::Wrong(key))

@@ -26,8 +26,11 @@ pub fn eval<M: Memory>(
     cfa: Option<u64>,
     memory: &M,
 ) -> Option<u64>
-    ensures value { result ≡ rule_value (known (width_of registers.now.arch) (register_of registers.now) cfa (M.word memory.now)) rule.now }
-    ensures word { HoldsWords (width_of registers.now.arch) (register_of registers.now) cfa → IfSome result (λ value. value < values_of (width_of registers.now.arch)) }
+    ensures value { result ≡ rule_value
+        (known (width_of registers.now.arch) (register_of registers.now) cfa (M.word memory.now))
+        rule.now }
+    ensures word { HoldsWords (width_of registers.now.arch) (register_of registers.now) cfa
+        → IfSome result (λ value. value < values_of (width_of registers.now.arch)) }
 {
     eval_bank(rule, registers, cfa, memory)
 }
@@ -40,8 +43,10 @@ pub fn eval_bank<B: Bank, M: Memory>(
     cfa: Option<u64>,
     memory: &M,
 ) -> Option<u64>
-    ensures value { result ≡ rule_value (known (B.width bank.now) (B.value bank.now) cfa (M.word memory.now)) rule.now }
-    ensures word { HoldsWords (B.width bank.now) (B.value bank.now) cfa → IfSome result (λ value. value < values_of (B.width bank.now)) }
+    ensures value { result ≡ rule_value
+        (known (B.width bank.now) (B.value bank.now) cfa (M.word memory.now)) rule.now }
+    ensures word { HoldsWords (B.width bank.now) (B.value bank.now) cfa
+        → IfSome result (λ value. value < values_of (B.width bank.now)) }
 {
     let mut stack = Stack::new();
     let mut rest = rule;
@@ -60,9 +65,12 @@ fn take_token<B: Bank, M: Memory>(
     memory: &M,
     stack: &mut Stack,
 ) -> Option<()>
-    ensures stack { let taken = after_token (known (B.width bank.now) (B.value bank.now) cfa (M.word memory.now)) token.now stack.old in
+    ensures stack { let taken = after_token
+        (known (B.width bank.now) (B.value bank.now) cfa (M.word memory.now)) token.now stack.old in
         MatchOption result (taken ≡ None) (λ _. taken ≡ Some stack.new) }
-    ensures words { HoldsWords (B.width bank.now) (B.value bank.now) cfa → AreWords (B.width bank.now) stack.old → OnSome result (AreWords (B.width bank.now) stack.new) }
+    ensures words { HoldsWords (B.width bank.now) (B.value bank.now) cfa
+        → AreWords (B.width bank.now) stack.old
+        → OnSome result (AreWords (B.width bank.now) stack.new) }
 {
     if let Some(operator) = operator_of(token) {
         return calculate(operator, bank, stack);
@@ -75,8 +83,10 @@ fn take_token<B: Bank, M: Memory>(
 
 /// Puts the answer of an operator in place of its operands.
 fn calculate<B: Bank>(operator: Operator, bank: &B, stack: &mut Stack) -> Option<()>
-    ensures stack { MatchOption result (calculated (B.width bank.now) operator stack.old ≡ None) (λ _. calculated (B.width bank.now) operator stack.old ≡ Some stack.new) }
-    ensures words { AreWords (B.width bank.now) stack.old → OnSome result (AreWords (B.width bank.now) stack.new) }
+    ensures stack { MatchOption result (calculated (B.width bank.now) operator stack.old ≡ None)
+        (λ _. calculated (B.width bank.now) operator stack.old ≡ Some stack.new) }
+    ensures words { AreWords (B.width bank.now) stack.old
+        → OnSome result (AreWords (B.width bank.now) stack.new) }
 {
     let upper = stack.pop()?;
     let lower = stack.pop()?;
@@ -85,8 +95,12 @@ fn calculate<B: Bank>(operator: Operator, bank: &B, stack: &mut Stack) -> Option
 
 /// Puts the word at an address in place of the address.
 fn load<B: Bank, M: Memory>(bank: &B, memory: &M, stack: &mut Stack) -> Option<()>
-    ensures stack { MatchOption result (loaded (λ address. M.word memory.now address (B.width bank.now)) stack.old ≡ None) (λ _. loaded (λ address. M.word memory.now address (B.width bank.now)) stack.old ≡ Some stack.new) }
-    ensures words { AreWords (B.width bank.now) stack.old → OnSome result (AreWords (B.width bank.now) stack.new) }
+    ensures stack { MatchOption result
+        (loaded (λ address. M.word memory.now address (B.width bank.now)) stack.old ≡ None)
+        (λ _. loaded (λ address. M.word memory.now address (B.width bank.now)) stack.old
+        ≡ Some stack.new) }
+    ensures words { AreWords (B.width bank.now) stack.old
+        → OnSome result (AreWords (B.width bank.now) stack.new) }
 {
     let address = stack.pop()?;
     stack.push(memory.word(address, bank.width())?)

@@ -60,7 +60,8 @@ fn integer_of(width: u8, token: &str) -> Option<u64>
 /// The value that a token pushes; `None` where it isn't known.
 pub fn operand_of<B: Bank>(token: &str, bank: &B, cfa: Option<u64>) -> Option<u64>
     ensures value { result ≡ spec.operand_of (B.width bank.now) (B.value bank.now) cfa token.now }
-    ensures word { HoldsWords (B.width bank.now) (B.value bank.now) cfa → IfSome result (λ value. value < values_of (B.width bank.now)) }
+    ensures word { HoldsWords (B.width bank.now) (B.value bank.now) cfa
+        → IfSome result (λ value. value < values_of (B.width bank.now)) }
 {
     if token == ".cfa" {
         cfa

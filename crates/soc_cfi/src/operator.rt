@@ -56,7 +56,8 @@ pub fn less(width: u8, number: u64, other: u64) -> u64
 pub fn apply(width: u8, operator: Operator, lower: u64, upper: u64) -> Option<u64>
     requires { IsWidth width }
     ensures value { result ≡ spec.applied width operator lower upper }
-    ensures word { lower < spec.values_of width → IfSome result (λ value. value < spec.values_of width) }
+    ensures word { lower < spec.values_of width
+        → IfSome result (λ value. value < spec.values_of width) }
 {
     match operator {
         Operator::Add => Some(wrapped(width, lower.wrapping_add(upper))),

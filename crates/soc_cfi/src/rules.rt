@@ -46,7 +46,8 @@ impl<'a> Rules<'a> {
     /// texts.
     pub fn all(&self, alloc: Global, names: &[&str]) -> Result<Vec<Option<&'a str>>, NoMemory>
         ensures len { IfOk result (λ rules. vec_len rules ≡ length names.now) }
-        ensures each { IfOk result (λ rules. (i : ℕ) → i < length names.now → rule_at rules.items i ≡ rule_of (in_force self.now) (name_at names.now i)) }
+        ensures each { IfOk result (λ rules. (i : ℕ) → i < length names.now
+            → rule_at rules.items i ≡ rule_of (in_force self.now) (name_at names.now i)) }
     {
         let none = vec![in alloc; None; names.len()]?;
         let mut found = with_rules(none, names, self.span.init());
@@ -66,7 +67,11 @@ impl<'a> Rules<'a> {
         requires inside { i < length (span_of self.now.span).deltas }
         requires len { vec_len found ≡ length names.now }
         ensures len { vec_len result ≡ length names.now }
-        ensures each { (k : ℕ) → k < length names.now → IfSome (slice_get (span_of self.now.span).deltas i) (λ delta. rule_at result.items k ≡ option_or (delta_rule self.now.offset delta (name_at names.now k)) (rule_at found.entry.items k)) }
+        ensures each { (k : ℕ) → k < length names.now
+            → IfSome (slice_get (span_of self.now.span).deltas i)
+            (λ delta. rule_at result.items k
+            ≡ option_or (delta_rule self.now.offset delta (name_at names.now k))
+            (rule_at found.entry.items k)) }
     {
         let (address, text) = self.span.delta(i);
         if address <= self.offset {
@@ -79,7 +84,8 @@ impl<'a> Rules<'a> {
     /// The rule that a delta has for a register, where the delta is in force.
     fn rule_of_delta(&self, i: usize, register: &str) -> Option<&'a str>
         requires { i < length (span_of self.now.span).deltas }
-        ensures { IfSome (slice_get (span_of self.now.span).deltas i) (λ delta. option_copied result ≡ delta_rule self.now.offset delta register.now) }
+        ensures { IfSome (slice_get (span_of self.now.span).deltas i)
+            (λ delta. option_copied result ≡ delta_rule self.now.offset delta register.now) }
     {
         let (address, text) = self.span.delta(i);
         if self.offset < address {

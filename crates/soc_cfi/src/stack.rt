@@ -38,7 +38,8 @@ impl Stack {
 
     /// Puts a value on top; `None` where the stack is full.
     pub fn push(&mut self, value: u64) -> Option<()>
-        ensures { MatchOption result (pushed value self.old ≡ None) (λ _. pushed value self.old ≡ Some self.new) }
+        ensures { MatchOption result (pushed value self.old ≡ None)
+            (λ _. pushed value self.old ≡ Some self.new) }
     {
         if self.top == 0 {
             return None;
@@ -50,7 +51,8 @@ impl Stack {
 
     /// Takes the topmost value away; `None` where there is none.
     pub fn pop(&mut self) -> Option<u64>
-        ensures cases { MatchOption result ((self.old ≡ []) × (self.new ≡ [])) (λ value. self.old ≡ value ∷ self.new) }
+        ensures cases { MatchOption result ((self.old ≡ []) × (self.new ≡ []))
+            (λ value. self.old ≡ value ∷ self.new) }
         ensures room { OnSome result (length self.new < stack_size) }
     {
         if self.top == STACK_SIZE {

@@ -12,7 +12,9 @@ struct OneWord {
 impl Memory for OneWord {
     ghost use Rattle.std.specs.Prelude.{◌==◌, if◌then◌else◌, Some, None};
 
-    ghost word = { λ memory address width. if address == memory.address then (if width == 4 then Some 7 else Some 0x1_0000_0007) else None };
+    ghost word = { λ memory address width.
+        if address == memory.address then
+        (if width == 4 then Some 7 else Some 0x1_0000_0007) else None };
 
     fn word(&self, address: u64, width: u8) -> Option<u64> {
         if address == self.address {

@@ -25,7 +25,8 @@ fn is_name(part: &str) -> bool
 
 /// Whether a part names this register.
 fn names(part: &str, register: &str) -> bool
-    ensures { result ≡ option_map_or (λ name. bytes_eq name register.now) (spec.named_by part.now) false }
+    ensures { result ≡ option_map_or (λ name. bytes_eq name register.now)
+        (spec.named_by part.now) false }
 {
     named_by(part).is_some_and(|name| name == register)
 }
@@ -69,7 +70,8 @@ pub fn find_rule<'a>(text: &'a str, register: &str) -> Option<&'a str>
 
 /// The rule of one name: this one, where the name is the register's, or else the one before it.
 fn chosen<'a>(register: &str, rule: &'a str, name: &str, before: Option<&'a str>) -> Option<&'a str>
-    ensures { option_copied result ≡ (if bytes_eq register.now name.now then Some rule.now else option_copied before.entry) }
+    ensures { option_copied result
+        ≡ (if bytes_eq register.now name.now then Some rule.now else option_copied before.entry) }
 {
     if register == name { Some(rule) } else { before }
 }
@@ -83,7 +85,9 @@ fn with_rule<'a>(
 ) -> Vec<Option<&'a str>>
     requires { vec_len found ≡ length names.now }
     ensures len { vec_len result ≡ length names.now }
-    ensures each { (i : ℕ) → i < length names.now → rule_at result.items i ≡ (if bytes_eq register.now (name_at names.now i) then Some rule.now else rule_at found.entry.items i) }
+    ensures each { (i : ℕ) → i < length names.now
+        → rule_at result.items i ≡ (if bytes_eq register.now
+        (name_at names.now i) then Some rule.now else rule_at found.entry.items i) }
 {
     let mut found = found;
     for i in 0..names.len() {
@@ -101,7 +105,9 @@ fn with_part<'a>(
 ) -> Vec<Option<&'a str>>
     requires { vec_len found ≡ length names.now }
     ensures len { vec_len result ≡ length names.now }
-    ensures each { (i : ℕ) → i < length names.now → rule_at result.items i ≡ option_or (begun_by part.now later.now (name_at names.now i)) (rule_at found.entry.items i) }
+    ensures each { (i : ℕ) → i < length names.now
+        → rule_at result.items i ≡ option_or (begun_by part.now later.now (name_at names.now i))
+        (rule_at found.entry.items i) }
 {
     let Some(register) = named_by(part) else {
         return found;
@@ -118,7 +124,10 @@ pub fn with_rules<'a>(
 ) -> Vec<Option<&'a str>>
     requires { vec_len found ≡ length names.now }
     ensures len { vec_len result ≡ length names.now }
-    ensures each { (i : ℕ) → i < length names.now → rule_at result.items i ≡ option_or (spec.rule_of (spec.rules_of text.now) (name_at names.now i)) (rule_at found.entry.items i) }
+    ensures each { (i : ℕ) → i < length names.now
+        → rule_at result.items i ≡ option_or
+        (spec.rule_of (spec.rules_of text.now) (name_at names.now i))
+        (rule_at found.entry.items i) }
 {
     let mut found = found;
     let mut rest = text;

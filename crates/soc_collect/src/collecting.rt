@@ -43,7 +43,8 @@ pub fn collect<
     ensures asks { (steps : List Step) × AsksAll K.Asks desk.old steps desk.new }
     ensures connections { served.new.connections ≡ ticket.new.handed.amount }
     ensures kept { (served.new.kept ≡ K.added desk.new) × (served.new.kept < 2 ^ 60) }
-    ensures parts { (ticket.new.handed.parts ≡ ticket.old.handed.parts) × (ticket.new.refused.parts ≡ ticket.old.refused.parts) }
+    ensures parts { (ticket.new.handed.parts ≡ ticket.old.handed.parts)
+        × (ticket.new.refused.parts ≡ ticket.old.refused.parts) }
     ensures over { (served.new.stopped ≡ true) ⊎ (0 < ticket.new.refused.amount) }
 {
     let mut clock = SharedClock::new(rt, &shared.clock);

@@ -74,11 +74,15 @@ impl<L: Listener, N: Ledger, M: Ledger, J: Naming> Door<L, N, M, J> {
         requires { (0 < mine.old.handed.parts) × (0 < mine.old.refused.parts) }
         ensures gives { MatchOption result
             (GivesNone (L.told self.old.listener) (L.told self.new.listener) self.old.failed self.new.failed)
-            (λ conn. GivesConn (L.told self.old.listener) (L.told self.new.listener) self.old.failed self.new.failed (L.Conn.told conn)) }
+            (λ conn. GivesConn (L.told self.old.listener)
+            (L.told self.new.listener) self.old.failed self.new.failed (L.Conn.told conn)) }
         ensures counts { MatchOption result
-            ((mine.new.handed.amount ≡ mine.old.handed.amount) × (mine.new.refused.amount ≡ mine.old.refused.amount + 1))
-            (λ _. (mine.new.handed.amount ≡ mine.old.handed.amount + 1) × (mine.new.refused.amount ≡ mine.old.refused.amount)) }
-        ensures parts { (mine.new.handed.parts ≡ mine.old.handed.parts) × (mine.new.refused.parts ≡ mine.old.refused.parts) }
+            ((mine.new.handed.amount ≡ mine.old.handed.amount)
+            × (mine.new.refused.amount ≡ mine.old.refused.amount + 1))
+            (λ _. (mine.new.handed.amount ≡ mine.old.handed.amount + 1)
+            × (mine.new.refused.amount ≡ mine.old.refused.amount)) }
+        ensures parts { (mine.new.handed.parts ≡ mine.old.handed.parts)
+            × (mine.new.refused.parts ≡ mine.old.refused.parts) }
         ensures room { IfSome result (λ _. mine.new.handed.amount < 2 ^ 64) }
     {
         match self.listener.accept() {
@@ -101,8 +105,10 @@ impl<L: Listener, N: Ledger, M: Ledger, J: Naming> Door<L, N, M, J> {
 
     /// Changes nothing: a ticket counts no more connections than the listener handed out.
     pub fn confirm(&mut self, ticket: &mut Ticket<N, M>)
-        ensures amounts { (ticket.new.handed.amount ≡ ticket.old.handed.amount) × (ticket.new.refused.amount ≡ ticket.old.refused.amount) }
-        ensures parts { (ticket.new.handed.parts ≡ ticket.old.handed.parts) × (ticket.new.refused.parts ≡ ticket.old.refused.parts) }
+        ensures amounts { (ticket.new.handed.amount ≡ ticket.old.handed.amount)
+            × (ticket.new.refused.amount ≡ ticket.old.refused.amount) }
+        ensures parts { (ticket.new.handed.parts ≡ ticket.old.handed.parts)
+            × (ticket.new.refused.parts ≡ ticket.old.refused.parts) }
         ensures short { ticket.new.handed.amount < 2 ^ 64 }
     {
         self.handed.audit(&mut ticket.handed);

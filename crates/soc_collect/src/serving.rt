@@ -42,7 +42,8 @@ pub fn serve_one<K: KeepingDesk, X: Conn, C: Clock, W: Draws>(
         × WasPokedWhere X.told X.Pokes stopped result.conn }
     ensures never_fall { NeverFall (X.told conn) (X.told result.conn) }
     ensures unread { IfNone result.end (X.told result.conn ≡ X.told conn) }
-    ensures cause { HasCause (result.end ≡ Some SessionEnd.ReadFault) (result.end ≡ Some SessionEnd.WriteFault) (X.told conn) (X.told result.conn) }
+    ensures cause { HasCause (result.end ≡ Some SessionEnd.ReadFault)
+        (result.end ≡ Some SessionEnd.WriteFault) (X.told conn) (X.told result.conn) }
 {
     let mut conn = conn;
     buffer.clear();
@@ -73,7 +74,8 @@ fn attend<K: KeepingDesk, X: Source + Sink, C: Clock, W: Draws>(
     ensures added { (K.added desk.old ≤ K.added desk.new) × (K.added desk.new < 2 ^ 60) }
     ensures never_fall { NeverFall (X.told conn.old) (X.told conn.new) }
     ensures unread { IfNone result.0 (X.told conn.new ≡ X.told conn.old) }
-    ensures cause { HasCause (result.0 ≡ Some SessionEnd.ReadFault) (result.0 ≡ Some SessionEnd.WriteFault) (X.told conn.old) (X.told conn.new) }
+    ensures cause { HasCause (result.0 ≡ Some SessionEnd.ReadFault)
+        (result.0 ≡ Some SessionEnd.WriteFault) (X.told conn.old) (X.told conn.new) }
 {
     let mut watched = Watched {
         desk,
@@ -99,10 +101,12 @@ fn answer<K: KeepingDesk, X: Source + Sink, C: Clock, W: Draws>(
         (around (X.told conn.old) watched.old.desk.now (outlook (C.told clock.old) (W.told draws.old)))
         (around (X.told conn.new) watched.new.desk.now (outlook (C.told clock.new) (W.told draws.new)))
         buffer.new result watched.new.stopped }
-    ensures added { (K.added watched.old.desk.now ≤ K.added watched.new.desk.now) × (K.added watched.new.desk.now < 2 ^ 60) }
+    ensures added { (K.added watched.old.desk.now ≤ K.added watched.new.desk.now)
+        × (K.added watched.new.desk.now < 2 ^ 60) }
     ensures never_fall { NeverFall (X.told conn.old) (X.told conn.new) }
     ensures unread { IfNone result (X.told conn.new ≡ X.told conn.old) }
-    ensures cause { HasCause (result ≡ Some SessionEnd.ReadFault) (result ≡ Some SessionEnd.WriteFault) (X.told conn.old) (X.told conn.new) }
+    ensures cause { HasCause (result ≡ Some SessionEnd.ReadFault)
+        (result ≡ Some SessionEnd.WriteFault) (X.told conn.old) (X.told conn.new) }
 {
     if has_stopped(watched) {
         return None;
@@ -113,7 +117,8 @@ fn answer<K: KeepingDesk, X: Source + Sink, C: Clock, W: Draws>(
 
 /// Asks the desk for an id that is never drawn, to see whether it has stopped.
 fn has_stopped<K: Desk>(desk: &mut K) -> bool
-    ensures { (receipt : Receipt) × K.Asks desk.old (Fetch no_crash) receipt desk.new × (result ≡ receipt.stopped) }
+    ensures { (receipt : Receipt) × K.Asks desk.old (Fetch no_crash) receipt desk.new
+        × (result ≡ receipt.stopped) }
 {
     desk.ask(Command::Fetch { id: no_crash() }).stopped
 }

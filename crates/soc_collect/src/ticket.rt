@@ -17,7 +17,8 @@ impl<N: Ledger, M: Ledger> Ticket<N, M> {
         requires unused { (self.old.handed.amount ≡ 0) × (self.old.refused.amount ≡ 0) }
         ensures parts { (result.handed.parts ≡ 1) × (result.refused.parts ≡ 1) }
         ensures unused { (result.handed.amount ≡ 0) × (result.refused.amount ≡ 0) }
-        ensures parts_left { (self.new.handed.parts + 1 ≡ self.old.handed.parts) × (self.new.refused.parts + 1 ≡ self.old.refused.parts) }
+        ensures parts_left { (self.new.handed.parts + 1 ≡ self.old.handed.parts)
+            × (self.new.refused.parts + 1 ≡ self.old.refused.parts) }
         ensures still_unused { (self.new.handed.amount ≡ 0) × (self.new.refused.amount ≡ 0) }
     {
         Ticket {
@@ -29,7 +30,8 @@ impl<N: Ledger, M: Ledger> Ticket<N, M> {
     /// Adds the parts of another ticket, and what was counted on it.
     pub fn merge(&mut self, other: Ticket<N, M>)
         ensures handed_parts { self.new.handed.parts ≡ self.old.handed.parts + other.handed.parts }
-        ensures refused_parts { self.new.refused.parts ≡ self.old.refused.parts + other.refused.parts }
+        ensures refused_parts { self.new.refused.parts
+            ≡ self.old.refused.parts + other.refused.parts }
         ensures handed { self.new.handed.amount ≡ self.old.handed.amount + other.handed.amount }
         ensures refused { self.new.refused.amount ≡ self.old.refused.amount + other.refused.amount }
     {

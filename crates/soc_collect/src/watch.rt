@@ -25,5 +25,6 @@ impl<'d, K: Desk> Desk for Watched<'d, K> {
         receipt
     }
 
-    ghost allows_others = { λ watched command needs_nothing. K.allows_others watched.desk.now command needs_nothing };
+    ghost allows_others = { λ watched command needs_nothing.
+        K.allows_others watched.desk.now command needs_nothing };
 }

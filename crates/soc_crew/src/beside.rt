@@ -19,19 +19,25 @@ pub fn side_by_side<
     requires first { AcceptsEach F.Fn work.now first.items }
     requires second { AcceptsEach G.Fn help.now second.items }
     requires end { E.pre end }
-    ensures first { (vec_len result.0 ≡ vec_len first) × ChangesEach F.Fn work.now first.items result.0.items }
-    ensures second { (vec_len result.1 ≡ vec_len second) × ChangesEach G.Fn help.now second.items result.1.items }
+    ensures first { (vec_len result.0 ≡ vec_len first)
+        × ChangesEach F.Fn work.now first.items result.0.items }
+    ensures second { (vec_len result.1 ≡ vec_len second)
+        × ChangesEach G.Fn help.now second.items result.1.items }
     ensures end { E.post end result.2 }
 {
     let (second, (first, ended)) = join(
         rt,
         move || -> Vec<B>
-            requires { IsSync R.row × IsSync G.row × IsSend B.row × AcceptsEach G.Fn help.now second.items }
-            ensures { (vec_len result ≡ vec_len second) × ChangesEach G.Fn help.entry.now second.items result.items }
+            requires { IsSync R.row × IsSync G.row × IsSend B.row
+                × AcceptsEach G.Fn help.now second.items }
+            ensures { (vec_len result ≡ vec_len second)
+                × ChangesEach G.Fn help.entry.now second.items result.items }
         { each(rt, second, help) },
         move || -> (Vec<A>, P)
-            requires { IsSync R.row × IsSync F.row × IsSend A.row × AcceptsEach F.Fn work.now first.items × E.pre end }
-            ensures { (vec_len result.0 ≡ vec_len first) × ChangesEach F.Fn work.entry.now first.items result.0.items × E.post end result.1 }
+            requires { IsSync R.row × IsSync F.row × IsSend A.row
+                × AcceptsEach F.Fn work.now first.items × E.pre end }
+            ensures { (vec_len result.0 ≡ vec_len first)
+                × ChangesEach F.Fn work.entry.now first.items result.0.items × E.post end result.1 }
         {
             let first = each(rt, first, work);
             (first, end())

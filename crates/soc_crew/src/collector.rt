@@ -30,9 +30,11 @@ impl<K: KeepingDesk, X: Conn, N: Ledger, M: Ledger> Collector<K, X, N, M> {
         shared: &Shared<L, N, M, J, C, W>,
     )
         requires new { (self.old.served ≡ nothing_served) × (K.added self.old.desk ≡ 0) }
-        requires ticket { (self.old.ticket.handed.parts ≡ 1) × (self.old.ticket.refused.parts ≡ 1) × (self.old.ticket.handed.amount ≡ 0) × (self.old.ticket.refused.amount ≡ 0) }
+        requires ticket { (self.old.ticket.handed.parts ≡ 1) × (self.old.ticket.refused.parts ≡ 1)
+            × (self.old.ticket.handed.amount ≡ 0) × (self.old.ticket.refused.amount ≡ 0) }
         ensures asks { (steps : List Step) × AsksAll K.Asks self.old.desk steps self.new.desk }
-        ensures served { (self.new.served.connections ≡ self.new.ticket.handed.amount) × (self.new.served.kept ≡ K.added self.new.desk) × (self.new.served.kept < 2 ^ 60) }
+        ensures served { (self.new.served.connections ≡ self.new.ticket.handed.amount)
+            × (self.new.served.kept ≡ K.added self.new.desk) × (self.new.served.kept < 2 ^ 60) }
         ensures ticket { (self.new.ticket.handed.parts ≡ 1) × (self.new.ticket.refused.parts ≡ 1) }
         ensures over { (self.new.served.stopped ≡ true) ⊎ (0 < self.new.ticket.refused.amount) }
     {

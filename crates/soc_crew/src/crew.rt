@@ -76,7 +76,8 @@ pub fn serve_together<
     requires reporter { (T.desk_of (T.basis_of desk)).row_of ≡ P.row_of setting.reporter.now }
     ensures ends { ∥ Ends (T.log_of desk) (T.log_of result.desk)
         (T.basis_of desk) (T.basis_of result.desk) result.served.kept ∥₁ }
-    ensures handed { (L.told result.listener).handed ≡ (L.told listener).handed + result.served.connections }
+    ensures handed { (L.told result.listener).handed
+        ≡ (L.told listener).handed + result.served.connections }
     ensures no_fewer { (L.told listener).faults ≤ (L.told result.listener).faults }
     ensures failed { IfOk result.failed (λ failed. failed ≡ true
         → Rose (L.told listener).faults (L.told result.listener).faults) }
@@ -128,7 +129,8 @@ fn serve_with<
         × (blanks.1.parts ≡ setting.crew.collectors + 1) }
     ensures ends { ∥ Ends (T.log_of desk) (T.log_of result.desk)
         (T.basis_of desk) (T.basis_of result.desk) result.served.kept ∥₁ }
-    ensures handed { (L.told result.listener).handed ≡ (L.told listener).handed + result.served.connections }
+    ensures handed { (L.told result.listener).handed
+        ≡ (L.told listener).handed + result.served.connections }
     ensures no_fewer { (L.told listener).faults ≤ (L.told result.listener).faults }
     ensures failed { IfOk result.failed (λ failed. failed ≡ true
         → Rose (L.told listener).faults (L.told result.listener).faults) }

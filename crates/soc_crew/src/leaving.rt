@@ -34,17 +34,24 @@ pub(crate) fn leave_collectors<
     ticket: &mut Ticket<N, M>,
 ) -> Tally<L::Conn>
     requires each { All (λ c. (c.desk.hall.now ≡ hall.now)
-        × IsNew (T.basis_of opened.now.value) (T.log_of opened.now.value) (known_of c.desk.began.value)
-        × (c.served.connections ≡ c.ticket.handed.amount) × (c.served.kept ≡ c.desk.kept) × (c.served.kept < 2 ^ 60)
+        × IsNew (T.basis_of opened.now.value) (T.log_of opened.now.value)
+        (known_of c.desk.began.value)
+        × (c.served.connections ≡ c.ticket.handed.amount) × (c.served.kept ≡ c.desk.kept)
+        × (c.served.kept < 2 ^ 60)
         × (c.ticket.handed.parts ≡ 1) × (c.ticket.refused.parts ≡ 1)
         × ((c.served.stopped ≡ true) ⊎ (0 < c.ticket.refused.amount))) collectors.items }
-    requires few { (0 < vec_len collectors) × (vec_len collectors ≤ 8) × (vec_len collectors ≤ room_of seats.old) }
-    requires none { (seats_in seats.old ≡ []) × (ticket.old.handed.amount ≡ 0) × (ticket.old.refused.amount ≡ 0) × (0 < ticket.old.handed.parts) }
-    ensures count { (length (seats_in seats.new) ≡ vec_len collectors.entry) × (room_of seats.new ≡ room_of seats.old) }
+    requires few { (0 < vec_len collectors) × (vec_len collectors ≤ 8)
+        × (vec_len collectors ≤ room_of seats.old) }
+    requires none { (seats_in seats.old ≡ []) × (ticket.old.handed.amount ≡ 0)
+        × (ticket.old.refused.amount ≡ 0) × (0 < ticket.old.handed.parts) }
+    ensures count { (length (seats_in seats.new) ≡ vec_len collectors.entry)
+        × (room_of seats.new ≡ room_of seats.old) }
     ensures seats { All (λ seat. IsSeatOf hall.now seat) (seats_in seats.new) }
-    ensures seated { ∥ AreSeated (T.basis_of opened.now.value) (T.log_of opened.now.value) result.kept (seats_in seats.new) ∥₁ }
+    ensures seated { ∥ AreSeated (T.basis_of opened.now.value)
+        (T.log_of opened.now.value) result.kept (seats_in seats.new) ∥₁ }
     ensures connections { result.connections ≡ ticket.new.handed.amount }
-    ensures parts { (ticket.new.handed.parts ≡ ticket.old.handed.parts + vec_len collectors.entry) × (ticket.new.refused.parts ≡ ticket.old.refused.parts + vec_len collectors.entry) }
+    ensures parts { (ticket.new.handed.parts ≡ ticket.old.handed.parts + vec_len collectors.entry)
+        × (ticket.new.refused.parts ≡ ticket.old.refused.parts + vec_len collectors.entry) }
     ensures over { (result.stopped ≡ true) ⊎ (0 < ticket.new.refused.amount) }
 {
     let mut served = Tally::new();
@@ -71,14 +78,19 @@ pub(crate) fn leave_processors<'h, T: SharedDesk, P: Reporter, G: Gate, R: Wait>
     mut processors: Vec<Processor<'h, T, P, G, R>>,
     seats: &mut Seats<T>,
 )
-    requires each { All (λ p. IsSomeAnd p.seat (λ s. IsSeatOf hall.now s × HasTurned (known_of p.began.value) (known_of s) 0)
-        × IsNew (T.basis_of opened.now.value) (T.log_of opened.now.value) (known_of p.began.value)) processors.items }
+    requires each { All (λ p. IsSomeAnd p.seat
+        (λ s. IsSeatOf hall.now s × HasTurned (known_of p.began.value) (known_of s) 0)
+        × IsNew (T.basis_of opened.now.value) (T.log_of opened.now.value) (known_of p.began.value))
+        processors.items }
     requires room { length (seats_in seats.old) + vec_len processors ≤ room_of seats.old }
     requires seats { All (λ seat. IsSeatOf hall.now seat) (seats_in seats.old) }
-    ensures count { length (seats_in seats.new) ≡ length (seats_in seats.old) + vec_len processors.entry }
+    ensures count { length (seats_in seats.new)
+        ≡ length (seats_in seats.old) + vec_len processors.entry }
     ensures seats { All (λ seat. IsSeatOf hall.now seat) (seats_in seats.new) }
-    ensures seated { (kept : ℕ) → ∥ AreSeated (T.basis_of opened.now.value) (T.log_of opened.now.value) kept (seats_in seats.old) ∥₁
-        → ∥ AreSeated (T.basis_of opened.now.value) (T.log_of opened.now.value) kept (seats_in seats.new) ∥₁ }
+    ensures seated { (kept : ℕ) → ∥ AreSeated (T.basis_of opened.now.value)
+        (T.log_of opened.now.value) kept (seats_in seats.old) ∥₁
+        → ∥ AreSeated (T.basis_of opened.now.value) (T.log_of opened.now.value) kept
+        (seats_in seats.new) ∥₁ }
 {
     while let Some(processor) = processors.pop() {
         let Processor { seat, .. } = processor;

@@ -44,10 +44,12 @@ impl<'h, T: SharedDesk, P: Reporter, G: Gate, R: Wait> Task for Processor<'h, T,
 
     ghost Ready = { λ p. (p.seat ≡ Some p.began.value) × IsSeatOf p.site.now.hall.now p.began.value
         × IsSomeAnd p.pass (λ q. IsPassOf p.site.now.jobs.now q)
-        × IfSome (known_of p.began.value).basis (λ basis. (T.desk_of basis).row_of ≡ P.row_of p.reporter.now) };
+        × IfSome (known_of p.began.value).basis
+        (λ basis. (T.desk_of basis).row_of ≡ P.row_of p.reporter.now) };
 
     ghost Did = { λ before after. (after.began ≡ before.began) × (after.site ≡ before.site)
-        × IsSomeAnd after.seat (λ s. IsSeatOf before.site.now.hall.now s × HasTurned (known_of before.began.value) (known_of s) 0) };
+        × IsSomeAnd after.seat (λ s. IsSeatOf before.site.now.hall.now s
+        × HasTurned (known_of before.began.value) (known_of s) 0) };
 
     fn run(&mut self) {
         let (Some(seat), Some(pass)) = (self.seat.take(), self.pass.take()) else {

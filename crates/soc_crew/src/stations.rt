@@ -34,7 +34,9 @@ impl Stock {
     pub(crate) fn new(alloc: Global, crew: Crew) -> Result<Stock, NoMemory>
         requires { (crew.collectors ≤ 8) × (crew.processors ≤ 8) }
         ensures own { IfOk result (λ stock. IsPassOf stock.jobs stock.own) }
-        ensures passes { IfOk result (λ stock. All (λ pass. IsPassOf stock.jobs pass) (passes_in stock.passes) × (length (passes_in stock.passes) ≡ crew.collectors + crew.processors)) }
+        ensures passes { IfOk result (λ stock.
+            All (λ pass. IsPassOf stock.jobs pass) (passes_in stock.passes)
+            × (length (passes_in stock.passes) ≡ crew.collectors + crew.processors)) }
         ensures buffers { IfOk result (λ stock. vec_len stock.buffers ≡ crew.collectors) }
     {
         let (jobs, mut passes) = Jobs::new(alloc, crew.collectors + crew.processors + 1)?;
@@ -66,7 +68,8 @@ fn buffers(alloc: Global, count: u32) -> Result<Vec<Buffer>, NoMemory>
 fn station<T: SharedDesk>(seats: &mut Seats<T>, passes: &mut Passes) -> (Seat<T>, Pass)
     requires seats { 0 < length (seats_in seats.old) }
     requires passes { 0 < length (passes_in passes.old) }
-    ensures seat { (seats_in seats.old ≡ seats_in seats.new ++ result.0 ∷ []) × (room_of seats.new ≡ room_of seats.old) }
+    ensures seat { (seats_in seats.old ≡ seats_in seats.new ++ result.0 ∷ [])
+        × (room_of seats.new ≡ room_of seats.old) }
     ensures pass { passes_in passes.old ≡ passes_in passes.new ++ result.1 ∷ [] }
 {
     let (Some(seat), Some(pass)) = (seats.pop(), passes.pop()) else {
@@ -86,19 +89,31 @@ pub(crate) fn collectors<'h, T: SharedDesk, G: Gate, R: Wait, X: Conn, N: Ledger
     ticket: &mut Ticket<N, M>,
 ) -> Vec<Collector<HallDesk<'h, T, G, R>, X, N, M>>
     requires list { (list.items ≡ []) × (vec_len buffers ≤ vec_capacity list) }
-    requires seats { All (λ seat. IsSeatOf site.now.hall.now seat × IsNew (T.basis_of opened.now.value) (T.log_of opened.now.value) (known_of seat)) (seats_in seats.old) }
+    requires seats { All (λ seat. IsSeatOf site.now.hall.now seat
+        × IsNew (T.basis_of opened.now.value) (T.log_of opened.now.value) (known_of seat))
+        (seats_in seats.old) }
     requires passes { All (λ pass. IsPassOf site.now.jobs.now pass) (passes_in passes.old) }
-    requires enough { (vec_len buffers ≤ length (seats_in seats.old)) × (vec_len buffers ≤ length (passes_in passes.old)) × (vec_len buffers < ticket.old.handed.parts) × (vec_len buffers < ticket.old.refused.parts) }
+    requires enough { (vec_len buffers ≤ length (seats_in seats.old))
+        × (vec_len buffers ≤ length (passes_in passes.old))
+        × (vec_len buffers < ticket.old.handed.parts)
+        × (vec_len buffers < ticket.old.refused.parts) }
     requires unused { (ticket.old.handed.amount ≡ 0) × (ticket.old.refused.amount ≡ 0) }
     ensures count { vec_len result ≡ vec_len buffers }
     ensures each { All (λ c. (c.desk.hall.now ≡ site.now.hall.now)
-        × IsNew (T.basis_of opened.now.value) (T.log_of opened.now.value) (known_of c.desk.began.value)
+        × IsNew (T.basis_of opened.now.value) (T.log_of opened.now.value)
+        (known_of c.desk.began.value)
         × (c.served ≡ nothing_served) × (c.desk.kept ≡ 0)
-        × (c.ticket.handed.parts ≡ 1) × (c.ticket.refused.parts ≡ 1) × (c.ticket.handed.amount ≡ 0) × (c.ticket.refused.amount ≡ 0)) result.items }
-    ensures seats { All (λ seat. IsSeatOf site.now.hall.now seat × IsNew (T.basis_of opened.now.value) (T.log_of opened.now.value) (known_of seat)) (seats_in seats.new) }
+        × (c.ticket.handed.parts ≡ 1) × (c.ticket.refused.parts ≡ 1) × (c.ticket.handed.amount ≡ 0)
+        × (c.ticket.refused.amount ≡ 0)) result.items }
+    ensures seats { All (λ seat. IsSeatOf site.now.hall.now seat
+        × IsNew (T.basis_of opened.now.value) (T.log_of opened.now.value) (known_of seat))
+        (seats_in seats.new) }
     ensures passes { All (λ pass. IsPassOf site.now.jobs.now pass) (passes_in passes.new) }
-    ensures left { (length (seats_in seats.new) + vec_len buffers ≡ length (seats_in seats.old)) × (room_of seats.new ≡ room_of seats.old) × (length (passes_in passes.new) + vec_len buffers ≡ length (passes_in passes.old)) }
-    ensures parts { (ticket.new.handed.parts + vec_len buffers ≡ ticket.old.handed.parts) × (ticket.new.refused.parts + vec_len buffers ≡ ticket.old.refused.parts) }
+    ensures left { (length (seats_in seats.new) + vec_len buffers ≡ length (seats_in seats.old))
+        × (room_of seats.new ≡ room_of seats.old)
+        × (length (passes_in passes.new) + vec_len buffers ≡ length (passes_in passes.old)) }
+    ensures parts { (ticket.new.handed.parts + vec_len buffers ≡ ticket.old.handed.parts)
+        × (ticket.new.refused.parts + vec_len buffers ≡ ticket.old.refused.parts) }
     ensures unused { (ticket.new.handed.amount ≡ 0) × (ticket.new.refused.amount ≡ 0) }
 {
     while let Some(buffer) = buffers.pop() {
@@ -124,16 +139,24 @@ pub(crate) fn processors<'h, T: SharedDesk, P: Reporter, G: Gate, R: Wait>(
     passes: &mut Passes,
 ) -> Vec<Processor<'h, T, P, G, R>>
     requires list { (list.items ≡ []) × (count ≤ vec_capacity list) }
-    requires seats { All (λ seat. IsSeatOf site.now.hall.now seat × IsNew (T.basis_of opened.now.value) (T.log_of opened.now.value) (known_of seat)) (seats_in seats.old) }
+    requires seats { All (λ seat. IsSeatOf site.now.hall.now seat
+        × IsNew (T.basis_of opened.now.value) (T.log_of opened.now.value) (known_of seat))
+        (seats_in seats.old) }
     requires passes { All (λ pass. IsPassOf site.now.jobs.now pass) (passes_in passes.old) }
-    requires enough { (count ≤ length (seats_in seats.old)) × (count ≤ length (passes_in passes.old)) }
+    requires enough { (count ≤ length (seats_in seats.old))
+        × (count ≤ length (passes_in passes.old)) }
     requires reporter { (T.desk_of (T.basis_of opened.now.value)).row_of ≡ P.row_of reporter.now }
     ensures count { vec_len result ≡ count }
-    ensures each { All (λ p. ((p.seat ≡ Some p.began.value) × IsSeatOf p.site.now.hall.now p.began.value × IsSomeAnd p.pass (λ q. IsPassOf p.site.now.jobs.now q)
-        × IfSome (known_of p.began.value).basis (λ basis. (T.desk_of basis).row_of ≡ P.row_of p.reporter.now))
+    ensures each { All (λ p. ((p.seat ≡ Some p.began.value)
+        × IsSeatOf p.site.now.hall.now p.began.value
+        × IsSomeAnd p.pass (λ q. IsPassOf p.site.now.jobs.now q)
+        × IfSome (known_of p.began.value).basis
+        (λ basis. (T.desk_of basis).row_of ≡ P.row_of p.reporter.now))
         × (p.site.now.hall.now ≡ site.now.hall.now)
-        × IsNew (T.basis_of opened.now.value) (T.log_of opened.now.value) (known_of p.began.value)) result.items }
-    ensures left { (length (seats_in seats.new) + count ≡ length (seats_in seats.old)) × (room_of seats.new ≡ room_of seats.old) }
+        × IsNew (T.basis_of opened.now.value) (T.log_of opened.now.value) (known_of p.began.value))
+        result.items }
+    ensures left { (length (seats_in seats.new) + count ≡ length (seats_in seats.old))
+        × (room_of seats.new ≡ room_of seats.old) }
 {
     for made in 0..count {
         let (seat, pass) = station(seats, passes);

@@ -40,13 +40,17 @@ pub(crate) fn work<
     shared: &Shared<L, N, M, J, C, W>,
 ) -> (Vec<Collector<K, L::Conn, N, M>>, Vec<T>)
     requires collectors { All (λ c. (c.served ≡ nothing_served) × (K.added c.desk ≡ 0)
-        × (c.ticket.handed.parts ≡ 1) × (c.ticket.refused.parts ≡ 1) × (c.ticket.handed.amount ≡ 0) × (c.ticket.refused.amount ≡ 0)) collectors.items }
+        × (c.ticket.handed.parts ≡ 1) × (c.ticket.refused.parts ≡ 1) × (c.ticket.handed.amount ≡ 0)
+        × (c.ticket.refused.amount ≡ 0)) collectors.items }
     requires processors { All T.Ready processors.items }
     requires own { IsPassOf jobs.now own }
-    ensures collectors { AllZip (λ before after. ((steps : List Step) × AsksAll K.Asks before.desk steps after.desk)
-        × (after.served.connections ≡ after.ticket.handed.amount) × (after.served.kept ≡ K.added after.desk) × (after.served.kept < 2 ^ 60)
+    ensures collectors { AllZip (λ before after.
+        ((steps : List Step) × AsksAll K.Asks before.desk steps after.desk)
+        × (after.served.connections ≡ after.ticket.handed.amount)
+        × (after.served.kept ≡ K.added after.desk) × (after.served.kept < 2 ^ 60)
         × (after.ticket.handed.parts ≡ 1) × (after.ticket.refused.parts ≡ 1)
-        × ((after.served.stopped ≡ true) ⊎ (0 < after.ticket.refused.amount))) collectors.items result.0.items }
+        × ((after.served.stopped ≡ true) ⊎ (0 < after.ticket.refused.amount))) collectors.items
+        result.0.items }
     ensures processors { AllZip T.Did processors.items result.1.items }
 {
     let ends = processors.len();
@@ -55,12 +59,21 @@ pub(crate) fn work<
         collectors,
         processors,
         &|_place: usize, collector: &mut Collector<K, L::Conn, N, M>|
-            requires new { (collector.old.served ≡ nothing_served) × (K.added collector.old.desk ≡ 0) }
-            requires ticket { (collector.old.ticket.handed.parts ≡ 1) × (collector.old.ticket.refused.parts ≡ 1) × (collector.old.ticket.handed.amount ≡ 0) × (collector.old.ticket.refused.amount ≡ 0) }
-            ensures asks { (steps : List Step) × AsksAll K.Asks collector.old.desk steps collector.new.desk }
-            ensures served { (collector.new.served.connections ≡ collector.new.ticket.handed.amount) × (collector.new.served.kept ≡ K.added collector.new.desk) × (collector.new.served.kept < 2 ^ 60) }
-            ensures ticket { (collector.new.ticket.handed.parts ≡ 1) × (collector.new.ticket.refused.parts ≡ 1) }
-            ensures over { (collector.new.served.stopped ≡ true) ⊎ (0 < collector.new.ticket.refused.amount) }
+            requires new { (collector.old.served ≡ nothing_served)
+                × (K.added collector.old.desk ≡ 0) }
+            requires ticket { (collector.old.ticket.handed.parts ≡ 1)
+                × (collector.old.ticket.refused.parts ≡ 1)
+                × (collector.old.ticket.handed.amount ≡ 0)
+                × (collector.old.ticket.refused.amount ≡ 0) }
+            ensures asks { (steps : List Step)
+                × AsksAll K.Asks collector.old.desk steps collector.new.desk }
+            ensures served { (collector.new.served.connections ≡ collector.new.ticket.handed.amount)
+                × (collector.new.served.kept ≡ K.added collector.new.desk)
+                × (collector.new.served.kept < 2 ^ 60) }
+            ensures ticket { (collector.new.ticket.handed.parts ≡ 1)
+                × (collector.new.ticket.refused.parts ≡ 1) }
+            ensures over { (collector.new.served.stopped ≡ true)
+                ⊎ (0 < collector.new.ticket.refused.amount) }
         { collector.collect(rt, setting, shared) },
         &|_place: usize, processor: &mut T|
             requires { T.Ready processor.old }

@@ -183,5 +183,6 @@ pub trait Desk {
         ensures asks { Asks self.old command result self.new }
         ensures kind { IsReplyTo command result.reply };
 
-    ghost allows_others: { (desk : Self) (command : Command) → NeedsNothing command → Allows desk command };
+    ghost allows_others: { (desk : Self) (command : Command) → NeedsNothing command
+        → Allows desk command };
 }

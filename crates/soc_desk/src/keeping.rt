@@ -17,6 +17,7 @@ pub trait KeepingDesk: Desk {
         ensures { result ≡ added self.now };
 
     // The count never falls, and a log is short.
-    ghost added_grows: { (before : Self) (command : Command) (receipt : Receipt) (after : Self) → Self.Asks before command receipt after
+    ghost added_grows: { (before : Self) (command : Command) (receipt : Receipt) (after : Self)
+        → Self.Asks before command receipt after
         → (added before ≤ added after) × (added after < 2 ^ 60) };
 }

@@ -58,10 +58,14 @@ pub fn acknowledges()
 /// What the log keeps lasts over a command, in every image that a stop may leave, and so over commands that follow one
 /// another.
 pub fn changes_last<D: Disk>()
-    ensures asked { (basis : Basis) (before after : State) (command : Command) (receipt : Receipt) (disk disk' : D) → IsTrue basis.is_told
-        → Asks basis before (D.state disk) command receipt after (D.state disk') → Lasts before (D.state disk) after (D.state disk') }
-    ensures goes_on { (first second third : State) (disk disk' disk'' : D) → Lasts first (D.state disk) second (D.state disk')
-        → Lasts second (D.state disk') third (D.state disk'') → Lasts first (D.state disk) third (D.state disk'') }
+    ensures asked { (basis : Basis) (before after : State) (command : Command) (receipt : Receipt)
+        (disk disk' : D) → IsTrue basis.is_told
+        → Asks basis before (D.state disk) command receipt after (D.state disk')
+        → Lasts before (D.state disk) after (D.state disk') }
+    ensures goes_on { (first second third : State) (disk disk' disk'' : D)
+        → Lasts first (D.state disk) second (D.state disk')
+        → Lasts second (D.state disk') third (D.state disk'')
+        → Lasts first (D.state disk) third (D.state disk'') }
 {}
 
 /// Submissions that were written together and all stored are a run of single steps.

@@ -50,7 +50,8 @@ fn filed(alloc: Global, id: CrashId) -> Result<Filed, Fail>
 /// The number of a held crash.
 fn held(ledger: &Ledger, id: CrashId) -> Result<u32, Fail>
     ensures crash { IfOk result (λ number. number < length ledger.now.crashes) }
-    ensures held { IfOk result (λ number. IsTrue (is_held ledger.now.log (id_of ledger.now number))) }
+    ensures held { IfOk result (λ number.
+        IsTrue (is_held ledger.now.log (id_of ledger.now number))) }
 {
     let number = ledger.number_of(id).ok_or("never accepted")?;
     if ledger.crash(number).standing.withdrawn {

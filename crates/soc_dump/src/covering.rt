@@ -53,7 +53,8 @@ impl Model for FirstCovering {
 impl FirstCovering {
     /// Cuts the intervals of a list into pieces, in the time of a sort.
     pub fn new(alloc: Global, intervals: &[Interval]) -> Result<FirstCovering, NoMemory>
-        ensures { IfOk result (λ table. (x : ℕ) → x < 2 ^ 64 → owner_from None table x ≡ first_covering intervals.now x) }
+        ensures { IfOk result (λ table. (x : ℕ) → x < 2 ^ 64
+            → owner_from None table x ≡ first_covering intervals.now x) }
     {
         let pieces = pieces_of(alloc, intervals, 0)?;
         Ok(FirstCovering { pieces })

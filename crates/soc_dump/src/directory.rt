@@ -104,7 +104,8 @@ pub fn read_streams(
 ) -> Result<Vec<Stream>, DumpError>
     requires { IsTrue (is_inside file.now directory.place (stream_entry_size * directory.count)) }
     ensures { let all = streams_named file.now directory.place directory.count in
-        IsRead result (directory_checks file.now [] all) (λ streams. (streams.items ≡ all) × AllInside file.now all) }
+        IsRead result (directory_checks file.now [] all)
+        (λ streams. (streams.items ≡ all) × AllInside file.now all) }
 {
     let mut streams = Vec::new(alloc);
     for index in 0..directory.count {

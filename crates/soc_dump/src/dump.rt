@@ -65,7 +65,8 @@ impl<'a> Dump<'a> {
         streams: &[Stream],
     ) -> Result<Dump<'a>, DumpError>
         requires { AllInside file.now streams.now }
-        ensures { IsRead result (contents_checks file.now streams.now) (λ dump. dump ≡ contents_in file.now streams.now) }
+        ensures { IsRead result (contents_checks file.now streams.now)
+            (λ dump. dump ≡ contents_in file.now streams.now) }
     {
         let threads = find_threads(alloc, file, streams)?;
         let modules = find_modules(alloc, file, streams)?;
@@ -129,7 +130,8 @@ impl<'a> Dump<'a> {
     pub fn words(&self, alloc: Global, width: u8) -> Result<Words<'_>, NoMemory>
         requires some { 1 ≤ width }
         requires fits { width ≤ 8 }
-        ensures { IfOk result (λ words. words ≡ record { regions = regions_of self.now; width = width }) }
+        ensures { IfOk result (λ words. words
+            ≡ record { regions = regions_of self.now; width = width }) }
     {
         Words::new(
             alloc,
@@ -142,7 +144,8 @@ impl<'a> Dump<'a> {
     /// Which module is the first that has an address, made ready for many look-ups. The table gives
     /// the module's index.
     pub fn module_table(&self, alloc: Global) -> Result<FirstCovering, NoMemory>
-        ensures { IfOk result (λ table. (address : ℕ) → address < 2 ^ 64 → owner_from None table address ≡ position (holds_address address) self.now.modules) }
+        ensures { IfOk result (λ table. (address : ℕ) → address < 2 ^ 64
+            → owner_from None table address ≡ position (holds_address address) self.now.modules) }
     {
         let intervals = intervals_of_modules(alloc, self.modules.as_slice())?;
         FirstCovering::new(alloc, intervals.as_slice())

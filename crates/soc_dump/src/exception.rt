@@ -45,7 +45,8 @@ fn read_parameters(entry: &[u8]) -> [u64; 15]
 
 fn read_entry<'a>(file: &'a [u8], entry: &[u8]) -> Result<Exception<'a>, DumpError>
     requires { exception_size ≤ length entry.now }
-    ensures { IsRead result (exception_checks file.now entry.now) (λ exception. exception_entry exception ≡ exception_of file.now entry.now) }
+    ensures { IsRead result (exception_checks file.now entry.now)
+        (λ exception. exception_entry exception ≡ exception_of file.now entry.now) }
 {
     let place = narrow(entry, EXCEPTION_CONTEXT_PLACE) as u64;
     let context = part_of(file, place, narrow(entry, EXCEPTION_CONTEXT_SIZE) as u64)?;
@@ -63,7 +64,8 @@ fn read_entry<'a>(file: &'a [u8], entry: &[u8]) -> Result<Exception<'a>, DumpErr
 pub fn read_exception(file: &[u8], stream: Stream) -> Result<Exception<'_>, DumpError>
     requires { IsTrue (is_inside file.now stream.place stream.size) }
     ensures { IsRead result (exception_stream_checks file.now stream)
-        (λ exception. exception_entry exception ≡ exception_of file.now (drop stream.place file.now)) }
+        (λ exception. exception_entry exception
+        ≡ exception_of file.now (drop stream.place file.now)) }
 {
     if (stream.size as usize) < EXCEPTION_SIZE {
         return Err(DumpError::BadStream {

@@ -20,7 +20,9 @@ pub struct Entries {
 pub fn read_list(file: &[u8], stream: Stream, size: usize) -> Result<Entries, DumpError>
     requires inside { IsTrue (is_inside file.now stream.place stream.size) }
     requires small { size < 256 }
-    ensures { IsRead result (list_check file.now size stream ∷ []) (λ list. (entries_of file.now size stream ≡ entries_from file.now list.first size list.count)
+    ensures { IsRead result (list_check file.now size stream ∷ [])
+        (λ list. (entries_of file.now size stream
+        ≡ entries_from file.now list.first size list.count)
         × (list.first + list.count * size ≤ length file.now)) }
 {
     let bad = DumpError::BadStream {

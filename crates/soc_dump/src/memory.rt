@@ -25,7 +25,8 @@ pub struct Region<'a> {
 
 fn read_region<'a>(file: &'a [u8], entry: &[u8]) -> Result<Region<'a>, DumpError>
     requires { memory_size ≤ length entry.now }
-    ensures { IsRead result (memory_checks file.now entry.now) (λ region. memory_entry region ≡ memory_of file.now entry.now) }
+    ensures { IsRead result (memory_checks file.now entry.now)
+        (λ region. memory_entry region ≡ memory_of file.now entry.now) }
 {
     let place = narrow(entry, MEMORY_PLACE) as u64;
     let bytes = part_of(file, place, narrow(entry, MEMORY_LENGTH) as u64)?;
@@ -43,7 +44,8 @@ pub fn read_memory<'a>(
 ) -> Result<Vec<Region<'a>>, DumpError>
     requires { IsTrue (is_inside file.now stream.place stream.size) }
     ensures { IsRead result (memory_list_checks file.now stream)
-        (λ regions. map memory_entry regions.items ≡ map (memory_of file.now) (entries_of file.now memory_size stream)) }
+        (λ regions. map memory_entry regions.items
+        ≡ map (memory_of file.now) (entries_of file.now memory_size stream)) }
 {
     let list = read_list(file, stream, MEMORY_SIZE)?;
     let mut regions = Vec::with_capacity(alloc, list.count)?;

@@ -35,7 +35,8 @@ pub struct Module<'a> {
 /// The bytes of a module's name.
 fn name_bytes(file: &[u8], place: u64) -> Result<&[u8], DumpError>
     requires { place < 2 ^ 32 }
-    ensures { IsRead result (name_checks file.now place) (λ bytes. bytes.now ≡ part file.now (place + string_head) (string_size file.now place)) }
+    ensures { IsRead result (name_checks file.now place)
+        (λ bytes. bytes.now ≡ part file.now (place + string_head) (string_size file.now place)) }
 {
     let length = file.len() as u64;
     if length < place + STRING_HEAD as u64 {
@@ -79,7 +80,8 @@ pub fn read_modules<'a>(
 ) -> Result<Vec<Module<'a>>, DumpError>
     requires { IsTrue (is_inside file.now stream.place stream.size) }
     ensures { IsRead result (module_list_checks file.now stream)
-        (λ modules. map module_entry modules.items ≡ map (module_of file.now) (entries_of file.now module_size stream)) }
+        (λ modules. map module_entry modules.items
+        ≡ map (module_of file.now) (entries_of file.now module_size stream)) }
 {
     let list = read_list(file, stream, MODULE_SIZE)?;
     let mut modules = Vec::with_capacity(alloc, list.count)?;
@@ -96,7 +98,8 @@ pub fn intervals_of_modules(
     alloc: Global,
     modules: &[Module<'_>],
 ) -> Result<Vec<Interval>, NoMemory>
-    ensures { IfOk result (λ intervals. intervals.items ≡ map (λ loaded. interval_from loaded.base loaded.size) modules.now) }
+    ensures { IfOk result (λ intervals. intervals.items
+        ≡ map (λ loaded. interval_from loaded.base loaded.size) modules.now) }
 {
     let intervals: Vec<Interval> = modules
         .iter()

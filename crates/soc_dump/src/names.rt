@@ -130,7 +130,8 @@ pub fn crash_reason(
     platform: Option<u32>,
     exception: &Exception<'_>,
 ) -> Result<Text, NoMemory>
-    ensures { IfOk result (λ text. text ≡ crash_reason_of platform (exception_entry exception.now)) }
+    ensures { IfOk result (λ text. text
+        ≡ crash_reason_of platform (exception_entry exception.now)) }
 {
     let Some(name) = reason_name(platform, exception.code) else {
         return code_digits(alloc, exception.code);

@@ -7,7 +7,8 @@ use crate::error::DumpError;
 
 /// The bytes of the file that a place and a size name. No bytes are never out of the file.
 pub fn part_of<'a>(file: &'a [u8], place: u64, size: u64) -> Result<&'a [u8], DumpError>
-    ensures { IsRead result (inside file.now place size ∷ []) (λ bytes. bytes.now ≡ part file.now place size) }
+    ensures { IsRead result (inside file.now place size ∷ [])
+        (λ bytes. bytes.now ≡ part file.now place size) }
 {
     if size == 0 {
         return Ok(&[]);

@@ -56,8 +56,10 @@ fn is_next(piece: Piece, others: &[Piece]) -> bool
 
 /// The next piece of two layers, and what is left of them.
 fn next_piece(layers: Layers<'_>) -> Option<(Piece, Layers<'_>)>
-    ensures next { MatchOption result (layers_left layers.entry ≡ 0) (λ next. LeadsTo layers.entry next.0 next.1) }
-    ensures less { MatchOption result (layers_left layers.entry ≡ 0) (λ next. layers_left next.1 < layers_left layers.entry) }
+    ensures next { MatchOption result (layers_left layers.entry ≡ 0)
+        (λ next. LeadsTo layers.entry next.0 next.1) }
+    ensures less { MatchOption result (layers_left layers.entry ≡ 0)
+        (λ next. layers_left next.1 < layers_left layers.entry) }
 {
     if let Some((piece, upper)) = layers.upper.split_first()
         && is_next(*piece, layers.lower)
@@ -118,7 +120,8 @@ pub fn pieces_of(
 ) -> Result<Vec<Piece>, NoMemory>
     requires { index + length intervals.now < 2 ^ 64 }
     ensures rising { IfOk result (λ pieces. IsRising 0 pieces.items) }
-    ensures owners { IfOk result (λ pieces. (x : ℕ) → x < 2 ^ 64 → owner_from None pieces.items x ≡ position_from (covers x) index intervals.now) }
+    ensures owners { IfOk result (λ pieces. (x : ℕ) → x < 2 ^ 64
+        → owner_from None pieces.items x ≡ position_from (covers x) index intervals.now) }
 {
     match intervals {
         [] => Ok(Vec::new(alloc)),
@@ -136,7 +139,8 @@ pub fn pieces_of(
 /// How many pieces begin at a number or before it.
 fn count_to(pieces: &[Piece], x: u64) -> usize
     ensures bound { result ≤ length pieces.now }
-    ensures point { IsNonDecreasingBy (λ piece. piece.from) pieces.now → IsPartitionPoint (λ piece. piece.from ≤ x) (λ piece. x < piece.from) pieces.now result }
+    ensures point { IsNonDecreasingBy (λ piece. piece.from) pieces.now
+        → IsPartitionPoint (λ piece. piece.from ≤ x) (λ piece. x < piece.from) pieces.now result }
 {
     pieces.partition_point(|piece| piece.from <= x)
 }

@@ -32,7 +32,8 @@ pub fn find_threads<'a>(
     requires { AllInside file.now streams.now }
     ensures { let stream = stream_of thread_list streams.now in
         IsRead result (asked (thread_list_checks file.now) stream)
-        (λ threads. map thread_entry threads.items ≡ listed file.now thread_size (thread_of file.now) stream) }
+        (λ threads. map thread_entry threads.items
+        ≡ listed file.now thread_size (thread_of file.now) stream) }
 {
     let Some(stream) = find_stream(streams, THREAD_LIST) else {
         return Ok(Vec::new(alloc));
@@ -48,7 +49,8 @@ pub fn find_modules<'a>(
     requires { AllInside file.now streams.now }
     ensures { let stream = stream_of module_list streams.now in
         IsRead result (asked (module_list_checks file.now) stream)
-        (λ modules. map module_entry modules.items ≡ listed file.now module_size (module_of file.now) stream) }
+        (λ modules. map module_entry modules.items
+        ≡ listed file.now module_size (module_of file.now) stream) }
 {
     let Some(stream) = find_stream(streams, MODULE_LIST) else {
         return Ok(Vec::new(alloc));
@@ -64,7 +66,8 @@ pub fn find_memory<'a>(
     requires { AllInside file.now streams.now }
     ensures { let stream = stream_of memory_list streams.now in
         IsRead result (asked (memory_list_checks file.now) stream)
-        (λ regions. map memory_entry regions.items ≡ listed file.now memory_size (memory_of file.now) stream) }
+        (λ regions. map memory_entry regions.items
+        ≡ listed file.now memory_size (memory_of file.now) stream) }
 {
     let Some(stream) = find_stream(streams, MEMORY_LIST) else {
         return Ok(Vec::new(alloc));
@@ -90,7 +93,8 @@ pub fn find_exception<'a>(
 pub fn find_system(file: &[u8], streams: &[Stream]) -> Result<Option<System>, DumpError>
     requires { AllInside file.now streams.now }
     ensures { let stream = stream_of system_stream streams.now in
-        IsRead result (asked (system_stream_checks file.now) stream) (λ system. system ≡ told file.now system_of stream) }
+        IsRead result (asked (system_stream_checks file.now) stream)
+        (λ system. system ≡ told file.now system_of stream) }
 {
     let Some(stream) = find_stream(streams, SYSTEM_STREAM) else {
         return Ok(None);

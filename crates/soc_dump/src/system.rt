@@ -30,7 +30,8 @@ pub struct System {
 /// The system of a stream.
 pub fn read_system(file: &[u8], stream: Stream) -> Result<System, DumpError>
     requires { IsTrue (is_inside file.now stream.place stream.size) }
-    ensures { IsRead result (system_stream_checks file.now stream) (λ system. system ≡ system_of (drop stream.place file.now)) }
+    ensures { IsRead result (system_stream_checks file.now stream)
+        (λ system. system ≡ system_of (drop stream.place file.now)) }
 {
     if (stream.size as usize) < SYSTEM_SIZE {
         return Err(DumpError::BadStream {

@@ -30,7 +30,8 @@ pub struct Thread<'a> {
 
 fn read_thread<'a>(file: &'a [u8], entry: &[u8]) -> Result<Thread<'a>, DumpError>
     requires { thread_size ≤ length entry.now }
-    ensures { IsRead result (thread_checks file.now entry.now) (λ thread. thread_entry thread ≡ thread_of file.now entry.now) }
+    ensures { IsRead result (thread_checks file.now entry.now)
+        (λ thread. thread_entry thread ≡ thread_of file.now entry.now) }
 {
     let stack_place = narrow(entry, THREAD_STACK_PLACE) as u64;
     let stack = part_of(file, stack_place, narrow(entry, THREAD_STACK_SIZE) as u64)?;
@@ -56,7 +57,8 @@ pub fn read_threads<'a>(
 ) -> Result<Vec<Thread<'a>>, DumpError>
     requires { IsTrue (is_inside file.now stream.place stream.size) }
     ensures { IsRead result (thread_list_checks file.now stream)
-        (λ threads. map thread_entry threads.items ≡ map (thread_of file.now) (entries_of file.now thread_size stream)) }
+        (λ threads. map thread_entry threads.items
+        ≡ map (thread_of file.now) (entries_of file.now thread_size stream)) }
 {
     let list = read_list(file, stream, THREAD_SIZE)?;
     let mut threads = Vec::with_capacity(alloc, list.count)?;

@@ -53,7 +53,8 @@ fn find_region<'a>(regions: &[Region<'a>], address: u64, width: usize) -> Option
 
 /// The first thread whose stack holds a word whole.
 fn find_stack<'a>(threads: &[Thread<'a>], address: u64, width: usize) -> Option<Thread<'a>>
-    ensures { result ≡ find (λ thread. holds_word address width (stack_of (thread_entry thread))) threads.now }
+    ensures { result ≡ find (λ thread. holds_word address width (stack_of (thread_entry thread)))
+        threads.now }
 {
     threads
         .iter()
@@ -71,7 +72,9 @@ pub fn find_word(
 ) -> Option<u64>
     requires some { 1 ≤ width }
     requires fits { width ≤ 8 }
-    ensures value { result ≡ word_in (map memory_entry regions.now ++ map stack_of (map thread_entry threads.now)) address width }
+    ensures value { result ≡ word_in
+        (map memory_entry regions.now ++ map stack_of (map thread_entry threads.now)) address
+        width }
     ensures small { IfSome result (λ word. word < 256 ^ width) }
 {
     if let Some(region) = find_region(regions, address, width) {

@@ -49,7 +49,8 @@ fn intervals_of_memory(
     width: usize,
 ) -> Result<Vec<Interval>, NoMemory>
     requires { 1 ≤ width }
-    ensures { IfOk result (λ intervals. intervals.items ≡ map (λ region. word_interval width (memory_entry region)) regions.now) }
+    ensures { IfOk result (λ intervals. intervals.items
+        ≡ map (λ region. word_interval width (memory_entry region)) regions.now) }
 {
     let intervals: Vec<Interval> = regions
         .iter()
@@ -64,7 +65,8 @@ fn intervals_of_stacks(
     width: usize,
 ) -> Result<Vec<Interval>, NoMemory>
     requires { 1 ≤ width }
-    ensures { IfOk result (λ intervals. intervals.items ≡ map (λ thread. word_interval width (stack_of (thread_entry thread))) threads.now) }
+    ensures { IfOk result (λ intervals. intervals.items
+        ≡ map (λ thread. word_interval width (stack_of (thread_entry thread))) threads.now) }
 {
     let intervals: Vec<Interval> = threads
         .iter()
@@ -76,7 +78,8 @@ fn intervals_of_stacks(
 /// A region of the memory list, or a stack behind them.
 fn region_at<'a>(memory: &[Region<'a>], threads: &[Thread<'a>], index: usize) -> Region<'a>
     requires { index < length memory.now + length threads.now }
-    ensures { slice_get (map memory_entry memory.now ++ map stack_of (map thread_entry threads.now)) index ≡ Some (memory_entry result) }
+    ensures { slice_get (map memory_entry memory.now ++ map stack_of (map thread_entry threads.now))
+        index ≡ Some (memory_entry result) }
 {
     if index < memory.len() {
         memory[index]
@@ -95,7 +98,12 @@ impl<'a> Words<'a> {
     ) -> Result<Words<'a>, NoMemory>
         requires some { 1 ≤ width }
         requires fits { width ≤ 8 }
-        ensures { IfOk result (λ words. words ≡ record { regions = map memory_entry memory.now ++ map stack_of (map thread_entry threads.now); width = width }) }
+        ensures { IfOk result (λ words. words
+            ≡ record {
+              regions = map memory_entry memory.now
+                  ++ map stack_of (map thread_entry threads.now);
+              width = width;
+            }) }
     {
         let mut intervals = intervals_of_memory(alloc, memory, width)?;
         let stacks = intervals_of_stacks(alloc, threads, width)?;

@@ -51,7 +51,8 @@ pub fn with_members(
     members: &Map<String, Value>,
 ) -> Result<Fields, NoMemory>
     requires { members_have_float (members_view members.now.entries) ≡ false }
-    ensures { IfOk result (λ new. fields_text new ≡ with_members (fields_text fields) (members_view members.now.entries)) }
+    ensures { IfOk result (λ new. fields_text new
+        ≡ with_members (fields_text fields) (members_view members.now.entries)) }
 {
     let mut new = fields;
     for (key, member) in members.iter() {

@@ -39,7 +39,8 @@ pub fn plain_fields(alloc: Global, parts: &[OwnedPart]) -> Result<Fields, NoMemo
 }
 
 fn plain_step(alloc: Global, fields: Fields, part: &OwnedPart) -> Result<Fields, NoMemory>
-    ensures { IfOk result (λ new. fields_text new ≡ plain_step (fields_text fields) (owned_text part.now)) }
+    ensures { IfOk result (λ new. fields_text new
+        ≡ plain_step (fields_text fields) (owned_text part.now)) }
 {
     if !is_plain(part) {
         return Ok(fields);

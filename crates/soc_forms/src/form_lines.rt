@@ -20,8 +20,10 @@ pub fn boundary_of(
     encoding: Option<&str>,
     kinds: &Pairs,
 ) -> Result<Vec<u8>, FormError>
-    ensures found { IfOk result (λ boundary. AreFormLines (option_copied encoding.entry) kinds.now boundary.items) }
-    ensures refused { IfErr result (λ error. LinesRefusal (option_copied encoding.entry) kinds.now error) }
+    ensures found { IfOk result (λ boundary.
+        AreFormLines (option_copied encoding.entry) kinds.now boundary.items) }
+    ensures refused { IfErr result
+        (λ error. LinesRefusal (option_copied encoding.entry) kinds.now error) }
 {
     if !is_plain(encoding) {
         return Err(FormError::Malformed(Reason::ContentEncoding));
@@ -57,7 +59,9 @@ fn is_form(value: &[u8]) -> bool
 }
 
 fn boundary_in(alloc: Global, value: &[u8]) -> Result<Option<Vec<u8>>, NoMemory>
-    ensures { IfOk result (λ found. MatchOption found ((boundary : List ℕ) → ¬ (HasBoundary value.now boundary)) (λ boundary. HasBoundary value.now boundary.items)) }
+    ensures { IfOk result (λ found.
+        MatchOption found ((boundary : List ℕ) → ¬ (HasBoundary value.now boundary))
+        (λ boundary. HasBoundary value.now boundary.items)) }
 {
     let rest = after(value, media_len(value));
     let Some(found) = parameters(alloc, true, rest)? else {

@@ -36,7 +36,8 @@ impl Model for Form {
 impl Form {
     /// A form of a message with these lines: its `Content-Encoding`, if it has one, and its `Content-Type` lines.
     pub fn new(alloc: Global, encoding: Option<&str>, kinds: &Pairs) -> Result<Form, FormError>
-        ensures found { IfOk result (λ form. AreFormLines (option_copied encoding.entry) kinds.now form.boundary × WasFed form []) }
+        ensures found { IfOk result (λ form.
+            AreFormLines (option_copied encoding.entry) kinds.now form.boundary × WasFed form []) }
         ensures refused { IfErr result (LinesRefusal (option_copied encoding.entry) kinds.now) }
     {
         let boundary = boundary_of(alloc, encoding, kinds)?;
@@ -48,8 +49,10 @@ impl Form {
 
     /// Takes the next piece of the body. A refusal comes only where each continuation of the body has it.
     pub fn feed(&mut self, piece: &[u8]) -> Result<(), FormError>
-        ensures goes_on { (fed : List ℕ) → WasFed self.old fed → OnOk result (WasFed self.new (fed ++ piece.now)) }
-        ensures refused { (fed : List ℕ) → WasFed self.old fed → IfErr result (FormRefusesFor self.old.boundary (fed ++ piece.now)) }
+        ensures goes_on { (fed : List ℕ) → WasFed self.old fed
+            → OnOk result (WasFed self.new (fed ++ piece.now)) }
+        ensures refused { (fed : List ℕ) → WasFed self.old fed
+            → IfErr result (FormRefusesFor self.old.boundary (fed ++ piece.now)) }
         ensures keeps { self.new.boundary ≡ self.old.boundary }
         ensures stays { IfErr result (FormHasRefused self.new) }
         ensures again { (error : Refusal) → FormHasRefused self.old error → result ≡ Err error }
@@ -62,9 +65,12 @@ impl Form {
 
     /// The submission that the message is, whose body ends here.
     pub fn finish(self) -> Result<Submission, FormError>
-        ensures found { (fed : List ℕ) → WasFed self fed → IfOk result (λ said. BodySays self.boundary fed (submission_text said)) }
-        ensures fits { (fed : List ℕ) → WasFed self fed → IfOk result (λ said. length fed ≤ 16777216 → FitsCrash (submission_text said)) }
-        ensures refused { (fed : List ℕ) → WasFed self fed → IfErr result (BodyRefusal self.boundary fed) }
+        ensures found { (fed : List ℕ) → WasFed self fed
+            → IfOk result (λ said. BodySays self.boundary fed (submission_text said)) }
+        ensures fits { (fed : List ℕ) → WasFed self fed
+            → IfOk result (λ said. length fed ≤ 16777216 → FitsCrash (submission_text said)) }
+        ensures refused { (fed : List ℕ) → WasFed self fed
+            → IfErr result (BodyRefusal self.boundary fed) }
         ensures again { (error : Refusal) → FormHasRefused self error → result ≡ Err error }
     {
         let Form { alloc, reader } = self;

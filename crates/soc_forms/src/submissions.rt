@@ -45,9 +45,12 @@ pub fn read_submission(
     kinds: &Pairs,
     body: &[u8],
 ) -> Result<Submission, FormError>
-    ensures found { IfOk result (λ said. SubmissionOf (option_copied encoding.entry) kinds.now body.now (submission_text said)) }
-    ensures fits { IfOk result (λ said. length body.now ≤ 16777216 → FitsCrash (submission_text said)) }
-    ensures refused { IfErr result (λ error. SubmissionRefusal (option_copied encoding.entry) kinds.now body.now error) }
+    ensures found { IfOk result (λ said.
+        SubmissionOf (option_copied encoding.entry) kinds.now body.now (submission_text said)) }
+    ensures fits { IfOk result (λ said. length body.now ≤ 16777216
+        → FitsCrash (submission_text said)) }
+    ensures refused { IfErr result
+        (λ error. SubmissionRefusal (option_copied encoding.entry) kinds.now body.now error) }
 {
     let mut form = Form::new(alloc, encoding, kinds)?;
     form.feed(body)?;
@@ -60,7 +63,8 @@ pub fn submission_is_one()
 {}
 
 pub fn form_error(error: PartsError) -> FormError
-    ensures refusal { (boundary body : List ℕ) → IsBoundary boundary → RefusesBody boundary body error → BodyRefusal boundary body result }
+    ensures refusal { (boundary body : List ℕ) → IsBoundary boundary
+        → RefusesBody boundary body error → BodyRefusal boundary body result }
     ensures name { result ≡ error_of error }
 {
     match error {
@@ -75,7 +79,8 @@ pub fn form_error(error: PartsError) -> FormError
 
 /// What the parts of a form say.
 pub fn said_by(alloc: Global, parts: Vec<OwnedPart>) -> Result<Submission, FormError>
-    ensures found { IfOk result (λ said. SaysSubmission (owned_texts parts.items) (submission_text said)) }
+    ensures found { IfOk result (λ said.
+        SaysSubmission (owned_texts parts.items) (submission_text said)) }
     ensures refused { IfErr result (λ error. SaysRefusal (owned_texts parts.items) error) }
 {
     let fields = fields_of(alloc, parts.as_slice())?;
@@ -123,7 +128,8 @@ fn sent_id(sent: Option<Text>) -> Option<CrashId>
 
 /// The fields that the parts say.
 fn fields_of(alloc: Global, parts: &[OwnedPart]) -> Result<Fields, FormError>
-    ensures found { IfOk result (λ fields. SaysFields (owned_texts parts.now) (fields_text fields)) }
+    ensures found { IfOk result (λ fields.
+        SaysFields (owned_texts parts.now) (fields_text fields)) }
     ensures refused { IfErr result (λ error. SaysRefusal (owned_texts parts.now) error) }
 {
     let Some(place) = next_extra(parts, 0) else {
@@ -152,7 +158,8 @@ fn fields_of(alloc: Global, parts: &[OwnedPart]) -> Result<Fields, FormError>
 /// The place of the first JSON part from `from` on.
 fn next_extra(parts: &[OwnedPart], from: usize) -> Option<usize>
     requires { from ≤ length parts.now }
-    ensures { MatchOption result (filter is_extra_text (owned_texts (drop from parts.now)) ≡ []) (λ place. HasNextExtra parts.now from place) }
+    ensures { MatchOption result (filter is_extra_text (owned_texts (drop from parts.now)) ≡ [])
+        (λ place. HasNextExtra parts.now from place) }
 {
     for i in from..parts.len() {
         let part = &parts[i];
@@ -164,7 +171,8 @@ fn next_extra(parts: &[OwnedPart], from: usize) -> Option<usize>
 }
 
 fn has_plain(parts: &[OwnedPart]) -> bool
-    ensures { MatchBool result (filter is_plain_text (owned_texts parts.now) ≢ []) (filter is_plain_text (owned_texts parts.now) ≡ []) }
+    ensures { MatchBool result (filter is_plain_text (owned_texts parts.now) ≢ [])
+        (filter is_plain_text (owned_texts parts.now) ≡ []) }
 {
     for part in parts {
         if is_plain(part) {

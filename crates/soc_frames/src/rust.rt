@@ -81,7 +81,8 @@ fn pass_angles(walk: &mut Walk<'_>)
 /// Goes on behind the next group of `<`, and gives where it begins.
 fn next_group(walk: &mut Walk<'_>) -> Option<usize>
     requires { walk.old.place ≤ length walk.old.text.now }
-    ensures { MatchOption result (grouped_from false 0 (rest_of walk.old) ≡ drop walk.old.place walk.old.text.now) (λ start. FindsAngles start walk.old walk.new) }
+    ensures { MatchOption result (grouped_from false 0 (rest_of walk.old)
+        ≡ drop walk.old.place walk.old.text.now) (λ start. FindsAngles start walk.old walk.new) }
 {
     'places: loop {
         let start = walk.place;

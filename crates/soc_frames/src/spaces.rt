@@ -47,7 +47,8 @@ fn inner_len(text: &[u8]) -> usize
 fn put_piece(out: &mut String, name: &str, from: usize) -> Result<usize, NoMemory>
     requires inside { from < length name.now }
     requires boundary { IsCharBoundary name.now from }
-    ensures { IfOk result (λ to. Puts name.now from (string_bytes out.old) to (string_bytes out.new)) }
+    ensures { IfOk result (λ to. Puts name.now from (string_bytes out.old) to
+        (string_bytes out.new)) }
 {
     let bytes = name.as_bytes();
     if bytes[from] == b',' {

@@ -74,7 +74,8 @@ impl<'a> Walk<'a> {
 
     /// The next place.
     pub fn step(&mut self) -> Option<Place>
-        ensures turn { MatchOption result (IsAtEnd self.old self.new) (λ place. Passes place self.old self.new) }
+        ensures turn { MatchOption result (IsAtEnd self.old self.new)
+            (λ place. Passes place self.old self.new) }
         ensures bound { self.new.place < 2 ^ 64 }
     {
         let byte = *self.text.get(self.place)?;
@@ -105,7 +106,8 @@ impl<'a> Walk<'a> {
 
     /// The next place outside of brackets. The walk goes on behind the group, where it opens one.
     pub fn next_outer(&mut self) -> Option<Place>
-        ensures { MatchOption result (IsAtEnd self.old self.new) (λ place. PassesOuter place self.old self.new) }
+        ensures { MatchOption result (IsAtEnd self.old self.new)
+            (λ place. PassesOuter place self.old self.new) }
     {
         let place = self.step()?;
         if !place.opens() {

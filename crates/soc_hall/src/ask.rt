@@ -32,7 +32,8 @@ impl<T: Logged> Hall<T> {
     fn draw(&self, chair: &mut Chair<T>) -> u64
         requires { IsChair self.now.table.shared.table_id chair.old }
         ensures same { IsSame chair.old chair.new }
-        ensures drew { (t : ℕ) × (result ≡ t % 2 ^ 64) × (chair.new.me ≡ (staged (Waits t) chair.old.me.0, [])) }
+        ensures drew { (t : ℕ) × (result ≡ t % 2 ^ 64)
+            × (chair.new.me ≡ (staged (Waits t) chair.old.me.0, [])) }
     {
         self.table.shared.fetch_add::<Draw>(chair, 1, 1)
     }
@@ -42,7 +43,8 @@ impl<T: Logged> Hall<T> {
         requires table { chair.old.table_id ≡ self.now.table.shared.table_id }
         requires waits { WaitsWith ticket chair.old }
         ensures same { IsSame chair.old chair.new }
-        ensures takes { (t : ℕ) × Takes T.log_of T.basis_of chair.old.me.0 t [] chair.new.me.0 chair.new.me.1 }
+        ensures takes { (t : ℕ) × Takes T.log_of T.basis_of chair.old.me.0 t [] chair.new.me.0
+            chair.new.me.1 }
     {
         let mut looks = 0u32;
         for _ in rt.forever() {
@@ -75,9 +77,13 @@ impl<T: Logged> Hall<T> {
     // With the turn: moves the state out of the held slot.
     fn take(&self, chair: &mut Chair<T>) -> T
         requires table { chair.old.table_id ≡ self.now.table.shared.table_id }
-        requires state { (x : _) × (chair.old.me.1 ≡ (0, x) ∷ []) × Holds (IsState T.log_of T.basis_of chair.old.me.0.basis chair.old.me.0.opening chair.old.me.0.seen) x }
-        ensures same { IsSame chair.old chair.new × (chair.new.me ≡ (chair.old.me.0, (0, Empty) ∷ [])) }
-        ensures state { IsState T.log_of T.basis_of chair.old.me.0.basis chair.old.me.0.opening chair.old.me.0.seen result }
+        requires state { (x : _) × (chair.old.me.1 ≡ (0, x) ∷ [])
+            × Holds (IsState T.log_of T.basis_of chair.old.me.0.basis chair.old.me.0.opening
+            chair.old.me.0.seen) x }
+        ensures same { IsSame chair.old chair.new
+            × (chair.new.me ≡ (chair.old.me.0, (0, Empty) ∷ [])) }
+        ensures state { IsState T.log_of T.basis_of chair.old.me.0.basis chair.old.me.0.opening
+            chair.old.me.0.seen result }
     {
         match self.table.shared.exchange(chair, 0, Place::Empty) {
             Place::Empty => unreachable!(),
@@ -90,9 +96,11 @@ impl<T: Logged> Hall<T> {
     fn enter<R: Wait>(&self, rt: &R, chair: &mut Chair<T>) -> Entered<T>
         requires { IsChair self.now.table.shared.table_id chair.old }
         ensures same { IsSame chair.old chair.new }
-        ensures entered { (t : ℕ) × (between : List _) × (chair.new.me ≡ (taken chair.old.me.0 t between, (0, Empty) ∷ [])) }
+        ensures entered { (t : ℕ) × (between : List _)
+            × (chair.new.me ≡ (taken chair.old.me.0 t between, (0, Empty) ∷ [])) }
         ensures start { result.start ≡ front_of chair.new.me.0 }
-        ensures state { IsState T.log_of T.basis_of chair.new.me.0.basis chair.new.me.0.opening chair.new.me.0.seen result.state }
+        ensures state { IsState T.log_of T.basis_of chair.new.me.0.basis chair.new.me.0.opening
+            chair.new.me.0.seen result.state }
     {
         let ticket = self.draw(chair);
         self.wait(rt, chair, ticket);
@@ -115,7 +123,8 @@ impl<T: Logged> Hall<T> {
     )
         requires table { chair.old.table_id ≡ self.now.table.shared.table_id }
         requires empty { chair.old.me.1 ≡ (0, Empty) ∷ [] }
-        ensures same { IsSame chair.old chair.new × (chair.new.me ≡ (chair.old.me.0, (0, Done state command reply) ∷ [])) }
+        ensures same { IsSame chair.old chair.new
+            × (chair.new.me ≡ (chair.old.me.0, (0, Done state command reply) ∷ [])) }
     {
         let before = self
             .table
@@ -130,7 +139,12 @@ impl<T: Logged> Hall<T> {
         requires turn { (t : ℕ) × (chair.old.me.0.stage ≡ Turns t) }
         requires done { IsDone T.log_of T.basis_of T.answers chair.old.me length }
         ensures same { IsSame chair.old chair.new }
-        ensures counted { (x : T) (c : _) (p : _) → chair.old.me.1 ≡ (0, Done x c p) ∷ [] → chair.new.me ≡ (turned_by chair.old.me.0 (drop (front_of chair.old.me.0) (T.log_of x)) c.value p.value, chair.old.me.1) }
+        ensures counted { (x : T) (c : _) (p : _) → chair.old.me.1 ≡ (0, Done x c p) ∷ []
+            → chair.new.me ≡ (
+              turned_by chair.old.me.0
+                  (drop (front_of chair.old.me.0) (T.log_of x)) c.value p.value,
+              chair.old.me.1,
+            ) }
     {
         self.table.shared.fetch_add::<Count<T>>(chair, 0, length);
     }
@@ -139,7 +153,9 @@ impl<T: Logged> Hall<T> {
     fn pass(&self, chair: &mut Chair<T>)
         requires table { chair.old.table_id ≡ self.now.table.shared.table_id }
         requires turn { (t : ℕ) × (chair.old.me.0.stage ≡ Turns t) }
-        requires state { (x : _) × (chair.old.me.1 ≡ (0, x) ∷ []) × Holds (IsState T.log_of T.basis_of chair.old.me.0.basis chair.old.me.0.opening chair.old.me.0.seen) x }
+        requires state { (x : _) × (chair.old.me.1 ≡ (0, x) ∷ [])
+            × Holds (IsState T.log_of T.basis_of chair.old.me.0.basis chair.old.me.0.opening
+            chair.old.me.0.seen) x }
         ensures same { IsSame chair.old chair.new }
         ensures passed { chair.new.me ≡ (staged Idle chair.old.me.0, []) }
         ensures owns { Owns T.answers (known chair.new.me.0) }
@@ -159,9 +175,15 @@ impl<T: Logged> Hall<T> {
         requires table { chair.old.table_id ≡ self.now.table.shared.table_id }
         requires turn { (t : ℕ) × (chair.old.me.0.stage ≡ Turns t) }
         requires empty { chair.old.me.1 ≡ (0, Empty) ∷ [] }
-        requires after { IsAfter T.log_of T.basis_of T.answers chair.old.me.0 length state command.value reply.value }
+        requires after { IsAfter T.log_of T.basis_of T.answers chair.old.me.0 length state
+            command.value reply.value }
         ensures same { IsSame chair.old chair.new }
-        ensures left { chair.new.me ≡ (staged Idle (turned_by chair.old.me.0 (drop (front_of chair.old.me.0) (T.log_of state)) command.value reply.value), []) }
+        ensures left { chair.new.me ≡ (
+          staged Idle
+              (turned_by chair.old.me.0 (drop (front_of chair.old.me.0) (T.log_of state))
+              command.value reply.value),
+          [],
+        ) }
         ensures owns { Owns T.answers (known chair.new.me.0) }
     {
         self.give(chair, state, command, reply);
@@ -187,7 +209,8 @@ impl<T: Logged> Hall<T> {
         requires seat { IsSeatOf self.now seat }
         requires may { MayAsk T.may_ask (known_of seat) command }
         ensures seat { IsSeatOf self.now result.0 }
-        ensures turn { Asks T.log_of T.basis_of T.asks T.answers (known_of seat) command result.1 (known_of result.0) }
+        ensures turn { Asks T.log_of T.basis_of T.asks T.answers (known_of seat) command result.1
+            (known_of result.0) }
         ensures owns { Owns T.answers (known_of result.0) }
     {
         let HallSeat { mut chair } = seat;

@@ -17,7 +17,8 @@ impl<T: Logged> Hall<T> {
         requires chair { IsChair self.now.table.shared.table_id chair }
         requires others { All (λ seat. IsSeatOf self.now seat) others.items }
         ensures chair { IsChair self.now.table.shared.table_id result }
-        ensures took { result.me.0 ≡ having_taken (map (λ seat. known_of seat) others.items) chair.me.0 }
+        ensures took { result.me.0 ≡ having_taken
+            (map (λ seat. known_of seat) others.items) chair.me.0 }
     {
         for seat in others {
             let HallSeat { chair: other } = seat;
@@ -30,7 +31,8 @@ impl<T: Logged> Hall<T> {
     fn end(self, chair: Chair<T>) -> T
         requires chair { IsChair self.table.shared.table_id chair }
         requires all { chair.me.0.parts ≡ seats_of self }
-        ensures { Closes (T.log_of result) (T.basis_of result) (chair.me.0.gone ++ known chair.me.0 ∷ []) }
+        ensures { Closes (T.log_of result) (T.basis_of result)
+            (chair.me.0.gone ++ known chair.me.0 ∷ []) }
     {
         let Room { table } = self;
         let mut closed = table.close_with(chair);
@@ -47,7 +49,8 @@ impl<T: Logged> Hall<T> {
     pub fn close(self, seats: Seats<T>) -> T
         requires seats { All (λ seat. IsSeatOf self seat) (seats_in seats) }
         requires all { length (seats_in seats) ≡ seats_of self }
-        ensures { Closes (T.log_of result) (T.basis_of result) (map (λ seat. known_of seat) (seats_in seats)) }
+        ensures { Closes (T.log_of result) (T.basis_of result)
+            (map (λ seat. known_of seat) (seats_in seats)) }
     {
         let HallSeats { list: mut others } = seats;
         let Some(HallSeat { chair }) = others.pop() else {

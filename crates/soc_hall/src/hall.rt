@@ -42,8 +42,11 @@ impl<T: Logged + Drop> Hall<T> {
     pub fn new(alloc: Global, state: T, seats: u32) -> Result<(Hall<T>, Seats<T>), NoMemory>
         requires { (0 < seats) × (seats ≤ 64) }
         ensures hall { IfOk result (λ made. seats_of made.0 ≡ seats) }
-        ensures count { IfOk result (λ made. (length (seats_in made.1) ≡ seats) × (seats ≤ room_of made.1)) }
-        ensures each { IfOk result (λ made. All (λ seat. IsSeatOf made.0 seat × IsNew (T.basis_of state) (T.log_of state) (known_of seat)) (seats_in made.1)) }
+        ensures count { IfOk result (λ made. (length (seats_in made.1) ≡ seats)
+            × (seats ≤ room_of made.1)) }
+        ensures each { IfOk result (λ made.
+            All (λ seat. IsSeatOf made.0 seat
+            × IsNew (T.basis_of state) (T.log_of state) (known_of seat)) (seats_in made.1)) }
     {
         Self::over(alloc, state, seats).map_err(|_| NoMemory)
     }
@@ -58,8 +61,11 @@ impl<T: Logged> Hall<T> {
     pub fn over(alloc: Global, state: T, seats: u32) -> Result<(Hall<T>, Seats<T>), T>
         requires { (0 < seats) × (seats ≤ 64) }
         ensures hall { IfOk result (λ made. seats_of made.0 ≡ seats) }
-        ensures count { IfOk result (λ made. (length (seats_in made.1) ≡ seats) × (seats ≤ room_of made.1)) }
-        ensures each { IfOk result (λ made. All (λ seat. IsSeatOf made.0 seat × IsNew (T.basis_of state) (T.log_of state) (known_of seat)) (seats_in made.1)) }
+        ensures count { IfOk result (λ made. (length (seats_in made.1) ≡ seats)
+            × (seats ≤ room_of made.1)) }
+        ensures each { IfOk result (λ made.
+            All (λ seat. IsSeatOf made.0 seat
+            × IsNew (T.basis_of state) (T.log_of state) (known_of seat)) (seats_in made.1)) }
         ensures back { IfErr result (λ back. back ≡ state) }
     {
         let Ok(list) = Vec::with_capacity(alloc, seats as usize) else {
@@ -107,9 +113,12 @@ impl<T: Logged> Hall<T> {
     // All seats, of which this is the first.
     fn fill(&self, mut list: Vec<Seat<T>>, mut chair: Chair<T>, seats: u32) -> Seats<T>
         requires list { (list.items ≡ []) × (seats ≤ vec_capacity list) × (0 < seats) }
-        requires chair { IsNewChair T.basis_of T.log_of self.now chair × (chair.me.0.parts ≡ seats) }
+        requires chair { IsNewChair T.basis_of T.log_of self.now chair
+            × (chair.me.0.parts ≡ seats) }
         ensures count { (length (seats_in result) ≡ seats) × (seats ≤ room_of result) }
-        ensures each { All (λ seat. IsSeatOf self.now seat × IsNew (T.basis_of self.now.table.shared.key.state.value) (T.log_of self.now.table.shared.key.state.value) (known_of seat)) (seats_in result) }
+        ensures each { All (λ seat. IsSeatOf self.now seat
+            × IsNew (T.basis_of self.now.table.shared.key.state.value)
+            (T.log_of self.now.table.shared.key.state.value) (known_of seat)) (seats_in result) }
     {
         for _made in 1..seats {
             let other = self.another(&mut chair);
@@ -123,7 +132,8 @@ impl<T: Logged> Hall<T> {
     fn another(&self, chair: &mut Chair<T>) -> Chair<T>
         requires chair { IsNewChair T.basis_of T.log_of self.now chair.old }
         requires parts { 1 < chair.old.me.0.parts }
-        ensures chair { IsNewChair T.basis_of T.log_of self.now chair.new × (chair.new.me.0.parts + 1 ≡ chair.old.me.0.parts) }
+        ensures chair { IsNewChair T.basis_of T.log_of self.now chair.new
+            × (chair.new.me.0.parts + 1 ≡ chair.old.me.0.parts) }
         ensures other { IsNewChair T.basis_of T.log_of self.now result × (result.me.0.parts ≡ 1) }
     {
         let mut other = self.table.shared.split_seat::<Part>(chair);

@@ -23,7 +23,8 @@ pub trait Logged {
     ghost asks: { Self → Self.Command → Self.Reply → Self → Type 0 };
 
     // What a turn gives its seat: of the basis, the log before it, the command, the reply and the log after it.
-    ghost answers: { Self.Basis → List Self.Change → Self.Command → Self.Reply → List Self.Change → Type 0 };
+    ghost answers: { Self.Basis → List Self.Change → Self.Command → Self.Reply → List Self.Change
+        → Type 0 };
 
     // When a command may be asked, by the basis and a beginning of the log that its asker has seen.
     ghost may_ask: { Self.Basis → List Self.Change → Self.Command → Type 0 };
@@ -34,12 +35,14 @@ pub trait Logged {
         ensures log { IsPrefix (log_of self.old) (log_of self.new) }
         ensures basis { basis_of self.new ≡ basis_of self.old }
         ensures asks { asks self.old command result self.new }
-        ensures answers { answers (basis_of self.old) (log_of self.old) command result (log_of self.new) };
+        ensures answers { answers (basis_of self.old) (log_of self.old) command result
+            (log_of self.new) };
 
     /// The length of the log.
     fn front(&self) -> u64
         ensures { result ≡ length (log_of self.now) };
 
     // What may be asked stays so as the log grows.
-    ghost may_still: { (b : Self.Basis) (xs ys : List Self.Change) (c : Self.Command) → may_ask b xs c → may_ask b (xs ++ ys) c };
+    ghost may_still: { (b : Self.Basis) (xs ys : List Self.Change) (c : Self.Command)
+        → may_ask b xs c → may_ask b (xs ++ ys) c };
 }

@@ -16,9 +16,11 @@ impl<T: Logged> Hall<T> {
     fn tell(&self, teller: &mut Chair<T>, hearer: &mut Chair<T>)
         requires teller { IsChair self.now.table.shared.table_id teller.old }
         requires hearer { IsChair self.now.table.shared.table_id hearer.old }
-        ensures teller { IsChair self.now.table.shared.table_id teller.new × (teller.new.me.0 ≡ teller.old.me.0) }
+        ensures teller { IsChair self.now.table.shared.table_id teller.new
+            × (teller.new.me.0 ≡ teller.old.me.0) }
         ensures hearer { IsChair self.now.table.shared.table_id hearer.new }
-        ensures hears { (s : _) × (hearer.new.me.0 ≡ seeing s hearer.old.me.0) × IsLonger s hearer.old.me.0.seen teller.old.me.0.seen }
+        ensures hears { (s : _) × (hearer.new.me.0 ≡ seeing s hearer.old.me.0)
+            × IsLonger s hearer.old.me.0.seen teller.old.me.0.seen }
         ensures owns { Owns T.answers (known hearer.new.me.0) }
     {
         let table = &self.table.shared;

@@ -50,7 +50,8 @@ impl<S, B, X, C, P> HallSeats<S, B, X, C, P> {
 
     /// The last of them.
     pub fn pop(&mut self) -> Option<HallSeat<S, B, X, C, P>>
-        ensures popped { MatchOption result ((seats_in self.old ≡ []) × (seats_in self.new ≡ [])) (λ seat. seats_in self.old ≡ seats_in self.new ++ seat ∷ []) }
+        ensures popped { MatchOption result ((seats_in self.old ≡ []) × (seats_in self.new ≡ []))
+            (λ seat. seats_in self.old ≡ seats_in self.new ++ seat ∷ []) }
         ensures room { room_of self.new ≡ room_of self.old }
     {
         self.list.pop()

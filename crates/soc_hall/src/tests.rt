@@ -38,7 +38,8 @@ impl<R: Clock> Logged for Numbers<R> {
 
     ghost basis_of = { λ s. s.bound };
 
-    ghost asks = { λ s c r t. MatchBool r (t.list.items ≡ s.list.items ++ c ∷ []) (t.list.items ≡ s.list.items) };
+    ghost asks = { λ s c r t. MatchBool r (t.list.items ≡ s.list.items ++ c ∷ [])
+        (t.list.items ≡ s.list.items) };
 
     ghost answers = { λ b xs c r ys. MatchBool r (ys ≡ xs ++ c ∷ []) (ys ≡ xs) };
 
@@ -102,11 +103,15 @@ fn askers_of<R: Clock>(
     hall: &Hall<Numbers<R>>,
     seats: &mut Seats<Numbers<R>>,
 ) -> Result<Vec<Asker<Seat<Numbers<R>>>>, NoMemory>
-    requires seats { All (λ seat. IsSeatOf hall.now seat × ((known_of seat).basis ≡ Some BOUND)) (seats_in seats.old) }
+    requires seats { All (λ seat. IsSeatOf hall.now seat × ((known_of seat).basis ≡ Some BOUND))
+        (seats_in seats.old) }
     requires few { length (seats_in seats.old) ≤ 64 }
-    ensures none_left { IfOk result (λ askers. (seats_in seats.new ≡ []) × (room_of seats.new ≡ room_of seats.old)) }
+    ensures none_left { IfOk result
+        (λ askers. (seats_in seats.new ≡ []) × (room_of seats.new ≡ room_of seats.old)) }
     ensures count { IfOk result (λ askers. length askers.items ≡ length (seats_in seats.old)) }
-    ensures each { IfOk result (λ askers. All (λ asker. IsSeatOf hall.now asker.seat × ((known_of asker.seat).basis ≡ Some BOUND) × (asker.from + APART ≤ BOUND)) askers.items) }
+    ensures each { IfOk result (λ askers.
+        All (λ asker. IsSeatOf hall.now asker.seat × ((known_of asker.seat).basis ≡ Some BOUND)
+        × (asker.from + APART ≤ BOUND)) askers.items) }
 {
     let mut askers = Vec::new(alloc);
     while let Some(seat) = seats.pop() {
@@ -130,7 +135,8 @@ fn seats_of_askers<R: Clock>(
     requires seats { (seats_in seats.old ≡ []) × (length askers.items ≤ room_of seats.old) }
     requires each { All (λ asker. IsSeatOf hall.now asker.seat) askers.items }
     ensures count { IfOk result (λ notes. length (seats_in seats.new) ≡ length askers.items) }
-    ensures seats { IfOk result (λ notes. All (λ seat. IsSeatOf hall.now seat) (seats_in seats.new)) }
+    ensures seats { IfOk result (λ notes.
+        All (λ seat. IsSeatOf hall.now seat) (seats_in seats.new)) }
 {
     let mut notes = Vec::new(alloc);
     for asker in askers {
@@ -160,7 +166,8 @@ fn run<R: Clock + Threads + Wait + Clone + Drop + Send + Sync>(
         rt,
         askers,
         &|asker: Asker<Seat<Numbers<R>>>| -> Asker<Seat<Numbers<R>>>
-            requires { IsSeatOf hall.now asker.seat × ((known_of asker.seat).basis ≡ Some BOUND) × (asker.from + APART ≤ BOUND) × (count ≤ APART) }
+            requires { IsSeatOf hall.now asker.seat × ((known_of asker.seat).basis ≡ Some BOUND)
+                × (asker.from + APART ≤ BOUND) × (count ≤ APART) }
             ensures { IsSeatOf hall.entry.now result.seat }
         { ask_all(rt, hall, asker, count) },
     )?;

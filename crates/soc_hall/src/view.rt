@@ -84,7 +84,9 @@ impl<T: Logged> TableRule<
 > for Law<T> {
     ghost use Rattle.soc_hall.specs.inner.Rule.{Kept, starting};
 
-    ghost holds = { λ key. Kept T.log_of T.basis_of T.answers (T.basis_of key.state.value) (T.log_of key.state.value) key.seats };
+    ghost holds = { λ key. Kept T.log_of T.basis_of T.answers (T.basis_of key.state.value)
+        (T.log_of key.state.value) key.seats };
 
-    ghost first = { λ key. starting (T.basis_of key.state.value) (T.log_of key.state.value) key.seats };
+    ghost first = { λ key. starting (T.basis_of key.state.value)
+        (T.log_of key.state.value) key.seats };
 }

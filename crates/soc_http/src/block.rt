@@ -30,7 +30,8 @@ fn parse_whole(block: &[u8], headers: &mut [HeaderSpan]) -> Option<RequestSpans>
     requires few { HasFewLines block.now }
     requires room { length headers.old ≡ 64 }
     ensures { MatchOption result (HasNoHead block.now)
-        (λ spans. IsRequestWithin block.now headers.new spans × IsWholeRequest block.now headers.new spans) }
+        (λ spans. IsRequestWithin block.now headers.new spans
+        × IsWholeRequest block.now headers.new spans) }
 {
     match parse_request(block, headers) {
         Ok(Status::Complete(spans)) if spans.len == block.len() => Some(spans),
@@ -75,7 +76,8 @@ fn split_target(alloc: Global, target: &[u8]) -> Result<Target, NoMemory>
 
 fn lines_of(alloc: Global, block: &[u8], headers: &[HeaderSpan]) -> Result<Pairs, NoMemory>
     requires { All (IsHeaderWithin (length block.now)) headers.now }
-    ensures { IfOk result (λ pairs. pairs ≡ map lossy_line (map (header_bytes block.now) headers.now)) }
+    ensures { IfOk result (λ pairs. pairs
+        ≡ map lossy_line (map (header_bytes block.now) headers.now)) }
 {
     let mut lines = Pairs::new(alloc);
     for header in headers {

@@ -47,8 +47,10 @@ pub(crate) fn piece_len<S: Source>(
     left: u64,
 ) -> Result<usize, BodyError>
     requires { 0 < left }
-    ensures ready { IsPieceReady (S.told source.old) (S.told source.new) buffer.old left result buffer.new }
-    ensures cause { IsErrOf result BodyError.ReadFault → ReadFailed (S.told source.old) (S.told source.new) }
+    ensures ready { IsPieceReady (S.told source.old)
+        (S.told source.new) buffer.old left result buffer.new }
+    ensures cause { IsErrOf result BodyError.ReadFault
+        → ReadFailed (S.told source.old) (S.told source.new) }
 {
     if buffer.unread().is_empty() && buffer.fill(source)? == 0 {
         return Err(BodyError::CutShort);
@@ -68,8 +70,10 @@ pub fn pass_over<S: Source>(
     buffer: &mut Buffer,
     length: u64,
 ) -> Result<(), BodyError>
-    ensures passes { Passes (S.told source.old) (S.told source.new) buffer.old length result buffer.new }
-    ensures cause { IsErrOf result BodyError.ReadFault → ReadFailed (S.told source.old) (S.told source.new) }
+    ensures passes { Passes (S.told source.old)
+        (S.told source.new) buffer.old length result buffer.new }
+    ensures cause { IsErrOf result BodyError.ReadFault
+        → ReadFailed (S.told source.old) (S.told source.new) }
 {
     let mut left = length;
     while left > 0 {
@@ -94,8 +98,10 @@ fn read_into<S: Source>(
     buffer: &mut Buffer,
     body: &mut [u8],
 ) -> Result<(), BodyError>
-    ensures into { IntoFrom (S.told source.old) (S.told source.new) buffer.old body.new result buffer.new }
-    ensures cause { IsErrOf result BodyError.ReadFault → ReadFailed (S.told source.old) (S.told source.new) }
+    ensures into { IntoFrom (S.told source.old)
+        (S.told source.new) buffer.old body.new result buffer.new }
+    ensures cause { IsErrOf result BodyError.ReadFault
+        → ReadFailed (S.told source.old) (S.told source.new) }
 {
     let mut at = buffer.unread().len().min(body.len());
     copy_to_front(body, before(buffer.unread(), at));
@@ -123,8 +129,10 @@ fn next_body<S: Source>(
     buffer: &mut Buffer,
     length: u64,
 ) -> Result<Bytes, BodyError>
-    ensures from { BodyFrom (S.told source.old) (S.told source.new) buffer.old length result buffer.new }
-    ensures cause { IsErrOf result BodyError.ReadFault → ReadFailed (S.told source.old) (S.told source.new) }
+    ensures from { BodyFrom (S.told source.old)
+        (S.told source.new) buffer.old length result buffer.new }
+    ensures cause { IsErrOf result BodyError.ReadFault
+        → ReadFailed (S.told source.old) (S.told source.new) }
 {
     let Ok(mut body) = zeros(alloc, length as usize) else {
         pass_over(source, buffer, length)?;
@@ -145,8 +153,10 @@ pub fn read_body<S: Source>(
 ) -> Result<Bytes, BodyError>
     ensures reads { ReadsBodyAhead (ahead buffer.old (S.told source.old)) head.now.length result
         (ahead buffer.new (S.told source.new)) }
-    ensures from { BodyFrom (S.told source.old) (S.told source.new) buffer.old head.now.length result buffer.new }
-    ensures cause { IsErrOf result BodyError.ReadFault → ReadFailed (S.told source.old) (S.told source.new) }
+    ensures from { BodyFrom (S.told source.old)
+        (S.told source.new) buffer.old head.now.length result buffer.new }
+    ensures cause { IsErrOf result BodyError.ReadFault
+        → ReadFailed (S.told source.old) (S.told source.new) }
 {
     next_body(alloc, source, buffer, head.length)
 }
@@ -166,7 +176,8 @@ pub fn body_piece<'b, S: Source>(
     ensures some { IfOk result (λ piece. 0 < length piece.now) }
     ensures counted { IfOk result (λ piece. left.new + length piece.now ≡ left.old) }
     ensures left_stays { OnErr result (left.new ≡ left.old) }
-    ensures cause { IsErrOf result BodyError.ReadFault → ReadFailed (S.told source.old) (S.told source.new) }
+    ensures cause { IsErrOf result BodyError.ReadFault
+        → ReadFailed (S.told source.old) (S.told source.new) }
 {
     buffer.take_piece(source, left)
 }

@@ -49,8 +49,10 @@ pub(crate) fn read_behind<S: Source>(
     requires { end ≤ length window.old }
     ensures front { take end window.new ≡ take end window.old }
     ensures count { IfOk result (λ n. end + n ≤ length window.new) }
-    ensures reads { IfOk result (λ n. Reads (S.told source.old) (S.told source.new) (take n (drop end window.new))) }
-    ensures ended { IfOk result (λ n. n ≡ 0 → end < length window.new → IsAtEnd (S.told source.new).left) }
+    ensures reads { IfOk result (λ n.
+        Reads (S.told source.old) (S.told source.new) (take n (drop end window.new))) }
+    ensures ended { IfOk result (λ n. n ≡ 0 → end < length window.new
+        → IsAtEnd (S.told source.new).left) }
     ensures unmoved { OnErr result (Reads (S.told source.old) (S.told source.new) []) }
     ensures cause { OnErr result (ReadFailed (S.told source.old) (S.told source.new)) }
 {
@@ -72,7 +74,8 @@ fn make_room(window: &mut [u8], start: usize, end: usize) -> Range<usize>
     requires ordered { start ≤ end }
     requires within { end ≤ length window.old }
     requires size { length window.old ≡ 32768 }
-    ensures unread { drop result.start (take result.end window.new) ≡ drop start (take end window.old) }
+    ensures unread { drop result.start (take result.end window.new)
+        ≡ drop start (take end window.old) }
     ensures ordered { result.start ≤ result.end }
     ensures count { result.end - result.start ≡ end - start }
     ensures early { result.start < 16384 }
@@ -126,7 +129,8 @@ impl Buffer {
         ensures some { IfOk result (λ piece. 0 < length piece.now) }
         ensures counted { IfOk result (λ piece. left.new + length piece.now ≡ left.old) }
         ensures left_stays { OnErr result (left.new ≡ left.old) }
-        ensures cause { IsErrOf result BodyError.ReadFault → ReadFailed (S.told source.old) (S.told source.new) }
+        ensures cause { IsErrOf result BodyError.ReadFault
+            → ReadFailed (S.told source.old) (S.told source.new) }
     {
         let count = piece_len(source, self, *left)?;
         *left -= count as u64;
@@ -146,7 +150,8 @@ impl Buffer {
     /// Reads more bytes behind the unread ones, and answers how many; 0 at the end of input.
     pub(crate) fn fill<S: Source>(&mut self, source: &mut S) -> Result<usize, Failed>
         requires { length self.old ≤ 16384 }
-        ensures fills { IfOk result (λ _. Fills (S.told source.old) (S.told source.new) self.old self.new) }
+        ensures fills { IfOk result (λ _.
+            Fills (S.told source.old) (S.told source.new) self.old self.new) }
         ensures count { IfOk result (λ n. length self.new ≡ length self.old + n) }
         ensures ended { IfOk result (λ n. n ≡ 0 → IsAtEnd (S.told source.new).left) }
         ensures kept { OnErr result (self.new ≡ self.old) }

@@ -20,7 +20,8 @@ const BLOCK_LIMIT: usize = 16_384;
 fn find_block<S: Source>(source: &mut S, buffer: &mut Buffer) -> Result<Option<usize>, HeadError>
     ensures fills { Fills (S.told source.old) (S.told source.new) buffer.old buffer.new }
     ensures found { IsSearched buffer.new (S.told source.new) result }
-    ensures cause { IsErrOf result HeadError.ReadFault → ReadFailed (S.told source.old) (S.told source.new) }
+    ensures cause { IsErrOf result HeadError.ReadFault
+        → ReadFailed (S.told source.old) (S.told source.new) }
 {
     let mut searched = 0;
     loop {
@@ -54,8 +55,10 @@ fn next_head<S: Source>(
     source: &mut S,
     buffer: &mut Buffer,
 ) -> Result<Option<Head>, HeadError>
-    ensures from { ReadsHeadFrom (S.told source.old) (S.told source.new) buffer.old result buffer.new }
-    ensures cause { IsErrOf result HeadError.ReadFault → ReadFailed (S.told source.old) (S.told source.new) }
+    ensures from { ReadsHeadFrom (S.told source.old)
+        (S.told source.new) buffer.old result buffer.new }
+    ensures cause { IsErrOf result HeadError.ReadFault
+        → ReadFailed (S.told source.old) (S.told source.new) }
 {
     let Some(end) = find_block(source, buffer)? else {
         return Ok(None);
@@ -75,10 +78,13 @@ pub fn read_head<S: Source>(
     source: &mut S,
     buffer: &mut Buffer,
 ) -> Result<Option<Head>, HeadError>
-    ensures reads { ReadsHeadAhead (ahead buffer.old (S.told source.old)) result (ahead buffer.new (S.told source.new)) }
-    ensures from { ReadsHeadFrom (S.told source.old) (S.told source.new) buffer.old result buffer.new }
+    ensures reads { ReadsHeadAhead (ahead buffer.old (S.told source.old)) result
+        (ahead buffer.new (S.told source.new)) }
+    ensures from { ReadsHeadFrom (S.told source.old)
+        (S.told source.new) buffer.old result buffer.new }
     ensures within { IfOk result (λ found. IfSome found IsWithinLimits) }
-    ensures cause { IsErrOf result HeadError.ReadFault → ReadFailed (S.told source.old) (S.told source.new) }
+    ensures cause { IsErrOf result HeadError.ReadFault
+        → ReadFailed (S.told source.old) (S.told source.new) }
 {
     next_head(alloc, source, buffer)
 }

@@ -22,7 +22,8 @@ pub fn first_named<'a>(lines: &'a Pairs, name: &str) -> Option<&'a str>
 
 /// Whether several lines have this name.
 pub fn is_repeated(lines: &Pairs, name: &str) -> bool
-    ensures { MatchBool result (1 < length (values_of name.now lines.now)) (length (values_of name.now lines.now) ≤ 1) }
+    ensures { MatchBool result (1 < length (values_of name.now lines.now))
+        (length (values_of name.now lines.now) ≤ 1) }
 {
     let mut found = false;
     for (line_name, _) in lines {

@@ -98,8 +98,10 @@ fn put<K: Sink>(sink: &mut K, pending: &mut Pending, piece: &[u8]) -> Result<(),
 
 /// Writes the pieces, one behind the other.
 pub(crate) fn write_pieces<K: Sink>(sink: &mut K, pieces: &[&[u8]]) -> Result<(), WriteFault>
-    ensures written { OnOk result (Writes (K.told sink.old) (K.told sink.new) (pieces_text pieces.now)) }
-    ensures front { OnErr result (WritesFront (K.told sink.old) (K.told sink.new) (pieces_text pieces.now)) }
+    ensures written { OnOk result (Writes (K.told sink.old) (K.told sink.new)
+        (pieces_text pieces.now)) }
+    ensures front { OnErr result (WritesFront (K.told sink.old) (K.told sink.new)
+        (pieces_text pieces.now)) }
     ensures cause { OnErr result (WriteFailed (K.told sink.old) (K.told sink.new)) }
 {
     let mut pending = Pending::new();

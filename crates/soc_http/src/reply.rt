@@ -91,8 +91,10 @@ fn close_line(last: bool) -> &'static [u8]
 ///
 /// After `WriteFault`, which comes only where the sink failed, the sink has taken a front of the reply.
 pub fn write_reply<K: Sink>(sink: &mut K, answered: &Answered) -> Result<(), WriteFault>
-    ensures written { OnOk result (Writes (K.told sink.old) (K.told sink.new) (reply_text answered.now)) }
-    ensures front { OnErr result (WritesFront (K.told sink.old) (K.told sink.new) (reply_text answered.now)) }
+    ensures written { OnOk result (Writes (K.told sink.old) (K.told sink.new)
+        (reply_text answered.now)) }
+    ensures front { OnErr result (WritesFront (K.told sink.old) (K.told sink.new)
+        (reply_text answered.now)) }
     ensures cause { OnErr result (WriteFailed (K.told sink.old) (K.told sink.new)) }
 {
     let mut status_digits = itoa::Buffer::new();
@@ -107,7 +109,8 @@ pub fn write_reply<K: Sink>(sink: &mut K, answered: &Answered) -> Result<(), Wri
 
 /// The pieces of a reply's text, in order.
 fn pieces_of<'a>(answered: &'a Answered, status: &'a [u8], body_length: &'a [u8]) -> [&'a [u8]; 13]
-    ensures { status.now ≡ decimal answered.now.status → body_length.now ≡ decimal (length answered.now.body)
+    ensures { status.now ≡ decimal answered.now.status
+        → body_length.now ≡ decimal (length answered.now.body)
         → pieces_text result ≡ reply_text answered.now }
 {
     let phrase: &'a [u8] = phrase_of(answered.status);

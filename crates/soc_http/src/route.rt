@@ -89,7 +89,8 @@ const REPORT_FRONT: &str = "/report/index/";
 /// One more literal path.
 fn add(literals: &mut Router<Target>, path: &str, verb: Verb, route: Route) -> Result<(), NoMemory>
     requires { is_literal path.now ≡ true }
-    ensures { OnOk result (literals.new ≡ placed (row_of (path.now, record { verb = verb; route = route })) literals.old) }
+    ensures { OnOk result (literals.new
+        ≡ placed (row_of (path.now, record { verb = verb; route = route })) literals.old) }
 {
     let Ok(()) = literals.insert(path, Target { verb, route }) else {
         return Err(NoMemory);
@@ -166,7 +167,8 @@ fn copy_of(alloc: Global, route: &Route) -> Result<Route, NoMemory>
 
 /// The id parameter of a report's path.
 fn report_id(path: &str) -> Option<&str>
-    ensures { MatchOption result (report_id path.now ≡ None) (λ id. report_id path.now ≡ Some id.now) }
+    ensures { MatchOption result (report_id path.now ≡ None)
+        (λ id. report_id path.now ≡ Some id.now) }
 {
     let id = path.strip_prefix(REPORT_FRONT)?;
     if id.is_empty() || id.as_bytes().contains(&b'/') {
@@ -191,7 +193,8 @@ impl Routes {
 
     /// Where a literal path leads.
     fn literal_target(&self, path: &str) -> Option<&Target>
-        ensures { MatchOption result (literal_target path.now ≡ None) (λ target. literal_target path.now ≡ Some target.now) }
+        ensures { MatchOption result (literal_target path.now ≡ None)
+            (λ target. literal_target path.now ≡ Some target.now) }
     {
         match self.literals.at(path) {
             Ok(found) => Some(found.value),

@@ -43,7 +43,8 @@ impl EntryText {
 
     /// The entry of an accepted crash. Its record is written into the entry's own text, and stands nowhere else.
     pub fn of_crash(alloc: Global, raw: &RawCrash) -> Result<EntryText, NoMemory>
-        ensures { IfOk result (λ entry. entry ≡ record { kind = accept_kind; body = record_text raw.now }) }
+        ensures { IfOk result (λ entry. entry
+            ≡ record { kind = accept_kind; body = record_text raw.now }) }
     {
         raw.is_crash();
         let mut text = head(alloc, ACCEPT, raw.record_len() as u32)?;

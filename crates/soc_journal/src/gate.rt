@@ -50,7 +50,8 @@ fn front_of(bytes: &[u8]) -> Front
 
 /// Reads what stands at a place, but no body.
 fn front_at<D: Disk>(disk: &mut D, place: u64) -> Result<Front, Failed>
-    ensures front { IfOk result (λ front. IfSome (D.state disk.old).content (λ bytes. IsFront (drop place bytes) front)) }
+    ensures front { IfOk result (λ front.
+        IfSome (D.state disk.old).content (λ bytes. IsFront (drop place bytes) front)) }
     ensures disk_stays { Looks (D.state disk.old) (D.state disk.new) }
     ensures calls { (D.state disk.new).calls ≤ (D.state disk.old).calls + 1 }
     ensures cause { OnErr result (DiskFailed (D.state disk.old) (D.state disk.new)) }
@@ -72,7 +73,9 @@ fn counts(version: u8, kind: u8, length: u32, place: u64, end: u64) -> bool
 
 /// What stands at a place, where an entry counts only if it ends at or before the end.
 pub fn at_gate<D: Disk>(disk: &mut D, version: u8, place: u64, end: u64) -> Result<AtGate, Failed>
-    ensures found { IfOk result (λ found. IfSome (D.state disk.old).content (λ bytes. IsAtGate version place end (drop place bytes) found)) }
+    ensures found { IfOk result (λ found.
+        IfSome (D.state disk.old).content
+        (λ bytes. IsAtGate version place end (drop place bytes) found)) }
     ensures counts { IfOk result (λ found. OpenCounts version place end found) }
     ensures disk_stays { Looks (D.state disk.old) (D.state disk.new) }
     ensures calls { (D.state disk.new).calls ≤ (D.state disk.old).calls + 1 }

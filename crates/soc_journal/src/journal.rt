@@ -45,10 +45,15 @@ impl Journal {
     /// memory. After `Failed`, and at a stop inside this call, that write may be torn, and nothing else was written.
     pub fn create<D: Disk>(disk: &mut D, limit: u64) -> Result<Journal, Failed>
         requires { IfSome (D.state disk.old).content (λ bytes. bytes ≡ []) }
-        ensures journal { IfOk result (λ journal. journal ≡ record { gate = first_gate; limit = limit; doubt = None }) }
-        ensures content { OnOk result ((D.state disk.new).content ≡ option_map (λ _. empty_journal) (D.state disk.old).content) }
-        ensures at_rest { IfOk result (λ journal. IfSome (D.state disk.new).content (λ bytes. AtRest journal [] bytes (D.state disk.new).images)) }
-        ensures torn { WhereTold (Tears 0 (length empty_journal)) (D.state disk.old).content (D.state disk.new).content }
+        ensures journal { IfOk result (λ journal. journal
+            ≡ record { gate = first_gate; limit = limit; doubt = None }) }
+        ensures content { OnOk result ((D.state disk.new).content
+            ≡ option_map (λ _. empty_journal) (D.state disk.old).content) }
+        ensures at_rest { IfOk result (λ journal.
+            IfSome (D.state disk.new).content
+            (λ bytes. AtRest journal [] bytes (D.state disk.new).images)) }
+        ensures torn { WhereTold (Tears 0 (length empty_journal)) (D.state disk.old).content
+            (D.state disk.new).content }
         ensures tears { MayTear 0 (length empty_journal) (D.state disk.old) (D.state disk.new) }
         ensures calls { (D.state disk.new).calls ≤ (D.state disk.old).calls + 2 }
         ensures cause { OnErr result (DiskFailed (D.state disk.old) (D.state disk.new)) }
@@ -71,37 +76,49 @@ impl Journal {
     pub fn append<D: Disk>(&mut self, disk: &mut D, entry: &EntryText) -> Result<u64, AppendError>
         requires { self.old.doubt ≡ None }
 
-        ensures full { IsErrOf result AppendError.JournalFull ↔ (self.old.limit < self.old.gate + beside_body + length entry.now.body) }
+        ensures full { IsErrOf result AppendError.JournalFull
+            ↔ (self.old.limit < self.old.gate + beside_body + length entry.now.body) }
         ensures full_journal { IsErrOf result AppendError.JournalFull → self.new ≡ self.old }
         ensures full_disk { IsErrOf result AppendError.JournalFull → disk.new ≡ disk.old }
 
         ensures place { IfOk result (λ place. place ≡ self.old.gate) }
-        ensures journal { OnOk result (self.new ≡ record self.old { gate = self.old.gate + length (entry_text entry.now) }) }
-        ensures doubt { IsErrOf result AppendError.StoreFault → self.new ≡ record self.old { doubt = Some (length (entry_text entry.now)) } }
+        ensures journal { OnOk result (self.new
+            ≡ record self.old { gate = self.old.gate + length (entry_text entry.now) }) }
+        ensures doubt { IsErrOf result AppendError.StoreFault
+            → self.new ≡ record self.old { doubt = Some (length (entry_text entry.now)) } }
 
         // The entry, with the closed gate behind it, is written where the closed gate stood; nothing else ever is.
         ensures content { OnOk result ((D.state disk.new).content
-            ≡ option_map (λ bytes. written bytes self.old.gate (sealed entry.now)) (D.state disk.old).content) }
-        ensures torn { WhereTold (Tears self.old.gate (length (sealed entry.now))) (D.state disk.old).content (D.state disk.new).content }
-        ensures tears { MayTear self.old.gate (length (sealed entry.now)) (D.state disk.old) (D.state disk.new) }
+            ≡ option_map (λ bytes. written bytes self.old.gate (sealed entry.now))
+            (D.state disk.old).content) }
+        ensures torn { WhereTold (Tears self.old.gate (length (sealed entry.now)))
+            (D.state disk.old).content (D.state disk.new).content }
+        ensures tears { MayTear self.old.gate (length (sealed entry.now)) (D.state disk.old)
+            (D.state disk.new) }
 
         // At `Ok` the content and each image have the entry.
         ensures acknowledged { OnOk result (IfSome (D.state disk.old).content (λ bytes.
             (entries : List Entry) → AtRest self.old entries bytes (D.state disk.old).images
-            → IsSomeAnd (D.state disk.new).content (λ now. AtRest self.new (entries ++ entry.now ∷ []) now (D.state disk.new).images))) }
+            → IsSomeAnd (D.state disk.new).content
+            (λ now. AtRest self.new (entries ++ entry.now ∷ []) now
+            (D.state disk.new).images))) }
 
         // After `StoreFault` the content and each image have it or don't.
-        ensures in_doubt { IsErrOf result AppendError.StoreFault → IfSome (D.state disk.old).content (λ bytes.
+        ensures in_doubt { IsErrOf result AppendError.StoreFault
+            → IfSome (D.state disk.old).content (λ bytes.
             (entries : List Entry) → AtRest self.old entries bytes (D.state disk.old).images
-            → IsSomeAnd (D.state disk.new).content (λ now. InDoubt self.new entries (entry.now ∷ []) now (D.state disk.new).images)) }
+            → IsSomeAnd (D.state disk.new).content
+            (λ now. InDoubt self.new entries (entry.now ∷ []) now (D.state disk.new).images)) }
 
         // A stop at any moment of the call leaves the entries from before it, or those and this one.
         ensures any_moment { IfSome (D.state disk.old).content (λ bytes.
             (entries : List Entry) → AtRest self.old entries bytes (D.state disk.old).images
-            → LeavesOnly (D.state disk.old) (D.state disk.new) (EitherText entries (entry.now ∷ []))) }
+            → LeavesOnly (D.state disk.old) (D.state disk.new)
+            (EitherText entries (entry.now ∷ []))) }
 
         ensures calls { (D.state disk.new).calls ≤ (D.state disk.old).calls + 4 }
-        ensures cause { IsErrOf result AppendError.StoreFault → DiskFailed (D.state disk.old) (D.state disk.new) }
+        ensures cause { IsErrOf result AppendError.StoreFault
+            → DiskFailed (D.state disk.old) (D.state disk.new) }
     {
         self.append_all(disk, std::slice::from_ref(entry))
     }
@@ -120,37 +137,48 @@ impl Journal {
         requires settled { self.old.doubt ≡ None }
         requires some { 0 < length entries.now }
 
-        ensures full { IsErrOf result AppendError.JournalFull ↔ (self.old.limit < self.old.gate + length (sealed_all entries.now)) }
+        ensures full { IsErrOf result AppendError.JournalFull
+            ↔ (self.old.limit < self.old.gate + length (sealed_all entries.now)) }
         ensures full_journal { IsErrOf result AppendError.JournalFull → self.new ≡ self.old }
         ensures full_disk { IsErrOf result AppendError.JournalFull → disk.new ≡ disk.old }
 
         ensures place { IfOk result (λ place. place ≡ self.old.gate) }
-        ensures journal { OnOk result (self.new ≡ record self.old { gate = self.old.gate + length (entries_text entries.now) }) }
-        ensures doubt { IsErrOf result AppendError.StoreFault → self.new ≡ record self.old { doubt = Some (length (entries_text entries.now)) } }
+        ensures journal { OnOk result (self.new
+            ≡ record self.old { gate = self.old.gate + length (entries_text entries.now) }) }
+        ensures doubt { IsErrOf result AppendError.StoreFault
+            → self.new ≡ record self.old { doubt = Some (length (entries_text entries.now)) } }
 
         // The entries, with the closed gate behind the last, are written where the closed gate stood; nothing else ever is.
         ensures content { OnOk result ((D.state disk.new).content
-            ≡ option_map (λ bytes. written bytes self.old.gate (sealed_all entries.now)) (D.state disk.old).content) }
-        ensures torn { WhereTold (Tears self.old.gate (length (sealed_all entries.now))) (D.state disk.old).content (D.state disk.new).content }
-        ensures tears { MayTear self.old.gate (length (sealed_all entries.now)) (D.state disk.old) (D.state disk.new) }
+            ≡ option_map (λ bytes. written bytes self.old.gate (sealed_all entries.now))
+            (D.state disk.old).content) }
+        ensures torn { WhereTold (Tears self.old.gate (length (sealed_all entries.now)))
+            (D.state disk.old).content (D.state disk.new).content }
+        ensures tears { MayTear self.old.gate (length (sealed_all entries.now)) (D.state disk.old)
+            (D.state disk.new) }
 
         // At `Ok` the content and each image have all of them.
         ensures acknowledged { OnOk result (IfSome (D.state disk.old).content (λ bytes.
             (before : List Entry) → AtRest self.old before bytes (D.state disk.old).images
-            → IsSomeAnd (D.state disk.new).content (λ now. AtRest self.new (before ++ entries.now) now (D.state disk.new).images))) }
+            → IsSomeAnd (D.state disk.new).content
+            (λ now. AtRest self.new (before ++ entries.now) now (D.state disk.new).images))) }
 
         // After `StoreFault` the content and each image have all of them, or none.
-        ensures in_doubt { IsErrOf result AppendError.StoreFault → IfSome (D.state disk.old).content (λ bytes.
+        ensures in_doubt { IsErrOf result AppendError.StoreFault
+            → IfSome (D.state disk.old).content (λ bytes.
             (before : List Entry) → AtRest self.old before bytes (D.state disk.old).images
-            → IsSomeAnd (D.state disk.new).content (λ now. InDoubt self.new before entries.now now (D.state disk.new).images)) }
+            → IsSomeAnd (D.state disk.new).content
+            (λ now. InDoubt self.new before entries.now now (D.state disk.new).images)) }
 
         // A stop at any moment of the call leaves the entries from before it, or those and all of these.
         ensures any_moment { IfSome (D.state disk.old).content (λ bytes.
             (before : List Entry) → AtRest self.old before bytes (D.state disk.old).images
             → LeavesOnly (D.state disk.old) (D.state disk.new) (EitherText before entries.now)) }
 
-        ensures calls { (D.state disk.new).calls ≤ (D.state disk.old).calls + length entries.now + 3 }
-        ensures cause { IsErrOf result AppendError.StoreFault → DiskFailed (D.state disk.old) (D.state disk.new) }
+        ensures calls { (D.state disk.new).calls
+            ≤ (D.state disk.old).calls + length entries.now + 3 }
+        ensures cause { IsErrOf result AppendError.StoreFault
+            → DiskFailed (D.state disk.old) (D.state disk.new) }
     {
         let Some(count) = length_within(entries, self.room()) else {
             return Err(AppendError::JournalFull);
@@ -179,10 +207,13 @@ impl Journal {
 
         // Then the content and each image agree with the answer.
         ensures agrees { IfOk result (λ settled. IfSome (D.state disk.old).content (λ bytes.
-            (entries more : List Entry) → InDoubt self.old entries more bytes (D.state disk.old).images
-            → AtRest self.new (entries_after entries more settled) bytes (D.state disk.new).images)) }
+            (entries more : List Entry) → InDoubt self.old entries more bytes
+            (D.state disk.old).images
+            → AtRest self.new (entries_after entries more settled) bytes
+            (D.state disk.new).images)) }
         ensures still_in_doubt { OnErr result (IfSome (D.state disk.old).content (λ bytes.
-            (entries more : List Entry) → InDoubt self.old entries more bytes (D.state disk.old).images
+            (entries more : List Entry) → InDoubt self.old entries more bytes
+            (D.state disk.old).images
             → InDoubt self.new entries more bytes (D.state disk.new).images)) }
 
         ensures disk_stays { Looks (D.state disk.old) (D.state disk.new) }
@@ -231,8 +262,11 @@ impl Journal {
 
 /// Syncs, and tells whether the gate at a place then reads open.
 fn settled_gate<D: Disk>(disk: &mut D, place: u64) -> Result<bool, Failed>
-    ensures open_gate { IfOk result (λ is_open. IfSome (D.state disk.old).content (λ bytes. IsTrue is_open ↔ ReadsOpen bytes place)) }
-    ensures only { OnOk result (IfSome (D.state disk.old).content (λ bytes. Only bytes (D.state disk.new).images)) }
+    ensures open_gate { IfOk result
+        (λ is_open. IfSome (D.state disk.old).content
+        (λ bytes. IsTrue is_open ↔ ReadsOpen bytes place)) }
+    ensures only { OnOk result (IfSome (D.state disk.old).content
+        (λ bytes. Only bytes (D.state disk.new).images)) }
     ensures disk_stays { Looks (D.state disk.old) (D.state disk.new) }
     ensures calls { (D.state disk.new).calls ≤ (D.state disk.old).calls + 2 }
     ensures cause { OnErr result (DiskFailed (D.state disk.old) (D.state disk.new)) }

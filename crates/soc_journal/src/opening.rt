@@ -38,7 +38,14 @@ impl Model for Opening {
 
     ghost Value = { OpeningState };
 
-    ghost view = { λ o. record { place = o.place; length = o.length; version = o.version; limit = o.limit; ended = o.ended } };
+    ghost view = { λ o. record {
+      place = o.place;
+      length = o.length;
+      version = o.version;
+      limit =
+          o.limit;
+      ended = o.ended;
+    } };
 }
 
 impl Journal {
@@ -52,21 +59,27 @@ impl Journal {
             HasRead opening [] bytes (D.state disk.new).images)) }
         ensures limit { IfOk result (λ opening. opening.limit ≡ limit) }
 
-        ensures ours { OnOk result (IfSome (D.state disk.old).content (λ bytes. (bytes ≡ []) ⊎ HasHeader bytes)) }
-        ensures not_ours { IsErrOf result OpenError.NotOurs → IfSome (D.state disk.old).content (λ bytes.
+        ensures ours { OnOk result (IfSome (D.state disk.old).content
+            (λ bytes. (bytes ≡ []) ⊎ HasHeader bytes)) }
+        ensures not_ours { IsErrOf result OpenError.NotOurs
+            → IfSome (D.state disk.old).content (λ bytes.
             (bytes ≢ []) × ¬ (HasHeader bytes)) }
-        ensures no_other { IfErr result (λ error. (error ≡ OpenError.NotOurs) ⊎ (error ≡ OpenError.StoreFault)) }
+        ensures no_other { IfErr result
+            (λ error. (error ≡ OpenError.NotOurs) ⊎ (error ≡ OpenError.StoreFault)) }
 
-        ensures created { OnOk result ((D.state disk.old).content ≡ Some [] → (D.state disk.new).content ≡ Some empty_journal) }
+        ensures created { OnOk result ((D.state disk.old).content ≡ Some []
+            → (D.state disk.new).content ≡ Some empty_journal) }
         ensures disk_stays { IfSome (D.state disk.old).content (λ bytes.
             bytes ≢ [] → Looks (D.state disk.old) (D.state disk.new)) }
 
         // Nothing but an empty journal is written, whole or torn.
-        ensures torn { WhereTold (Tears 0 (length empty_journal)) (D.state disk.old).content (D.state disk.new).content }
+        ensures torn { WhereTold (Tears 0 (length empty_journal)) (D.state disk.old).content
+            (D.state disk.new).content }
         ensures tears { MayTear 0 (length empty_journal) (D.state disk.old) (D.state disk.new) }
 
         ensures calls { (D.state disk.new).calls ≤ (D.state disk.old).calls + 4 }
-        ensures cause { IsErrOf result OpenError.StoreFault → DiskFailed (D.state disk.old) (D.state disk.new) }
+        ensures cause { IsErrOf result OpenError.StoreFault
+            → DiskFailed (D.state disk.old) (D.state disk.new) }
     {
         let length = synced_len(disk)?;
         if length == 0 {
@@ -103,20 +116,27 @@ impl Opening {
             → Finds entries bytes (D.state disk.new).images result self.new) }
         ensures handed_out { IfOk result (λ next. IfSome next (λ mark.
             Counts self.new.version mark.kind mark.length mark.place self.new.length)) }
-        ensures within { IfOk result (λ next. IfSome next (λ mark. mark.place + head_size + mark.length < 2 ^ 64)) }
+        ensures within { IfOk result (λ next.
+            IfSome next (λ mark. mark.place + head_size + mark.length < 2 ^ 64)) }
 
-        ensures moves { IfOk result (λ next. MatchOption next (self.new.place ≡ self.old.place) (λ mark.
-            (mark.place ≡ self.old.place) × (self.new.place ≡ self.old.place + head_size + mark.length))) }
+        ensures moves { IfOk result (λ next.
+            MatchOption next (self.new.place ≡ self.old.place) (λ mark.
+            (mark.place ≡ self.old.place) × (self.new.place
+            ≡ self.old.place + head_size + mark.length))) }
 
-        ensures opening { self.new ≡ record self.old { place = self.new.place; ended = self.new.ended } }
+        ensures opening { self.new ≡ record self.old
+            { place = self.new.place; ended = self.new.ended } }
         ensures ended { IfOk result (λ next. self.new.ended ≡ is_none next) }
         ensures refused { OnErr result (self.new ≡ self.old) }
-        ensures bad_place { (place : ℕ) → IsErrOf result (OpenError.BadEntry place) → place ≡ self.old.place }
-        ensures no_other { IfErr result (λ error. (error ≢ OpenError.NotOurs) × (error ≢ OpenError.NoMemory)) }
+        ensures bad_place { (place : ℕ) → IsErrOf result (OpenError.BadEntry place)
+            → place ≡ self.old.place }
+        ensures no_other { IfErr result
+            (λ error. (error ≢ OpenError.NotOurs) × (error ≢ OpenError.NoMemory)) }
 
         ensures disk_stays { Looks (D.state disk.old) (D.state disk.new) }
         ensures calls { (D.state disk.new).calls ≤ (D.state disk.old).calls + 1 }
-        ensures cause { IsErrOf result OpenError.StoreFault → DiskFailed (D.state disk.old) (D.state disk.new) }
+        ensures cause { IsErrOf result OpenError.StoreFault
+            → DiskFailed (D.state disk.old) (D.state disk.new) }
     {
         let place = self.place;
         match at_gate(disk, self.version, place, self.length)? {
@@ -147,12 +167,15 @@ impl Opening {
     ) -> Result<Bytes, ReadError>
         requires handed_out { mark.now.place + head_size + mark.now.length ≤ self.now.length }
         ensures body { IfSome (D.state disk.old).content (λ bytes.
-            (entry : Entry) → StandsAt bytes mark.now.place entry → mark.now.length ≡ length entry.body
+            (entry : Entry) → StandsAt bytes mark.now.place entry
+            → mark.now.length ≡ length entry.body
             → IfOk result (λ body. body ≡ entry.body)) }
-        ensures gives { IfSome (D.state disk.old).content (λ bytes. GivesBody bytes (mark.now.place + head_size) mark.now.length result) }
+        ensures gives { IfSome (D.state disk.old).content
+            (λ bytes. GivesBody bytes (mark.now.place + head_size) mark.now.length result) }
         ensures disk_stays { Looks (D.state disk.old) (D.state disk.new) }
         ensures calls { (D.state disk.new).calls ≤ (D.state disk.old).calls + 1 }
-        ensures cause { IsErrOf result ReadError.StoreFault → DiskFailed (D.state disk.old) (D.state disk.new) }
+        ensures cause { IsErrOf result ReadError.StoreFault
+            → DiskFailed (D.state disk.old) (D.state disk.new) }
     {
         prove!(mark.place <= self.length);
         body_at(alloc, disk, mark.place + ENTRY_HEAD as u64, mark.length)
@@ -162,10 +185,12 @@ impl Opening {
     /// its version byte alone and a sync; at any other the disk isn't touched. It takes no memory.
     pub fn finish<D: Disk>(self, disk: &mut D) -> Result<Journal, Failed>
         requires { IsTrue self.ended }
-        ensures journal { IfOk result (λ journal. journal ≡ record { gate = self.place; limit = self.limit; doubt = None }) }
+        ensures journal { IfOk result (λ journal. journal
+            ≡ record { gate = self.place; limit = self.limit; doubt = None }) }
         ensures at_rest { IfSome (D.state disk.old).content (λ bytes.
             (entries : List Entry) → HasReadAll self entries bytes (D.state disk.old).images
-            → IfOk result (λ journal. IsSomeAnd (D.state disk.new).content (λ now. AtRest journal entries now (D.state disk.new).images))) }
+            → IfOk result (λ journal. IsSomeAnd (D.state disk.new).content
+            (λ now. AtRest journal entries now (D.state disk.new).images))) }
 
         // The entries are the same in each image during and after the call, also where it fails, and so are those that the
         // disk reads as.
@@ -178,9 +203,11 @@ impl Opening {
 
         // Nothing but the version byte of a journal of the first version is written.
         ensures migrated { self.version ≡ first_version → OnOk result ((D.state disk.new).content
-            ≡ option_map (λ bytes. written bytes version_place (second_version ∷ [])) (D.state disk.old).content) }
+            ≡ option_map (λ bytes. written bytes version_place (second_version ∷ []))
+            (D.state disk.old).content) }
         ensures untouched { self.version ≢ first_version → disk.new ≡ disk.old }
-        ensures torn { WhereTold (Tears version_place 1) (D.state disk.old).content (D.state disk.new).content }
+        ensures torn { WhereTold (Tears version_place 1) (D.state disk.old).content
+            (D.state disk.new).content }
         ensures tears { MayTear version_place 1 (D.state disk.old) (D.state disk.new) }
 
         ensures calls { (D.state disk.new).calls ≤ (D.state disk.old).calls + 2 }
@@ -197,8 +224,10 @@ impl Opening {
 
 /// Syncs the disk, and answers its length.
 fn synced_len<D: Disk>(disk: &mut D) -> Result<u64, Failed>
-    ensures count { IfOk result (λ n. IfSome (D.state disk.old).content (λ bytes. n ≡ length bytes)) }
-    ensures only { OnOk result (IfSome (D.state disk.old).content (λ bytes. Only bytes (D.state disk.new).images)) }
+    ensures count { IfOk result (λ n.
+        IfSome (D.state disk.old).content (λ bytes. n ≡ length bytes)) }
+    ensures only { OnOk result (IfSome (D.state disk.old).content
+        (λ bytes. Only bytes (D.state disk.new).images)) }
     ensures disk_stays { Looks (D.state disk.old) (D.state disk.new) }
     ensures calls { (D.state disk.new).calls ≤ (D.state disk.old).calls + 2 }
     ensures cause { OnErr result (DiskFailed (D.state disk.old) (D.state disk.new)) }
@@ -210,7 +239,8 @@ fn synced_len<D: Disk>(disk: &mut D) -> Result<u64, Failed>
 /// The version byte, where the disk begins as a journal does.
 fn version_at<D: Disk>(disk: &mut D) -> Result<Option<u8>, Failed>
     ensures version { IfOk result (λ version. IfSome (D.state disk.old).content (λ bytes.
-        MatchOption version (¬ (HasHeader bytes)) (λ v. HasHeader bytes × (v ≡ version_of bytes)))) }
+        MatchOption version (¬ (HasHeader bytes))
+        (λ v. HasHeader bytes × (v ≡ version_of bytes)))) }
     ensures disk_stays { Looks (D.state disk.old) (D.state disk.new) }
     ensures calls { (D.state disk.new).calls ≤ (D.state disk.old).calls + 1 }
     ensures cause { OnErr result (DiskFailed (D.state disk.old) (D.state disk.new)) }

@@ -27,7 +27,8 @@ impl Journal {
             (entry : Entry) × StandsBefore bytes place self.now.gate entry)) }
         ensures disk_stays { Looks (D.state disk.old) (D.state disk.new) }
         ensures calls { (D.state disk.new).calls ≤ (D.state disk.old).calls + 2 }
-        ensures cause { IsErrOf result ReadError.StoreFault → DiskFailed (D.state disk.old) (D.state disk.new) }
+        ensures cause { IsErrOf result ReadError.StoreFault
+            → DiskFailed (D.state disk.old) (D.state disk.new) }
     {
         match at_gate(disk, SECOND_VERSION, place, self.gate())? {
             AtGate::Open { length, .. } => body_at(alloc, disk, place + ENTRY_HEAD as u64, length),
@@ -39,9 +40,12 @@ impl Journal {
     /// Whether the disk reads as the text from a place on, by one call of the disk and one for each 64 KiB begun. It takes
     /// no memory.
     pub fn holds<D: Disk>(&self, disk: &mut D, place: u64, text: &[u8]) -> Result<bool, Failed>
-        ensures holds { IfOk result (λ holds. IfSome (D.state disk.old).content (λ bytes. IsTrue holds ↔ ReadsFrom bytes place text.now)) }
+        ensures holds { IfOk result (λ holds.
+            IfSome (D.state disk.old).content
+            (λ bytes. IsTrue holds ↔ ReadsFrom bytes place text.now)) }
         ensures disk_stays { Looks (D.state disk.old) (D.state disk.new) }
-        ensures calls { (D.state disk.new).calls ≤ (D.state disk.old).calls + 1 + div_ceil (length text.now) piece_size }
+        ensures calls { (D.state disk.new).calls
+            ≤ (D.state disk.old).calls + 1 + div_ceil (length text.now) piece_size }
         ensures cause { OnErr result (DiskFailed (D.state disk.old) (D.state disk.new)) }
     {
         let length = disk.len()?;
@@ -59,10 +63,12 @@ pub(crate) fn body_at<D: Disk>(
     place: u64,
     length: u32,
 ) -> Result<Bytes, ReadError>
-    ensures gives { IfSome (D.state disk.old).content (λ bytes. GivesBody bytes place length result) }
+    ensures gives { IfSome (D.state disk.old).content
+        (λ bytes. GivesBody bytes place length result) }
     ensures disk_stays { Looks (D.state disk.old) (D.state disk.new) }
     ensures calls { (D.state disk.new).calls ≤ (D.state disk.old).calls + 1 }
-    ensures cause { IsErrOf result ReadError.StoreFault → DiskFailed (D.state disk.old) (D.state disk.new) }
+    ensures cause { IsErrOf result ReadError.StoreFault
+        → DiskFailed (D.state disk.old) (D.state disk.new) }
 {
     let mut body = zeros(alloc, length as usize)?;
     let count = disk.read_at(place, body.as_mut_slice())?;
@@ -81,9 +87,12 @@ fn zeros(alloc: Global, length: usize) -> Result<Vec<u8>, AllocError>
 /// Whether the disk reads as the text from a place on, compared piece by piece.
 fn reads_from<D: Disk>(disk: &mut D, place: u64, text: &[u8]) -> Result<bool, Failed>
     requires { place + length text.now < 2 ^ 64 }
-    ensures holds { IfOk result (λ holds. IfSome (D.state disk.old).content (λ bytes. IsTrue holds ↔ ReadsFrom bytes place text.now)) }
+    ensures holds { IfOk result (λ holds.
+        IfSome (D.state disk.old).content
+        (λ bytes. IsTrue holds ↔ ReadsFrom bytes place text.now)) }
     ensures disk_stays { Looks (D.state disk.old) (D.state disk.new) }
-    ensures calls { (D.state disk.new).calls ≤ (D.state disk.old).calls + div_ceil (length text.now) piece_size }
+    ensures calls { (D.state disk.new).calls
+        ≤ (D.state disk.old).calls + div_ceil (length text.now) piece_size }
     ensures cause { OnErr result (DiskFailed (D.state disk.old) (D.state disk.new)) }
 {
     let mut buffer = [0; PIECE];
@@ -108,7 +117,9 @@ pub(crate) fn reads_piece<D: Disk>(
     into: &mut [u8],
 ) -> Result<bool, Failed>
     requires { length into.old ≡ length piece.now }
-    ensures holds { IfOk result (λ holds. IfSome (D.state disk.old).content (λ bytes. IsTrue holds ↔ ReadsFrom bytes place piece.now)) }
+    ensures holds { IfOk result (λ holds.
+        IfSome (D.state disk.old).content
+        (λ bytes. IsTrue holds ↔ ReadsFrom bytes place piece.now)) }
     ensures disk_stays { Looks (D.state disk.old) (D.state disk.new) }
     ensures calls { (D.state disk.new).calls ≤ (D.state disk.old).calls + 1 }
     ensures cause { OnErr result (DiskFailed (D.state disk.old) (D.state disk.new)) }

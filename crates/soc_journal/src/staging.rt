@@ -10,7 +10,8 @@ use soc_edge::{Disk, Failed};
 
 /// How many bytes the entries have, where they and the closed gate behind them are no more than so many.
 pub fn length_within(entries: &[EntryText], most: u64) -> Option<u64>
-    ensures { MatchOption result (most < length (entries_text entries.now) + 1) (HasLength entries.now most) }
+    ensures { MatchOption result (most < length (entries_text entries.now) + 1)
+        (HasLength entries.now most) }
 {
     let mut left = most.checked_sub(1)?;
     let mut rest = entries;
@@ -27,10 +28,14 @@ pub fn stage<D: Disk>(disk: &mut D, place: u64, entries: &[EntryText]) -> Result
     requires some { 0 < length entries.now }
     requires within { place + length (entries_text entries.now) < 2 ^ 64 }
     ensures written { OnOk result ((D.state disk.new).content
-        ≡ option_map (λ old. written old (place + 1) (behind_all entries.now)) (D.state disk.old).content) }
-    ensures durable { OnOk result (IfSome (D.state disk.new).content (λ now. Only now (D.state disk.new).images)) }
-    ensures torn { WhereTold (Tears (place + 1) (length (behind_all entries.now))) (D.state disk.old).content (D.state disk.new).content }
-    ensures tears { MayTear (place + 1) (length (behind_all entries.now)) (D.state disk.old) (D.state disk.new) }
+        ≡ option_map (λ old. written old (place + 1) (behind_all entries.now))
+        (D.state disk.old).content) }
+    ensures durable { OnOk result (IfSome (D.state disk.new).content
+        (λ now. Only now (D.state disk.new).images)) }
+    ensures torn { WhereTold (Tears (place + 1) (length (behind_all entries.now)))
+        (D.state disk.old).content (D.state disk.new).content }
+    ensures tears { MayTear (place + 1) (length (behind_all entries.now)) (D.state disk.old)
+        (D.state disk.new) }
     ensures calls { (D.state disk.new).calls ≤ (D.state disk.old).calls + length entries.now + 1 }
     ensures cause { OnErr result (DiskFailed (D.state disk.old) (D.state disk.new)) }
 {
@@ -43,9 +48,12 @@ fn write_all<D: Disk>(disk: &mut D, place: u64, entries: &[EntryText]) -> Result
     requires some { 0 < length entries.now }
     requires within { place + length (entries_text entries.now) < 2 ^ 64 }
     ensures written { OnOk result ((D.state disk.new).content
-        ≡ option_map (λ old. written old (place + 1) (behind_all entries.now)) (D.state disk.old).content) }
-    ensures torn { WhereTold (Tears (place + 1) (length (behind_all entries.now))) (D.state disk.old).content (D.state disk.new).content }
-    ensures tears { MayTear (place + 1) (length (behind_all entries.now)) (D.state disk.old) (D.state disk.new) }
+        ≡ option_map (λ old. written old (place + 1) (behind_all entries.now))
+        (D.state disk.old).content) }
+    ensures torn { WhereTold (Tears (place + 1) (length (behind_all entries.now)))
+        (D.state disk.old).content (D.state disk.new).content }
+    ensures tears { MayTear (place + 1) (length (behind_all entries.now)) (D.state disk.old)
+        (D.state disk.new) }
     ensures calls { (D.state disk.new).calls ≤ (D.state disk.old).calls + length entries.now }
     ensures cause { OnErr result (DiskFailed (D.state disk.old) (D.state disk.new)) }
 {

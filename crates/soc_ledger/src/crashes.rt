@@ -28,7 +28,13 @@ impl Model for Crashes {
 
     ghost Value = { CrashTable };
 
-    ghost view = { λ a. record { filed = map (λ c. c.filed) a.crashes.items; standings = map (λ c. c.standing) a.crashes.items; room = min (vec_capacity a.crashes - vec_len a.crashes) (vec_capacity a.by_id - vec_len a.by_id) } };
+    ghost view = { λ a. record {
+      filed = map (λ c. c.filed) a.crashes.items;
+      standings = map
+          (λ c. c.standing) a.crashes.items;
+      room = min (vec_capacity a.crashes - vec_len a.crashes)
+          (vec_capacity a.by_id - vec_len a.by_id);
+    } };
 
     ghost invariant = { λ a. IsCrashTable a.crashes.items a.by_id.items a.withdrawn a.reported };
 }
@@ -83,7 +89,8 @@ impl Crashes {
 
     /// The number of the crash of an id.
     pub(crate) fn number_of(&self, id: CrashId) -> Option<u32>
-        ensures { MatchOption result (is_among (ids_in self.now.filed) id ≡ false) (λ number. slice_get (ids_in self.now.filed) number ≡ Some id) }
+        ensures { MatchOption result (is_among (ids_in self.now.filed) id ≡ false)
+            (λ number. slice_get (ids_in self.now.filed) number ≡ Some id) }
     {
         match place_of(self.crashes.as_slice(), self.by_id.as_slice(), &id) {
             Ok(i) => Some(self.by_id[i]),

@@ -72,7 +72,8 @@ impl Queue {
     /// A crash that was due since `before`, where it was due, is due since `after`.
     pub(crate) fn follow(&mut self, number: u32, before: Option<u64>, after: Option<u64>)
         requires room { 0 < self.old.room }
-        requires later { (since : ℕ) → before ≡ None → after ≡ Some since → AreBefore since self.old.due }
+        requires later { (since : ℕ) → before ≡ None → after ≡ Some since
+            → AreBefore since self.old.due }
         ensures due { self.new.due ≡ queue_after number before after self.old.due }
         ensures room { self.old.room ≤ self.new.room + 1 }
     {

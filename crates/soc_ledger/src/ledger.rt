@@ -122,7 +122,9 @@ impl Ledger {
 
     /// The number of the crash of an id, where it was accepted.
     pub fn number_of(&self, id: CrashId) -> Option<u32>
-        ensures { MatchOption result (was_accepted self.now.log id ≡ false) (λ number. IsTrue (was_accepted self.now.log id) × (number < length self.now.crashes) × (id_of self.now number ≡ id)) }
+        ensures { MatchOption result (was_accepted self.now.log id ≡ false)
+            (λ number. IsTrue (was_accepted self.now.log id) × (number < length self.now.crashes)
+            × (id_of self.now number ≡ id)) }
     {
         self.crashes.number_of(id)
     }
@@ -159,7 +161,8 @@ impl Ledger {
         requires is_new { was_accepted self.old.log filed.id ≡ false }
         requires few { length self.old.crashes < 2 ^ 32 - 1 }
         requires room { 0 < self.old.room }
-        ensures { self.new ≡ record (with_event self.old (Event.Accepted filed.id)) { crashes = self.old.crashes ++ filed ∷ [] } }
+        ensures { self.new ≡ record (with_event self.old (Event.Accepted filed.id))
+            { crashes = self.old.crashes ++ filed ∷ [] } }
     {
         let event = Event::Accepted(filed.id);
         let standing = Standing::default().after(&event, self.log.len());

@@ -22,9 +22,14 @@ impl Model for Log {
 
     ghost Value = { LogTable };
 
-    ghost view = { λ a. record { events = a.events.items; room = vec_capacity a.events - vec_len a.events } };
+    ghost view = { λ a. record {
+      events = a.events.items;
+      room = vec_capacity a.events - vec_len
+          a.events;
+    } };
 
-    ghost invariant = { λ a. (a.asks ≡ ask_count a.events.items) × (a.stopped ≡ has_stop a.events.items) };
+    ghost invariant = { λ a. (a.asks ≡ ask_count a.events.items)
+        × (a.stopped ≡ has_stop a.events.items) };
 }
 
 impl Log {

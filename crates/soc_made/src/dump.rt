@@ -124,7 +124,8 @@ fn put_directory(dump: &mut Vec<u8>) -> Result<(), NoMemory>
 fn put_entry(dump: &mut Vec<u8>, at: usize, stream: Stream) -> Result<(), NoMemory>
     requires near { at < 2 ^ 16 }
     requires place { stream.place < 2 ^ 16 }
-    ensures { OnOk result (dump.new.items ≡ spec.laid dump.old.items (spec.entry at stream.kind stream.size stream.place)) }
+    ensures { OnOk result (dump.new.items
+        ≡ spec.laid dump.old.items (spec.entry at stream.kind stream.size stream.place)) }
 {
     put_word(dump, at, stream.kind)?;
     put_word(dump, at + 4, stream.size)?;

@@ -56,7 +56,8 @@ fn made_body(alloc: Global, seed: u64, k: u32) -> Result<Vec<u8>, NoMemory>
 }
 
 fn put_part(body: &mut Vec<u8>, parameters: &str, content: &[u8]) -> Result<(), NoMemory>
-    ensures { OnOk result (body.new.items ≡ body.old.items ++ spec.part parameters.now content.now) }
+    ensures { OnOk result (body.new.items ≡ body.old.items
+        ++ spec.part parameters.now content.now) }
 {
     body.extend_from_slice(PART)?;
     body.extend_from_slice(parameters.as_bytes())?;
@@ -105,7 +106,8 @@ pub enum MakeEnd {
 pub fn make<K: Sink>(alloc: Global, seed: u64, count: u32, output: &mut K) -> MakeEnd
     requires { count ≤ 65536 }
     ensures makes { Makes seed count (K.told output.old) (K.told output.new) result }
-    ensures cause { result ≡ MakeEnd.WriteFault → WriteFailed (K.told output.old) (K.told output.new) }
+    ensures cause { result ≡ MakeEnd.WriteFault
+        → WriteFailed (K.told output.old) (K.told output.new) }
 {
     for k in 0..count {
         let Ok(message) = made_crash(alloc, seed, k) else {

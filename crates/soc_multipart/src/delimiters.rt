@@ -49,7 +49,8 @@ fn is_boundary_byte(byte: u8) -> bool
 /// boundary.
 pub fn next_delimiter<'a>(finder: &Finder<'_>, text: &'a [u8]) -> Option<Found<'a>>
     requires { 0 < length finder.now }
-    ensures { MatchOption result (HasNoDelimiter finder.now text.now) (λ found. MeetsFirst finder.now text.now found.front.now found.end) }
+    ensures { MatchOption result (HasNoDelimiter finder.now text.now)
+        (λ found. MeetsFirst finder.now text.now found.front.now found.end) }
 {
     let mut from = 0;
     while let Some(at) = finder.find(after(text, from)) {
@@ -73,7 +74,8 @@ pub fn first_delimiter<'a>(
     body: &'a [u8],
 ) -> Option<Ending<'a>>
     requires { finder.now ≡ mark_of boundary.now }
-    ensures { MatchOption result (HasNoDelimiter (mark_of boundary.now) (crlf ++ body.now)) (λ end. BeginsAt (mark_of boundary.now) (crlf ++ body.now) end) }
+    ensures { MatchOption result (HasNoDelimiter (mark_of boundary.now) (crlf ++ body.now))
+        (λ end. BeginsAt (mark_of boundary.now) (crlf ++ body.now) end) }
 {
     if let Some(end) = delimiter_at_start(boundary, body) {
         return Some(end);
@@ -86,7 +88,8 @@ pub fn first_delimiter<'a>(
 
 /// How the delimiter ends that a body begins with, where it does.
 pub fn delimiter_at_start<'a>(boundary: &[u8], body: &'a [u8]) -> Option<Ending<'a>>
-    ensures { MatchOption result (¬ (IsAtDelimiter (mark_of boundary.now) (crlf ++ body.now))) (λ end. IsAt (mark_of boundary.now) (crlf ++ body.now) end) }
+    ensures { MatchOption result (¬ (IsAtDelimiter (mark_of boundary.now) (crlf ++ body.now)))
+        (λ end. IsAt (mark_of boundary.now) (crlf ++ body.now) end) }
 {
     let after = strip_front(strip_front(body, b"--")?, boundary)?;
     end_of(after)
@@ -106,7 +109,8 @@ pub fn end_of(after: &[u8]) -> Option<Ending<'_>>
 }
 
 fn strip_opening(after: &[u8]) -> Option<&[u8]>
-    ensures { MatchOption result ((rest : List ℕ) → ¬ (EndsOpening after.now rest)) (λ rest. EndsOpening after.now rest.now) }
+    ensures { MatchOption result ((rest : List ℕ) → ¬ (EndsOpening after.now rest))
+        (λ rest. EndsOpening after.now rest.now) }
 {
     let (_pad, tail) = split_blanks(after);
     strip_front(tail, &CRLF)

@@ -30,7 +30,10 @@ pub struct Head {
 
 /// What a whole head of these lines says, where it is a good one.
 pub fn head_of(alloc: Global, lines: &[Line<'_>]) -> Result<Option<Head>, NoMemory>
-    ensures { IfOk result (λ found. MatchOption found ((name kind : List ℕ) (file : Option (List ℕ)) → ¬ (IsHead (line_texts lines.now) name file kind)) (λ head. IsHead (line_texts lines.now) head.name head.file head.kind)) }
+    ensures { IfOk result (λ found.
+        MatchOption found ((name kind : List ℕ) (file : Option (List ℕ))
+        → ¬ (IsHead (line_texts lines.now) name file kind))
+        (λ head. IsHead (line_texts lines.now) head.name head.file head.kind)) }
 {
     let Named::Once(value) = values_named(lines, b"content-disposition") else {
         return Ok(None);
@@ -79,7 +82,10 @@ fn kind_of(alloc: Global, lines: &[Line<'_>]) -> Result<Option<Text>, NoMemory>
 }
 
 fn disposed(alloc: Global, value: &[u8]) -> Result<Option<Disposition>, NoMemory>
-    ensures { IfOk result (λ found. MatchOption found ((name : List ℕ) (file : Option (List ℕ)) → ¬ (IsDisposition value.now name file)) (λ said. IsDisposition value.now said.name said.file)) }
+    ensures { IfOk result (λ found.
+        MatchOption found ((name : List ℕ) (file : Option (List ℕ))
+        → ¬ (IsDisposition value.now name file))
+        (λ said. IsDisposition value.now said.name said.file)) }
 {
     let Some(text) = strip_front(value, b"form-data") else {
         return Ok(None);

@@ -90,7 +90,9 @@ fn first_bytes(piece: &[u8]) -> &[u8]
 }
 
 fn read_lines<'a>(alloc: Global, text: &'a [u8]) -> Result<ReadLines<'a>, NoMemory>
-    ensures { IfOk result (λ read. Chain ReadsLine text.now (line_texts read.lines.items) read.rest.now × HasNoStep ReadsLine read.rest.now) }
+    ensures { IfOk result (λ read.
+        Chain ReadsLine text.now (line_texts read.lines.items) read.rest.now
+        × HasNoStep ReadsLine read.rest.now) }
 {
     let mut lines = Vec::new(alloc);
     let mut rest = text;
@@ -102,7 +104,9 @@ fn read_lines<'a>(alloc: Global, text: &'a [u8]) -> Result<ReadLines<'a>, NoMemo
 }
 
 fn read_line(text: &[u8]) -> Option<(Line<'_>, &[u8])>
-    ensures { MatchOption result ((line : LineText) (rest : List ℕ) → ¬ (ReadsLine text.now line rest)) (λ read. ReadsLine text.now (line_text read.0) read.1.now) }
+    ensures { MatchOption result ((line : LineText) (rest : List ℕ)
+        → ¬ (ReadsLine text.now line rest))
+        (λ read. ReadsLine text.now (line_text read.0) read.1.now) }
 {
     let (name, tail) = split_token(text);
     if name.is_empty() {
@@ -142,7 +146,8 @@ pub fn values_named<'a>(lines: &[Line<'a>], name: &[u8]) -> Named<'a>
 }
 
 fn one_more<'a>(found: Named<'a>, raw: &'a [u8]) -> Named<'a>
-    ensures { (values : List (List ℕ)) → HasValues values found.entry → HasValues (values ++ trimmed raw.now ∷ []) result }
+    ensures { (values : List (List ℕ)) → HasValues values found.entry
+        → HasValues (values ++ trimmed raw.now ∷ []) result }
 {
     match found {
         Named::Never => Named::Once(trim_blanks(raw)),

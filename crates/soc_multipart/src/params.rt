@@ -42,7 +42,9 @@ pub fn params<'a>(
     spaced: bool,
     text: &'a [u8],
 ) -> Result<Option<Vec<Param<'a>>>, NoMemory>
-    ensures { IfOk result (λ found. MatchOption found ((params : List ParamText) → ¬ (AreParams spaced text.now params)) (λ params. AreParams spaced text.now (param_texts params.items))) }
+    ensures { IfOk result (λ found.
+        MatchOption found ((params : List ParamText) → ¬ (AreParams spaced text.now params))
+        (λ params. AreParams spaced text.now (param_texts params.items))) }
 {
     let mut found = Vec::new(alloc);
     // The names so far, in lower case.
@@ -69,7 +71,10 @@ fn read_param<'a>(
     spaced: bool,
     text: &'a [u8],
 ) -> Result<Option<ReadParam<'a>>, NoMemory>
-    ensures { IfOk result (λ found. MatchOption found ((param : ParamText) (rest : List ℕ) → ¬ (ReadsParam spaced text.now param rest)) (λ read. ReadsParam spaced text.now (param_text read.param) read.rest.now)) }
+    ensures { IfOk result (λ found.
+        MatchOption found ((param : ParamText) (rest : List ℕ)
+        → ¬ (ReadsParam spaced text.now param rest))
+        (λ read. ReadsParam spaced text.now (param_text read.param) read.rest.now)) }
 {
     let Some((name, later)) = read_name(spaced, text) else {
         return Ok(None);
@@ -85,7 +90,8 @@ fn read_param<'a>(
 }
 
 fn read_name(spaced: bool, text: &[u8]) -> Option<(&[u8], &[u8])>
-    ensures { MatchOption result ((name rest : List ℕ) → ¬ (ReadsName spaced text.now name rest)) (λ read. ReadsName spaced text.now read.0.now read.1.now) }
+    ensures { MatchOption result ((name rest : List ℕ) → ¬ (ReadsName spaced text.now name rest))
+        (λ read. ReadsName spaced text.now read.0.now read.1.now) }
 {
     let tail = strip_front(skip_gap(spaced, text), b";")?;
     let (_pad, tail) = split_blanks(tail);
@@ -99,7 +105,8 @@ fn read_name(spaced: bool, text: &[u8]) -> Option<(&[u8], &[u8])>
 
 fn skip_gap(spaced: bool, text: &[u8]) -> &[u8]
     ensures skips { SkipsGap spaced text.now result.now }
-    ensures stops { spaced ≡ true → (b : ℕ) (more : List ℕ) → result.now ≡ b ∷ more → is_blank b ≡ false }
+    ensures stops { spaced ≡ true → (b : ℕ) (more : List ℕ) → result.now ≡ b ∷ more
+        → is_blank b ≡ false }
 {
     if spaced {
         let (_gap, rest) = split_blanks(text);
@@ -110,7 +117,9 @@ fn skip_gap(spaced: bool, text: &[u8]) -> &[u8]
 }
 
 fn read_value<'a>(alloc: Global, text: &'a [u8]) -> Result<Option<ReadValue<'a>>, NoMemory>
-    ensures { IfOk result (λ found. MatchOption found ((value rest : List ℕ) → ¬ (ReadsValue text.now value rest)) (λ read. ReadsValue text.now read.value.items read.rest.now)) }
+    ensures { IfOk result (λ found.
+        MatchOption found ((value rest : List ℕ) → ¬ (ReadsValue text.now value rest))
+        (λ read. ReadsValue text.now read.value.items read.rest.now)) }
 {
     if let Some(behind) = strip_front(text, b"\"") {
         let found = read_quoted(alloc, behind)?;
@@ -127,7 +136,10 @@ fn read_value<'a>(alloc: Global, text: &'a [u8]) -> Result<Option<ReadValue<'a>>
 }
 
 fn read_quoted<'a>(alloc: Global, text: &'a [u8]) -> Result<Option<ReadValue<'a>>, NoMemory>
-    ensures { IfOk result (λ found. MatchOption found ((value rest : List ℕ) → EndsToken rest → ¬ (EndsQuoted text.now value rest)) (λ read. EndsQuoted text.now read.value.items read.rest.now × EndsToken read.rest.now)) }
+    ensures { IfOk result (λ found.
+        MatchOption found ((value rest : List ℕ) → EndsToken rest
+        → ¬ (EndsQuoted text.now value rest))
+        (λ read. EndsQuoted text.now read.value.items read.rest.now × EndsToken read.rest.now)) }
 {
     let mut value = Vec::new(alloc);
     let mut rest = text;
@@ -151,7 +163,8 @@ fn read_quoted<'a>(alloc: Global, text: &'a [u8]) -> Result<Option<ReadValue<'a>
 
 /// The byte that the text begins with in a quoted text, and what follows it.
 fn spelled_byte(text: &[u8]) -> Option<(u8, &[u8])>
-    ensures { MatchOption result ((byte : ℕ) (rest : List ℕ) → ¬ (SpellsByte text.now byte rest)) (λ read. SpellsByte text.now read.0 read.1.now) }
+    ensures { MatchOption result ((byte : ℕ) (rest : List ℕ) → ¬ (SpellsByte text.now byte rest))
+        (λ read. SpellsByte text.now read.0 read.1.now) }
 {
     let (first, rest) = text.split_first()?;
     match *first {
@@ -182,7 +195,8 @@ pub fn split_token(text: &[u8]) -> (&[u8], &[u8])
 
 /// The value of the first parameter of this name, without regard to ASCII case.
 pub fn find_param<'p>(params: &'p [Param<'_>], name: &[u8]) -> Option<&'p [u8]>
-    ensures { MatchOption result (value_of name.now (param_texts params.now) ≡ None) (λ value. value_of name.now (param_texts params.now) ≡ Some value.now) }
+    ensures { MatchOption result (value_of name.now (param_texts params.now) ≡ None)
+        (λ value. value_of name.now (param_texts params.now) ≡ Some value.now) }
 {
     for param in params {
         if param.name.eq_ignore_ascii_case(name) {

@@ -94,7 +94,8 @@ pub fn read_whole<'a>(
 ) -> Result<Parts<'a>, PartsError>
     ensures found { IfOk result (λ parts. Cut boundary.now body.now (part_texts parts.items)) }
     // Want of memory is free.
-    ensures refused { IfErr result (λ error. (error ≡ WantsMemory) ⊎ CutFault boundary.now body.now error) }
+    ensures refused { IfErr result
+        (λ error. (error ≡ WantsMemory) ⊎ CutFault boundary.now body.now error) }
 {
     if !is_boundary(boundary) {
         return Err(PartsError::BadBoundary);
@@ -144,8 +145,10 @@ fn read_part<'a>(
 ) -> Result<ReadPart<'a>, PartsError>
     requires mark { 0 < length finder.now }
     requires few { count < parts_limit }
-    ensures found { IfOk result (λ read. MeetsPart finder.now rest.now (part_text read.part) read.end) }
-    ensures refused { IfErr result (λ error. (error ≡ WantsMemory) ⊎ PartFault finder.now rest.now count error) }
+    ensures found { IfOk result (λ read.
+        MeetsPart finder.now rest.now (part_text read.part) read.end) }
+    ensures refused { IfErr result
+        (λ error. (error ≡ WantsMemory) ⊎ PartFault finder.now rest.now count error) }
 {
     let Some(found) = next_delimiter(finder, rest) else {
         let may = may_be_part(alloc, rest)?;
@@ -172,7 +175,9 @@ fn mark(alloc: Global, boundary: &[u8]) -> Result<Vec<u8>, NoMemory>
 
 /// The piece as a part, where it is one.
 pub fn part_of<'a>(alloc: Global, piece: &'a [u8]) -> Result<Option<Part<'a>>, NoMemory>
-    ensures { IfOk result (λ found. MatchOption found ((part : PartText) → ¬ (IsPart piece.now part)) (λ part. IsPart piece.now (part_text part))) }
+    ensures { IfOk result (λ found.
+        MatchOption found ((part : PartText) → ¬ (IsPart piece.now part))
+        (λ part. IsPart piece.now (part_text part))) }
 {
     let HeadLines { lines, end } = head_lines(alloc, piece)?;
     let Some(content) = content_of(piece, end) else {
@@ -192,7 +197,10 @@ pub fn part_of<'a>(alloc: Global, piece: &'a [u8]) -> Result<Option<Part<'a>>, N
 
 /// The content of a piece whose head ends so.
 fn content_of<'a>(piece: &[u8], end: HeadEnd<'a>) -> Option<&'a [u8]>
-    ensures { (lines : List LineText) → IsHeadEnd piece.now lines end.entry → MatchOption result ((lines : List LineText) (content : List ℕ) → ¬ (HoldsHead piece.now lines content)) (λ content. HoldsHead piece.now lines content.now) }
+    ensures { (lines : List LineText) → IsHeadEnd piece.now lines end.entry
+        → MatchOption result ((lines : List LineText) (content : List ℕ)
+        → ¬ (HoldsHead piece.now lines content))
+        (λ content. HoldsHead piece.now lines content.now) }
 {
     match end {
         HeadEnd::Content(content) => Some(content),

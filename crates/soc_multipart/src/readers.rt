@@ -36,7 +36,8 @@ impl Model for Reader {
 impl Reader {
     /// A reader of a body with this boundary.
     pub fn new(alloc: Global, boundary: &[u8]) -> Result<Reader, PartsError>
-        ensures found { IfOk result (λ reader. (reader.boundary ≡ boundary.now) × WasFed reader []) }
+        ensures found { IfOk result (λ reader. (reader.boundary ≡ boundary.now)
+            × WasFed reader []) }
         ensures refused { IfErr result (IsBadBoundary boundary.now) }
     {
         if !is_boundary(boundary) {
@@ -52,8 +53,10 @@ impl Reader {
 
     /// Takes the next piece. A refusal comes only where each continuation of the body has it.
     pub fn feed(&mut self, piece: &[u8]) -> Result<(), PartsError>
-        ensures goes_on { (fed : List ℕ) → WasFed self.old fed → OnOk result (WasFed self.new (fed ++ piece.now)) }
-        ensures refused { (fed : List ℕ) → WasFed self.old fed → IfErr result (RefusesFor self.old.boundary (fed ++ piece.now)) }
+        ensures goes_on { (fed : List ℕ) → WasFed self.old fed
+            → OnOk result (WasFed self.new (fed ++ piece.now)) }
+        ensures refused { (fed : List ℕ) → WasFed self.old fed
+            → IfErr result (RefusesFor self.old.boundary (fed ++ piece.now)) }
         ensures keeps { self.new.boundary ≡ self.old.boundary }
         ensures stays { IfErr result (HasRefused self.new) }
         ensures again { (fault : Fault) → HasRefused self.old fault → result ≡ Err fault }
@@ -76,8 +79,10 @@ impl Reader {
 
     /// The parts of the body, which ends here.
     pub fn finish(self) -> Result<OwnedParts, PartsError>
-        ensures found { (fed : List ℕ) → WasFed self fed → IfOk result (λ parts. Cut self.boundary fed (owned_texts parts.items)) }
-        ensures refused { (fed : List ℕ) → WasFed self fed → IfErr result (RefusesBody self.boundary fed) }
+        ensures found { (fed : List ℕ) → WasFed self fed
+            → IfOk result (λ parts. Cut self.boundary fed (owned_texts parts.items)) }
+        ensures refused { (fed : List ℕ) → WasFed self fed
+            → IfErr result (RefusesBody self.boundary fed) }
         ensures again { (fault : Fault) → HasRefused self fault → result ≡ Err fault }
     {
         let Reader {

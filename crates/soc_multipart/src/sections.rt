@@ -75,8 +75,10 @@ pub fn at_start(alloc: Global) -> State
 
 /// The state after a piece more.
 pub fn fed(alloc: Global, boundary: &[u8], state: State, piece: &[u8]) -> Result<State, PartsError>
-    ensures found { (fed : List ℕ) → Stands Watches boundary.now fed state → IfOk result (λ new. Stands Watches boundary.now (fed ++ piece.now) new) }
-    ensures refused { (fed : List ℕ) → Stands Watches boundary.now fed state → IfErr result (λ error. RefusesFor boundary.now (fed ++ piece.now) error) }
+    ensures found { (fed : List ℕ) → Stands Watches boundary.now fed state
+        → IfOk result (λ new. Stands Watches boundary.now (fed ++ piece.now) new) }
+    ensures refused { (fed : List ℕ) → Stands Watches boundary.now fed state
+        → IfErr result (λ error. RefusesFor boundary.now (fed ++ piece.now) error) }
 {
     let mut new = state;
     let mut left = piece;
@@ -97,8 +99,10 @@ fn fed_line(
     ended: bool,
 ) -> Result<State, PartsError>
     requires { IsOfLine bytes.now ended }
-    ensures found { (fed : List ℕ) → Stands Watches boundary.now fed state → IfOk result (λ new. Stands Watches boundary.now (fed ++ bytes.now) new) }
-    ensures refused { (fed : List ℕ) → Stands Watches boundary.now fed state → IfErr result (λ error. RefusesFor boundary.now (fed ++ bytes.now) error) }
+    ensures found { (fed : List ℕ) → Stands Watches boundary.now fed state
+        → IfOk result (λ new. Stands Watches boundary.now (fed ++ bytes.now) new) }
+    ensures refused { (fed : List ℕ) → Stands Watches boundary.now fed state
+        → IfErr result (λ error. RefusesFor boundary.now (fed ++ bytes.now) error) }
 {
     if is_closed(&state.section) {
         return Ok(state);
@@ -136,8 +140,11 @@ fn is_closed(section: &Section) -> bool
 
 /// The state behind the line feed that ends its bytes.
 fn end_line(alloc: Global, boundary: &[u8], state: State) -> Result<State, PartsError>
-    ensures found { (fed : List ℕ) → state.section ≢ Done → Stands EndsLineIn boundary.now fed state → IfOk result (λ new. Stands Watches boundary.now fed new) }
-    ensures refused { (fed : List ℕ) → state.section ≢ Done → Stands EndsLineIn boundary.now fed state → IfErr result (λ error. RefusesFor boundary.now fed error) }
+    ensures found { (fed : List ℕ) → state.section ≢ Done → Stands EndsLineIn boundary.now fed state
+        → IfOk result (λ new. Stands Watches boundary.now fed new) }
+    ensures refused { (fed : List ℕ) → state.section ≢ Done
+        → Stands EndsLineIn boundary.now fed state
+        → IfErr result (λ error. RefusesFor boundary.now fed error) }
 {
     let Some(met) = delimiter_in(boundary, &state.tail) else {
         return pass_line(alloc, state);
@@ -159,8 +166,13 @@ fn end_section(
     tail: Tail,
     place: usize,
 ) -> Result<Vec<OwnedPart>, PartsError>
-    ensures found { (boundary body next : List ℕ) → EndsSection boundary body (owned_texts parts.items) section tail.bytes.items place next → IfOk result (λ new. HoldsParts boundary body (owned_texts new.items) next × length new.items ≤ parts_limit) }
-    ensures refused { (boundary body next : List ℕ) → IsBoundary boundary → EndsSection boundary body (owned_texts parts.items) section tail.bytes.items place next → IfErr result (RefusesBody boundary body) }
+    ensures found { (boundary body next : List ℕ)
+        → EndsSection boundary body (owned_texts parts.items) section tail.bytes.items place next
+        → IfOk result (λ new. HoldsParts boundary body (owned_texts new.items) next
+        × length new.items ≤ parts_limit) }
+    ensures refused { (boundary body next : List ℕ) → IsBoundary boundary
+        → EndsSection boundary body (owned_texts parts.items) section tail.bytes.items place next
+        → IfErr result (RefusesBody boundary body) }
 {
     let mut new = parts;
     match section {
@@ -196,8 +208,12 @@ fn bad_part(count: usize) -> PartsError
 
 /// The state behind a delimiter.
 fn begin_section(alloc: Global, parts: Vec<OwnedPart>, kind: Kind) -> Result<State, PartsError>
-    ensures found { (boundary fed : List ℕ) → IsBoundary boundary → length parts.items ≤ parts_limit → MeetsFor boundary fed (owned_texts parts.items) kind → IfOk result (λ new. Stands Watches boundary fed new) }
-    ensures refused { (boundary fed : List ℕ) → IsBoundary boundary → length parts.items ≤ parts_limit → MeetsFor boundary fed (owned_texts parts.items) kind → IfErr result (λ error. RefusesFor boundary fed error) }
+    ensures found { (boundary fed : List ℕ) → IsBoundary boundary → length parts.items ≤ parts_limit
+        → MeetsFor boundary fed (owned_texts parts.items) kind
+        → IfOk result (λ new. Stands Watches boundary fed new) }
+    ensures refused { (boundary fed : List ℕ) → IsBoundary boundary
+        → length parts.items ≤ parts_limit → MeetsFor boundary fed (owned_texts parts.items) kind
+        → IfErr result (λ error. RefusesFor boundary fed error) }
 {
     let tail = empty(alloc, None);
     match kind {
@@ -221,8 +237,10 @@ fn begin_section(alloc: Global, parts: Vec<OwnedPart>, kind: Kind) -> Result<Sta
 
 /// The state behind a line that is no delimiter.
 fn pass_line(alloc: Global, state: State) -> Result<State, PartsError>
-    ensures found { (boundary fed : List ℕ) → Stands PassesLineIn boundary fed state → IfOk result (λ new. Stands Watches boundary fed new) }
-    ensures refused { (boundary fed : List ℕ) → Stands PassesLineIn boundary fed state → IfErr result (λ error. RefusesFor boundary fed error) }
+    ensures found { (boundary fed : List ℕ) → Stands PassesLineIn boundary fed state
+        → IfOk result (λ new. Stands Watches boundary fed new) }
+    ensures refused { (boundary fed : List ℕ) → Stands PassesLineIn boundary fed state
+        → IfErr result (λ error. RefusesFor boundary fed error) }
 {
     let State {
         parts,
@@ -258,8 +276,10 @@ fn pass_line(alloc: Global, state: State) -> Result<State, PartsError>
 
 /// The state, where what has come of a head may show that it is a good or a bad one.
 fn judge_head(alloc: Global, state: State) -> Result<State, PartsError>
-    ensures found { (boundary fed : List ℕ) → Stands Watches boundary fed state → IfOk result (λ new. Stands Watches boundary fed new) }
-    ensures refused { (boundary fed : List ℕ) → Stands Watches boundary fed state → IfErr result (λ error. RefusesFor boundary fed error) }
+    ensures found { (boundary fed : List ℕ) → Stands Watches boundary fed state
+        → IfOk result (λ new. Stands Watches boundary fed new) }
+    ensures refused { (boundary fed : List ℕ) → Stands Watches boundary fed state
+        → IfErr result (λ error. RefusesFor boundary fed error) }
 {
     if !is_in_head(&state.section) {
         return Ok(state);
@@ -298,7 +318,8 @@ fn in_content(parts: Vec<OwnedPart>, good: GoodHead) -> State
 
 /// What the bytes of a head say of it.
 fn judge(alloc: Global, tail: &Tail) -> Result<Verdict, NoMemory>
-    ensures { (boundary : List ℕ) → Watches (mark_of boundary) [] tail.now.bytes.items tail.now.line → IfOk result (Judges (mark_of boundary) tail.now.bytes.items) }
+    ensures { (boundary : List ℕ) → Watches (mark_of boundary) [] tail.now.bytes.items tail.now.line
+        → IfOk result (Judges (mark_of boundary) tail.now.bytes.items) }
 {
     let bytes = tail.bytes.as_slice();
     let decided = decided_len(tail);
@@ -321,7 +342,8 @@ fn judge(alloc: Global, tail: &Tail) -> Result<Verdict, NoMemory>
 
 /// How many bytes stand before each delimiter that may still come.
 fn decided_len(tail: &Tail) -> usize
-    ensures clear { (mark : List ℕ) → Watches mark [] tail.now.bytes.items tail.now.line → IsClear mark tail.now.bytes.items result }
+    ensures clear { (mark : List ℕ) → Watches mark [] tail.now.bytes.items tail.now.line
+        → IsClear mark tail.now.bytes.items result }
     ensures inside { result ≤ length tail.now.bytes.items }
 {
     match tail.line {
@@ -355,7 +377,8 @@ fn ends_in_empty_line(bytes: &[u8]) -> bool
 /// What the lines up to an empty one say of a head.
 fn judge_lines(alloc: Global, bytes: &[u8]) -> Result<Verdict, NoMemory>
     requires { length bytes.now ≤ head_limit }
-    ensures { (front : List ℕ) → bytes.now ≡ front ++ crlf → IfOk result (JudgesLines bytes.now front) }
+    ensures { (front : List ℕ) → bytes.now ≡ front ++ crlf
+        → IfOk result (JudgesLines bytes.now front) }
 {
     let HeadLines { lines, end } = head_lines(alloc, bytes)?;
     match end {
@@ -377,8 +400,10 @@ fn judge_lines(alloc: Global, bytes: &[u8]) -> Result<Verdict, NoMemory>
 
 /// The parts of the body that ends here.
 pub fn finished(alloc: Global, boundary: &[u8], state: State) -> Result<Vec<OwnedPart>, PartsError>
-    ensures found { (fed : List ℕ) → Stands Watches boundary.now fed state → IfOk result (λ parts. Cut boundary.now fed (owned_texts parts.items)) }
-    ensures refused { (fed : List ℕ) → Stands Watches boundary.now fed state → IfErr result (RefusesBody boundary.now fed) }
+    ensures found { (fed : List ℕ) → Stands Watches boundary.now fed state
+        → IfOk result (λ parts. Cut boundary.now fed (owned_texts parts.items)) }
+    ensures refused { (fed : List ℕ) → Stands Watches boundary.now fed state
+        → IfErr result (RefusesBody boundary.now fed) }
 {
     if is_closed(&state.section) {
         return Ok(state.parts);
@@ -396,7 +421,9 @@ pub fn finished(alloc: Global, boundary: &[u8], state: State) -> Result<Vec<Owne
 
 /// Why a body has no parts that ends in this section.
 fn cut_off(alloc: Global, state: State) -> PartsError
-    ensures { (boundary body : List ℕ) → IsBoundary boundary → IsCutOff boundary body (owned_texts state.parts.items) state.section state.tail.bytes.items → RefusesBody boundary body result }
+    ensures { (boundary body : List ℕ) → IsBoundary boundary
+        → IsCutOff boundary body (owned_texts state.parts.items) state.section
+        state.tail.bytes.items → RefusesBody boundary body result }
 {
     let State {
         parts,

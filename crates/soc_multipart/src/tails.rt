@@ -88,7 +88,11 @@ pub fn grown(tail: Tail, bytes: &[u8]) -> Result<Tail, NoMemory>
 
 /// The delimiter that the line is which a line feed has just ended.
 pub fn delimiter_in(boundary: &[u8], tail: &Tail) -> Option<Met>
-    ensures { (before : List ℕ) → IsBoundary boundary.now → EndsLineIn (mark_of boundary.now) before tail.now.bytes.items tail.now.line → MatchOption result (IsClear (mark_of boundary.now) (before ++ tail.now.bytes.items) (length (before ++ tail.now.bytes.items) - 2)) (λ met. MeetsIn (mark_of boundary.now) before tail.now.bytes.items met.place met.kind) }
+    ensures { (before : List ℕ) → IsBoundary boundary.now
+        → EndsLineIn (mark_of boundary.now) before tail.now.bytes.items tail.now.line
+        → MatchOption result (IsClear (mark_of boundary.now) (before ++ tail.now.bytes.items)
+        (length (before ++ tail.now.bytes.items) - 2))
+        (λ met. MeetsIn (mark_of boundary.now) before tail.now.bytes.items met.place met.kind) }
 {
     let Some(place) = tail.line else {
         return None;
@@ -105,7 +109,11 @@ pub fn delimiter_in(boundary: &[u8], tail: &Tail) -> Option<Met>
 
 /// Where the line begins that the body's end makes a closing delimiter.
 pub fn closing_in(boundary: &[u8], tail: &Tail) -> Option<usize>
-    ensures { (before : List ℕ) → Watches (mark_of boundary.now) before tail.now.bytes.items tail.now.line → MatchOption result (HasNoDelimiter (mark_of boundary.now) (before ++ tail.now.bytes.items)) (λ place. ClosesIn (mark_of boundary.now) before tail.now.bytes.items place) }
+    ensures { (before : List ℕ) → Watches
+        (mark_of boundary.now) before tail.now.bytes.items tail.now.line
+        → MatchOption result (HasNoDelimiter (mark_of boundary.now)
+        (before ++ tail.now.bytes.items))
+        (λ place. ClosesIn (mark_of boundary.now) before tail.now.bytes.items place) }
 {
     let Some(place) = tail.line else {
         return None;
@@ -132,7 +140,9 @@ fn kind_of(end: Ending<'_>) -> Kind
 /// The tail, without the place of a line that can't become a delimiter.
 pub fn narrowed(boundary: &[u8], tail: Tail) -> Tail
     ensures bytes { result.bytes.items ≡ tail.bytes.items }
-    ensures watches { (before : List ℕ) → Watches (mark_of boundary.now) before tail.bytes.items tail.line → Watches (mark_of boundary.now) before tail.bytes.items result.line }
+    ensures watches { (before : List ℕ)
+        → Watches (mark_of boundary.now) before tail.bytes.items tail.line
+        → Watches (mark_of boundary.now) before tail.bytes.items result.line }
 {
     let Some(place) = tail.line else {
         return tail;
@@ -167,7 +177,9 @@ fn agree(one: &[u8], other: &[u8]) -> bool
 /// The tail behind a line that is no delimiter.
 pub fn moved_on(tail: Tail) -> Tail
     ensures bytes { result.bytes.items ≡ tail.bytes.items }
-    ensures watches { (boundary before : List ℕ) → PassesLineIn (mark_of boundary) before tail.bytes.items tail.line → Watches (mark_of boundary) before result.bytes.items result.line }
+    ensures watches { (boundary before : List ℕ)
+        → PassesLineIn (mark_of boundary) before tail.bytes.items tail.line
+        → Watches (mark_of boundary) before result.bytes.items result.line }
 {
     let Tail { bytes, line: _ } = tail;
     if !ends_in_line_end(bytes.as_slice()) {
@@ -180,7 +192,9 @@ pub fn moved_on(tail: Tail) -> Tail
 /// The same, where what came before is needed no longer.
 pub fn renewed(tail: Tail) -> Tail
     ensures bytes { result.bytes.items ≡ [] }
-    ensures watches { (boundary before : List ℕ) → PassesLineIn (mark_of boundary) before tail.bytes.items tail.line → Watches (mark_of boundary) (before ++ tail.bytes.items) [] result.line }
+    ensures watches { (boundary before : List ℕ)
+        → PassesLineIn (mark_of boundary) before tail.bytes.items tail.line
+        → Watches (mark_of boundary) (before ++ tail.bytes.items) [] result.line }
 {
     let Tail { mut bytes, line: _ } = tail;
     if ends_in_line_end(bytes.as_slice()) {
@@ -195,7 +209,8 @@ pub fn renewed(tail: Tail) -> Tail
 }
 
 fn ends_in_line_end(bytes: &[u8]) -> bool
-    ensures { MatchBool result ((front : List ℕ) × (bytes.now ≡ front ++ crlf)) ((front : List ℕ) → bytes.now ≢ front ++ crlf) }
+    ensures { MatchBool result ((front : List ℕ) × (bytes.now ≡ front ++ crlf))
+        ((front : List ℕ) → bytes.now ≢ front ++ crlf) }
 {
     strip_back(bytes, &CRLF).is_some()
 }

@@ -25,7 +25,8 @@ pub fn search_page(alloc: Global, answer: &Answer) -> Result<Bytes, NoMemory>
 }
 
 fn put_hits(out: &mut Vec<u8>, columns: &[Field], hits: &[Row]) -> Result<(), NoMemory>
-    ensures { OnOk result (out.new.items ≡ out.old.items ++ flat_map (hit_row columns.now) hits.now) }
+    ensures { OnOk result (out.new.items ≡ out.old.items
+        ++ flat_map (hit_row columns.now) hits.now) }
 {
     for hit in hits {
         put(out, b"<tr>")?;
@@ -36,7 +37,8 @@ fn put_hits(out: &mut Vec<u8>, columns: &[Field], hits: &[Row]) -> Result<(), No
 }
 
 fn put_cells(out: &mut Vec<u8>, columns: &[Field], hit: &Row) -> Result<(), NoMemory>
-    ensures { OnOk result (out.new.items ≡ out.old.items ++ flat_map (column_cell hit.now) columns.now) }
+    ensures { OnOk result (out.new.items ≡ out.old.items
+        ++ flat_map (column_cell hit.now) columns.now) }
 {
     for column in columns {
         put_cell(out, *column, hit)?;

@@ -42,8 +42,10 @@ impl Jobs {
     pub fn new(alloc: Global, passes: u32) -> Result<(Jobs, Passes), NoMemory>
         requires { (0 < passes) × (passes ≤ 64) }
         ensures count { IfOk result (λ made. length (passes_in made.1) ≡ passes) }
-        ensures each { IfOk result (λ made. All (λ pass. IsPassOf made.0 pass × IsNew pass) (passes_in made.1)) }
-        ensures numbers { IfOk result (λ made. map (λ pass. (seen_of pass).number) (passes_in made.1) ≡ numbers_below passes) }
+        ensures each { IfOk result (λ made.
+            All (λ pass. IsPassOf made.0 pass × IsNew pass) (passes_in made.1)) }
+        ensures numbers { IfOk result (λ made.
+            map (λ pass. (seen_of pass).number) (passes_in made.1) ≡ numbers_below passes) }
     {
         let list = Vec::with_capacity(alloc, passes as usize)?;
         let (ring, maker) = RuledArrayQueue::ruled(alloc, PLACES)?;
@@ -66,7 +68,8 @@ impl Jobs {
         requires maker { kit.IsPassOf self.now.ring maker × (kit.view maker ≡ maker_at 0) }
         ensures count { length (passes_in result) ≡ passes }
         ensures each { All (λ pass. IsPassOf self.now pass × IsNew pass) (passes_in result) }
-        ensures numbers { map (λ pass. (seen_of pass).number) (passes_in result) ≡ numbers_below passes }
+        ensures numbers { map (λ pass. (seen_of pass).number) (passes_in result)
+            ≡ numbers_below passes }
     {
         for _number in 0..passes {
             let ring = self.ring.another::<Another>(&mut maker);
@@ -82,10 +85,14 @@ impl Jobs {
     /// Puts the job last. The error gives it back where the ring was full.
     pub fn put<R: Wait>(&self, rt: &R, mut pass: Pass, job: Job) -> Result<Pass, (Pass, Job)>
         requires { IsPassOf self.now pass }
-        ensures pass { MatchResult result (λ after. IsPassOf self.now after) (λ back. IsPassOf self.now back.0) }
-        ensures put { IfOk result (λ after. Puts (seen_of pass) job (seen_of after) × (fulls_of after ≡ fulls_of pass)) }
-        ensures full { IfErr result (λ back. (back.1 ≡ job) × (seen_of back.0 ≡ seen_of pass) × WasHolding PLACES (seen_of pass) × (fulls_of back.0 ≡ once_more (fulls_of pass))) }
-        ensures empties { MatchResult result (λ after. empties_of after ≡ empties_of pass) (λ back. empties_of back.0 ≡ empties_of pass) }
+        ensures pass { MatchResult result (λ after. IsPassOf self.now after)
+            (λ back. IsPassOf self.now back.0) }
+        ensures put { IfOk result (λ after. Puts (seen_of pass) job (seen_of after)
+            × (fulls_of after ≡ fulls_of pass)) }
+        ensures full { IfErr result (λ back. (back.1 ≡ job) × (seen_of back.0 ≡ seen_of pass)
+            × WasHolding PLACES (seen_of pass) × (fulls_of back.0 ≡ once_more (fulls_of pass))) }
+        ensures empties { MatchResult result (λ after. empties_of after ≡ empties_of pass)
+            (λ back. empties_of back.0 ≡ empties_of pass) }
     {
         match self.ring.push_as::<Put, R>(rt, &mut pass.ring, job) {
             Ok(()) => {
@@ -104,8 +111,12 @@ impl Jobs {
     pub fn take<R: Wait>(&self, rt: &R, mut pass: Pass) -> (Pass, Option<Job>)
         requires { IsPassOf self.now pass }
         ensures pass { IsPassOf self.now result.0 }
-        ensures taken { IfSome result.1 (λ job. Takes (seen_of pass) job (seen_of result.0) × (empties_of result.0 ≡ empties_of pass)) }
-        ensures empty { IfNone result.1 ((seen_of result.0 ≡ seen_of pass) × WasHolding 0 (seen_of pass) × (empties_of result.0 ≡ once_more (empties_of pass))) }
+        ensures taken { IfSome result.1
+            (λ job. Takes (seen_of pass) job (seen_of result.0)
+            × (empties_of result.0 ≡ empties_of pass)) }
+        ensures empty { IfNone result.1
+            ((seen_of result.0 ≡ seen_of pass) × WasHolding 0 (seen_of pass)
+            × (empties_of result.0 ≡ once_more (empties_of pass))) }
         ensures fulls { fulls_of result.0 ≡ fulls_of pass }
     {
         let job = self.ring.pop_as::<Take, R>(rt, &mut pass.ring);

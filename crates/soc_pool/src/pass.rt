@@ -43,7 +43,8 @@ impl Passes {
 
     /// The last of them.
     pub fn pop(&mut self) -> Option<Pass>
-        ensures { MatchOption result ((passes_in self.old ≡ []) × (passes_in self.new ≡ [])) (λ pass. passes_in self.old ≡ passes_in self.new ++ pass ∷ []) }
+        ensures { MatchOption result ((passes_in self.old ≡ []) × (passes_in self.new ≡ []))
+            (λ pass. passes_in self.old ≡ passes_in self.new ++ pass ∷ []) }
     {
         self.list.pop()
     }

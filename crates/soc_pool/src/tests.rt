@@ -138,7 +138,8 @@ fn workers_of(
 ) -> Result<Vec<Worker<Pass>>, NoMemory>
     requires passes { All (λ pass. IsPassOf jobs.now pass) (passes_in passes) }
     requires few { (length (passes_in passes) ≤ 64) × (count ≤ 1000000) }
-    ensures { IfOk result (λ workers. All (λ worker. IsPassOf jobs.now worker.pass × (worker.from ≤ 64000000)) workers.items) }
+    ensures { IfOk result (λ workers.
+        All (λ worker. IsPassOf jobs.now worker.pass × (worker.from ≤ 64000000)) workers.items) }
 {
     let mut workers = Vec::new(alloc);
     while let Some(pass) = passes.pop() {
@@ -173,7 +174,8 @@ fn run<R: Threads + Wait + Sync>(
         rt,
         workers,
         &|worker: Worker<Pass>| -> Worker<Pass>
-            requires { IsPassOf jobs.now worker.pass × (worker.from ≤ 64000000) × (count ≤ 1000000) }
+            requires { IsPassOf jobs.now worker.pass × (worker.from ≤ 64000000)
+                × (count ≤ 1000000) }
             ensures { IsPassOf jobs.entry.now result.pass }
         { work(rt, jobs, worker, count) },
     )?;

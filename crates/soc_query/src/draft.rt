@@ -33,7 +33,18 @@ impl Model for Draft {
 
     ghost Value = { Asked };
 
-    ghost view = { λ q. record { caller = q.caller; conditions = q.conditions.items; sorts = q.sorts.items; columns = q.columns.items; facets = q.facets.items; facet_size = q.facet_size; number = q.number; offset = q.offset } };
+    ghost view = { λ q. record {
+      caller = q.caller;
+      conditions = q.conditions.items;
+      sorts =
+          q.sorts.items;
+      columns = q.columns.items;
+      facets = q.facets.items;
+      facet_size =
+          q.facet_size;
+      number = q.number;
+      offset = q.offset;
+    } };
 }
 
 impl Draft {
@@ -74,7 +85,8 @@ impl Draft {
     /// One more pair.
     fn add_pair(&mut self, alloc: Global, name: &str, value: &str) -> Result<(), QueryError>
         ensures ok { OnOk result (with_pair self.old name.entry.now value.entry.now ≡ Ok self.new) }
-        ensures refused { IfErr result (IsRefusal (with_pair self.old name.entry.now value.entry.now)) }
+        ensures refused { IfErr result
+            (IsRefusal (with_pair self.old name.entry.now value.entry.now)) }
     {
         let said = read_part(alloc, &self.caller, name, value)?;
         self.add(said)?;
@@ -99,7 +111,8 @@ impl Draft {
 
     /// The columns where none is named.
     fn default_columns(&mut self) -> Result<(), NoMemory>
-        ensures { OnOk result (self.new ≡ record self.old { columns = or_default self.old.columns }) }
+        ensures { OnOk result (self.new
+            ≡ record self.old { columns = or_default self.old.columns }) }
     {
         if self.columns.is_empty() {
             self.columns.push(Field::DATE)?;
@@ -181,7 +194,8 @@ fn add_field(fields: &mut Vec<Field>, field: Field) -> Result<(), NoMemory>
 /// Where the field stands, or else where it would stand.
 fn place_among(fields: &[Field], field: Field) -> Result<usize, usize>
     ensures { MatchResult result (λ _. with_field field fields.now ≡ fields.now)
-        (λ p. (p ≤ length fields.now) × (with_field field fields.now ≡ take p fields.now ++ field ∷ drop p fields.now)) }
+        (λ p. (p ≤ length fields.now) × (with_field field fields.now ≡ take p fields.now
+        ++ field ∷ drop p fields.now)) }
 {
     for (place, other) in fields.iter().enumerate() {
         if other.place() == field.place() {

@@ -142,7 +142,8 @@ fn read_comparison(
     negated: bool,
     value: &str,
 ) -> Result<Condition, QueryError>
-    ensures ok { IfOk result (λ condition. compared_to name.now field negated value.now ≡ Ok condition) }
+    ensures ok { IfOk result (λ condition. compared_to name.now field negated value.now
+        ≡ Ok condition) }
     ensures refused { IfErr result (IsRefusal (compared_to name.now field negated value.now)) }
 {
     let (how, operand) = split_operator(value);

@@ -66,7 +66,8 @@ impl CrashId {
 
     /// The id that the bytes are.
     pub fn of_bytes(bytes: &[u8]) -> Option<CrashId>
-        ensures { MatchOption result (¬ (IsId bytes.now)) (λ id. IsId bytes.now × (id ≡ bytes.now)) }
+        ensures { MatchOption result (¬ (IsId bytes.now))
+            (λ id. IsId bytes.now × (id ≡ bytes.now)) }
     {
         if !is_id(bytes) {
             return None;
@@ -184,7 +185,8 @@ fn may_stand(place: usize, byte: u8) -> bool
 
 fn has_day(text: &[u8]) -> bool
     requires { length text.now ≡ 36 }
-    ensures { result ≡ is_civil (2000 + pair_at text.now 30) (pair_at text.now 32) (pair_at text.now 34) }
+    ensures { result ≡ is_civil (2000 + pair_at text.now 30) (pair_at text.now 32)
+        (pair_at text.now 34) }
 {
     let year = 2000 + pair_at(text, YEAR_PLACE);
     is_civil(year, pair_at(text, MONTH_PLACE), pair_at(text, DAY_PLACE))

@@ -49,7 +49,9 @@ pub fn parts_of(alloc: Global, bytes: &[u8]) -> Result<Parts, RecordError>
 
 #[tactic(auto, unfolding(crate::specs::inner::Reading::crash_at))]
 fn head_at(alloc: Global, cursor: &mut Cursor<'_>) -> Result<Head, RecordError>
-    ensures { MatchResult result (λ head. crash_at cursor.old ≡ crash_with head.id head.moment head.draw head.rule cursor.new) (λ e. Refuses e (crash_at cursor.old ≡ None)) }
+    ensures { MatchResult result (λ head. crash_at cursor.old
+        ≡ crash_with head.id head.moment head.draw head.rule cursor.new)
+        (λ e. Refuses e (crash_at cursor.old ≡ None)) }
 {
     let Some(id) = id_at(cursor) else {
         return Err(RecordError::BadRecord);

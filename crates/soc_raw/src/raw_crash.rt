@@ -33,7 +33,15 @@ pub struct RawCrash {
     pub ghost few_annotations: { length annotations ≤ max_annotations },
     pub ghost few_dumps: { length dumps ≤ max_dumps },
     // The record has at most 67,108,864 bytes.
-    pub ghost fits: { length (record_of (record { id = id; moment = moment; draw = draw; rule = rule; annotations = annotations; dumps = dumps })) ≤ max_record },
+    pub ghost fits: { length (record_of
+        (record {
+          id = id;
+          moment = moment;
+          draw = draw;
+          rule = rule;
+          annotations = annotations;
+          dumps = dumps;
+        })) ≤ max_record },
 }
 
 impl RawCrash {
@@ -160,5 +168,7 @@ pub fn one_crash()
 
 /// A content is that of one list of annotations and one of dumps alone, whatever stands behind it.
 pub fn one_content()
-    ensures { (a b : Crash) (x y : List ℕ) → IsCrash a → IsCrash b → content_text a ++ x ≡ content_text b ++ y → (a.annotations ≡ b.annotations) × (a.dumps ≡ b.dumps) × (x ≡ y) }
+    ensures { (a b : Crash) (x y : List ℕ) → IsCrash a → IsCrash b
+        → content_text a ++ x ≡ content_text b ++ y → (a.annotations ≡ b.annotations)
+        × (a.dumps ≡ b.dumps) × (x ≡ y) }
 {}

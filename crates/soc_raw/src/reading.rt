@@ -133,7 +133,8 @@ fn blobs_after(alloc: Global, count: u32, cursor: &mut Cursor<'_>) -> Result<Blo
 /// The annotations: their number, and each of them.
 #[tactic(auto, unfolding(crate::specs::inner::Reading::counted_pairs_at))]
 pub fn texts_at(alloc: Global, cursor: &mut Cursor<'_>) -> Result<Texts, RecordError>
-    ensures { GivesFrom (λ m. m) (counted_pairs_at text_pair_at MAX_ANNOTATIONS) result cursor.old cursor.new }
+    ensures { GivesFrom (λ m. m) (counted_pairs_at text_pair_at MAX_ANNOTATIONS) result cursor.old
+        cursor.new }
 {
     let Some(count) = cursor.u32() else {
         return Err(RecordError::BadRecord);
@@ -147,7 +148,8 @@ pub fn texts_at(alloc: Global, cursor: &mut Cursor<'_>) -> Result<Texts, RecordE
 /// The dumps: their number, and each of them.
 #[tactic(auto, unfolding(crate::specs::inner::Reading::counted_pairs_at))]
 pub fn blobs_at(alloc: Global, cursor: &mut Cursor<'_>) -> Result<Blobs, RecordError>
-    ensures { GivesFrom (λ m. m) (counted_pairs_at blob_pair_at MAX_DUMPS) result cursor.old cursor.new }
+    ensures { GivesFrom (λ m. m) (counted_pairs_at blob_pair_at MAX_DUMPS) result cursor.old
+        cursor.new }
 {
     let Some(count) = cursor.u32() else {
         return Err(RecordError::BadRecord);

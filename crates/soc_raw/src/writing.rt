@@ -28,7 +28,8 @@ pub fn put_counted(out: &mut Vec<u8>, bytes: &[u8]) -> Result<(), NoMemory>
 /// Writes a name and its value.
 fn put_pair(out: &mut Vec<u8>, name: &[u8], value: &[u8]) -> Result<(), NoMemory>
     requires { length (pair_text (name.now, value.now)) < 2 ^ 32 }
-    ensures written { OnOk result (out.new.items ≡ out.old.items ++ pair_text (name.now, value.now)) }
+    ensures written { OnOk result (out.new.items ≡ out.old.items
+        ++ pair_text (name.now, value.now)) }
     ensures front { Extends out.old.items out.new.items }
 {
     put_counted(out, name)?;

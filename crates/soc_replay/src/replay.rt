@@ -51,7 +51,8 @@ fn run<T: Tree, X: Source + Sink, D: Disk, C: Clock, W: Draws, P: Maker>(
     ensures runs { let told = ⟦<World<T, X, D, C, W, P> as TellsAll>⟧.told in
         IfOk result (RunsBy (told world.old) (told world.new)) }
     ensures fault { let told = ⟦<World<T, X, D, C, W, P> as TellsAll>⟧.told in
-        IfErr result (λ fault. IfSome (told world.old).tree.files (λ files. IsFilesFault (files_say files) fault)) }
+        IfErr result (λ fault. IfSome (told world.old).tree.files
+        (λ files. IsFilesFault (files_say files) fault)) }
     ensures before { let told = ⟦<World<T, X, D, C, W, P> as TellsAll>⟧.told in
         OnErr result (StaysStill (told world.old).around (told world.new).around) }
     ensures runs_on { let told = ⟦<World<T, X, D, C, W, P> as TellsAll>⟧.told in

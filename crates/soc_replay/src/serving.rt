@@ -72,7 +72,8 @@ fn keep_after<D: Disk, R: Reporter>(end: SessionEnd, book: &mut Book<'_, D, R>) 
     ensures where_ended { is_some (keep_reply result) ≡ keeps_reports end }
     ensures keeps { (basis : Basis) (state : State) → basis.row_of ≡ R.row_of book.old.reporter.now
         → basis.digest ≡ R.digest_of book.old.reporter.now
-        → Stands basis book.old.limits book.old.ledger book.old.store book.old.doubt book.old.vault.journal (D.state book.old.vault.disk.now) state
+        → Stands basis book.old.limits book.old.ledger book.old.store book.old.doubt
+        book.old.vault.journal (D.state book.old.vault.disk.now) state
         → (kept : State) × KeepsDisk basis state (D.state book.old.vault.disk.now)
         (keep_reply result) kept (D.state book.new.vault.disk.now) }
 {

@@ -9,7 +9,8 @@ use sha2::{Digest, Sha256};
 
 /// Adds a text after its length in 8 bytes.
 fn add_sized<D: Digest>(hasher: &mut D, text: &[u8])
-    ensures { (before : List ℕ) → D.holds hasher.old before → D.holds hasher.new (before ++ sized text.now) }
+    ensures { (before : List ℕ) → D.holds hasher.old before
+        → D.holds hasher.new (before ++ sized text.now) }
 {
     let length = text.len() as u64;
     hasher.update(length.to_le_bytes().as_slice());
@@ -18,7 +19,8 @@ fn add_sized<D: Digest>(hasher: &mut D, text: &[u8])
 
 /// Adds the path and the content of each symbol file.
 fn add_symbols<D: Digest>(hasher: &mut D, symbols: &[SymbolFile])
-    ensures { (before : List ℕ) → D.holds hasher.old before → D.holds hasher.new (before ++ flat_map digested_symbol (map symbol_view symbols.now)) }
+    ensures { (before : List ℕ) → D.holds hasher.old before
+        → D.holds hasher.new (before ++ flat_map digested_symbol (map symbol_view symbols.now)) }
 {
     for symbol in symbols {
         add_sized(hasher, symbol.path.as_str().as_bytes());

@@ -41,7 +41,9 @@ impl Index {
     fn put(&mut self, alloc: Global, id: &str, place: usize) -> Result<(), NoMemory>
         requires { place < length self.old.next.items }
         ensures first { OnOk result (self.new.first ≡ with_value self.old.first id.now place) }
-        ensures next { OnOk result (self.new.next.items ≡ set self.old.next.items place (place_or (length self.old.next.items) self.old.first id.now)) }
+        ensures next { OnOk result (self.new.next.items
+            ≡ set self.old.next.items place
+            (place_or (length self.old.next.items) self.old.first id.now)) }
     {
         self.next[place] = self.first(id);
         self.first.set(Text::of(alloc, id)?, place)

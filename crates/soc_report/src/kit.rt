@@ -61,7 +61,8 @@ fn read_file<'a>(alloc: Global, symbol: &'a SymbolFile) -> Result<SymFile<'a>, K
 /// Reads symbol files, in order.
 fn read_files<'a>(alloc: Global, symbols: &'a [SymbolFile]) -> Result<Vec<SymFile<'a>>, KitError>
     ensures reads { IfOk result (λ files. HaveRecords (map symbol_view symbols.now) files.items) }
-    ensures refuses { IfErr result (λ error. OnlyBadLine error (first_bad_symbols (map symbol_view symbols.now))) }
+    ensures refuses { IfErr result
+        (λ error. OnlyBadLine error (first_bad_symbols (map symbol_view symbols.now))) }
 {
     let mut files = Vec::with_capacity(alloc, symbols.len())?;
     for symbol in symbols {
@@ -80,7 +81,8 @@ impl<'a> Kit<'a> {
     ) -> Result<Kit<'a>, KitError>
         ensures reads { IsKit result texts.now }
         ensures never_fall { P.faults maker.old ≤ P.faults maker.new }
-        ensures cause { IsErrOf result KitError.MakerFault → Rose (P.faults maker.old) (P.faults maker.new) }
+        ensures cause { IsErrOf result KitError.MakerFault
+            → Rose (P.faults maker.old) (P.faults maker.new) }
     {
         let lists = Lists::read(
             alloc,
@@ -121,7 +123,8 @@ impl<'a> Kit<'a> {
     /// The next such place behind one.
     fn next_place(&self, debug_id: &str, place: usize) -> usize
         requires within { place < length self.now.symbols }
-        requires on_chain { HasNoSlash debug_id.now → slice_get (ids_of self.now.symbols) place ≡ Some debug_id.now }
+        requires on_chain { HasNoSlash debug_id.now
+            → slice_get (ids_of self.now.symbols) place ≡ Some debug_id.now }
         ensures { LeadsOn self.now.symbols debug_id.now (place + 1) result }
     {
         if slashes(debug_id) == 0 {
@@ -133,7 +136,9 @@ impl<'a> Kit<'a> {
 
     /// Where the first path stands that is that of a debug file with an id.
     fn place_of(&self, debug_file: &str, debug_id: &str) -> Option<usize>
-        ensures { MatchOption result (IsNowhere self.now.symbols (path_of debug_file.now debug_id.now)) (IsFirst self.now.symbols (path_of debug_file.now debug_id.now)) }
+        ensures { MatchOption result (IsNowhere self.now.symbols
+            (path_of debug_file.now debug_id.now))
+            (IsFirst self.now.symbols (path_of debug_file.now debug_id.now)) }
     {
         let mut place = self.first_place(debug_id);
         while place < self.texts.count() {

@@ -35,7 +35,8 @@ impl<'a> Known<'a> {
         reading: &'a Reading<'a>,
     ) -> Result<Known<'a>, NoMemory>
         requires { reading.now ≡ reading_of (crash_of raw.now) }
-        ensures { IfOk result (λ known. known_view known ≡ known_of (kit_of kit.now) (crash_of raw.now)) }
+        ensures { IfOk result (λ known. known_view known
+            ≡ known_of (kit_of kit.now) (crash_of raw.now)) }
     {
         let signed = sign(alloc, kit, raw, reading)?;
         Ok(Known {

@@ -34,7 +34,9 @@ fn no_list(alloc: Global) -> KitError
 
 /// The path that an entry is; nothing where it isn't UTF-8.
 fn path_of(alloc: Global, entry: &[u8]) -> Result<Option<Text>, NoMemory>
-    ensures { IfOk result (λ path. MatchOption path (is_utf8 entry.now ≡ false) (λ text. (text ≡ entry.now) × (is_utf8 entry.now ≡ true))) }
+    ensures { IfOk result (λ path.
+        MatchOption path (is_utf8 entry.now ≡ false)
+        (λ text. (text ≡ entry.now) × (is_utf8 entry.now ≡ true))) }
 {
     match str::from_utf8(entry) {
         Ok(path) => Ok(Some(Text::of(alloc, path)?)),

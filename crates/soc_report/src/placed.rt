@@ -23,7 +23,12 @@ impl Model for Placed {
 
     ghost Value = { PlacedText };
 
-    ghost view = { λ p. record { index = p.index; name = take p.name_len (string_bytes p.text); text = string_bytes p.text } };
+    ghost view = { λ p. record {
+      index = p.index;
+      name = take p.name_len
+          (string_bytes p.text);
+      text = string_bytes p.text;
+    } };
 
     ghost invariant = { λ p. IsCharBoundary (string_bytes p.text) p.name_len };
 }
@@ -31,7 +36,8 @@ impl Model for Placed {
 impl Placed {
     /// A module's name, and nothing behind it.
     pub fn of(alloc: Global, index: usize, name: &Text) -> Result<Placed, NoMemory>
-        ensures { IfOk result (λ placed. placed ≡ record { index = index; name = name.now; text = name.now }) }
+        ensures { IfOk result (λ placed. placed
+            ≡ record { index = index; name = name.now; text = name.now }) }
     {
         let text = String::from_str(alloc, name.as_str())?;
         let name_len = text.len();

@@ -56,7 +56,8 @@ pub struct Signed {
 /// Whether the text of a frame tells only where it lies.
 fn is_address(frame: &BorrowedFrame<'_>) -> bool
     ensures value { result ≡ is_address frame.now }
-    ensures other { IsTrue result → (loaded : List LoadedEntry) → bytes_eq (text_of loaded frame.now) watchdog ≡ false }
+    ensures other { IsTrue result → (loaded : List LoadedEntry)
+        → bytes_eq (text_of loaded frame.now) watchdog ≡ false }
 {
     frame.function.is_none() && (frame.file.is_none() || frame.line.is_none())
 }
@@ -70,7 +71,8 @@ fn placed_in(
 ) -> Result<Option<Placed>, NoMemory>
     requires { IsPlacedIn process.now.loaded last }
     ensures within { IfOk result (IsPlacedIn process.now.loaded) }
-    ensures name { IfOk result (λ placed. option_map (λ p. p.name) placed ≡ option_and_then (name_at process.now.loaded) index) }
+    ensures name { IfOk result (λ placed. option_map (λ p. p.name) placed
+        ≡ option_and_then (name_at process.now.loaded) index) }
 {
     let Some(index) = index else {
         return Ok(None);
@@ -92,7 +94,8 @@ fn push_elsewhere<'l>(
     builder: SignatureBuilder<'l>,
     frame: &BorrowedFrame<'_>,
 ) -> Result<SignatureBuilder<'l>, NoMemory>
-    ensures { IfOk result (λ after. Pushes builder.entry after (normal_of (named_copy None frame.now))) }
+    ensures { IfOk result (λ after.
+        Pushes builder.entry after (normal_of (named_copy None frame.now))) }
 {
     let copy = frame.named(alloc, None)?;
     let text = normal(alloc, &copy)?;
@@ -109,7 +112,8 @@ fn push_place<'l>(
     requires address { is_address frame.now ≡ true }
     requires within { IsPlacedIn process.now.loaded pushed.last }
     ensures within { IfOk result (λ after. IsPlacedIn process.now.loaded after.last) }
-    ensures texts { IfOk result (λ after. Pushes pushed.entry.builder after.builder (text_of process.now.loaded frame.now)) }
+    ensures texts { IfOk result (λ after.
+        Pushes pushed.entry.builder after.builder (text_of process.now.loaded frame.now)) }
 {
     let Pushed { builder, last } = pushed;
     let Some(placed) = placed_in(alloc, process, last, frame.module)? else {
@@ -135,7 +139,8 @@ fn push_frame<'l>(
 ) -> Result<Pushed<'l>, NoMemory>
     requires { IsPlacedIn process.now.loaded pushed.last }
     ensures within { IfOk result (λ after. IsPlacedIn process.now.loaded after.last) }
-    ensures texts { IfOk result (λ after. Pushes pushed.entry.builder after.builder (text_of process.now.loaded frame.now)) }
+    ensures texts { IfOk result (λ after.
+        Pushes pushed.entry.builder after.builder (text_of process.now.loaded frame.now)) }
 {
     if is_address(frame) {
         if pushed.builder.is_settled() {
@@ -155,7 +160,9 @@ fn push_frames<'l>(
     process: &Process<'_>,
     frames: &[BorrowedFrame<'_>],
 ) -> Result<SignatureBuilder<'l>, NoMemory>
-    ensures { IfOk result (λ after. (lists : ListTexts) (before : List (List ℕ)) → builder.entry ≡ summary_of lists before → after ≡ summary_of lists (before ++ map (text_of process.now.loaded) frames.now)) }
+    ensures { IfOk result (λ after. (lists : ListTexts) (before : List (List ℕ))
+        → builder.entry ≡ summary_of lists before
+        → after ≡ summary_of lists (before ++ map (text_of process.now.loaded) frames.now)) }
 {
     let mut pushed = Pushed {
         builder,
@@ -175,7 +182,8 @@ fn push_thread<'l>(
     dump: &Dump<'_>,
     thread: usize,
 ) -> Result<Walked<'l>, NoMemory>
-    ensures { IfOk result (λ walked. HasWalked builder.entry walked (frames_of (symbols_in (kit_of kit.now)) dump.now thread)) }
+    ensures { IfOk result (λ walked.
+        HasWalked builder.entry walked (frames_of (symbols_in (kit_of kit.now)) dump.now thread)) }
 {
     let Some(start) = start_of(dump, thread) else {
         return Ok(Walked {
@@ -198,7 +206,9 @@ fn push_stack<'l>(
     kit: &Kit<'_>,
     dump: Option<&Dump<'_>>,
 ) -> Result<Walked<'l>, NoMemory>
-    ensures { IfOk result (λ walked. HasWalked builder.entry walked (spec.stack_of (kit_of kit.now) (option_copied dump.entry))) }
+    ensures { IfOk result (λ walked.
+        HasWalked builder.entry walked
+        (spec.stack_of (kit_of kit.now) (option_copied dump.entry))) }
 {
     if let Some(dump) = dump {
         if let Some(thread) = crashing_thread(dump) {
@@ -253,7 +263,9 @@ fn is_browser(raw: &RawCrash) -> bool
 
 /// What the signature of a crash is made of, without its frames.
 fn input_of(alloc: Global, raw: &RawCrash, dump: Option<&Dump<'_>>) -> Result<SigInput, NoMemory>
-    ensures { IfOk result (λ input. (frames : List Frame) → record input { frames = map normal_of frames } ≡ spec.input_of (crash_of raw.now) (option_copied dump.entry) frames) }
+    ensures { IfOk result (λ input. (frames : List Frame)
+        → record input { frames = map normal_of frames }
+        ≡ spec.input_of (crash_of raw.now) (option_copied dump.entry) frames) }
 {
     Ok(SigInput {
         thread_found: thread_of(dump).is_some(),
@@ -276,7 +288,8 @@ pub fn sign(
     raw: &RawCrash,
     reading: &Reading<'_>,
 ) -> Result<Signed, NoMemory>
-    ensures { IfOk result (λ signed. signed ≡ signed_of (kit_of kit.now) (crash_of raw.now) (dump_in reading.now)) }
+    ensures { IfOk result (λ signed. signed
+        ≡ signed_of (kit_of kit.now) (crash_of raw.now) (dump_in reading.now)) }
 {
     let dump = reading.dump();
     let input = input_of(alloc, raw, dump)?;

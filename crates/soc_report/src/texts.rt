@@ -35,15 +35,23 @@ impl Model for KitText {
 
     ghost Value = { KitTexts };
 
-    ghost view = { λ t. record { irrelevant = t.irrelevant; prefix = t.prefix; sentinel = t.sentinel; symbols = map symbol_view t.symbols.items } };
+    ghost view = { λ t. record {
+      irrelevant = t.irrelevant;
+      prefix = t.prefix;
+      sentinel =
+          t.sentinel;
+      symbols = map symbol_view t.symbols.items;
+    } };
 }
 
 /// A file of the tree.
 fn file_of<T: Tree>(alloc: Global, tree: &mut T, name: &str) -> Result<Option<Bytes>, KitError>
-    ensures gives { IfOk result (λ file. IfSome (T.told tree.old).files (λ files. file ≡ files name.now)) }
+    ensures gives { IfOk result (λ file.
+        IfSome (T.told tree.old).files (λ files. file ≡ files name.now)) }
     ensures refuses { IfErr result IsFault }
     ensures looks { OnlyLooks (T.told tree.old) (T.told tree.new) }
-    ensures cause { IsErrOf result KitError.TreeFault → TreeFailed (T.told tree.old) (T.told tree.new) }
+    ensures cause { IsErrOf result KitError.TreeFault
+        → TreeFailed (T.told tree.old) (T.told tree.new) }
 {
     match tree.file(alloc, name) {
         Ok(file) => Ok(file),
@@ -54,10 +62,12 @@ fn file_of<T: Tree>(alloc: Global, tree: &mut T, name: &str) -> Result<Option<By
 
 /// A file of the tree; one that isn't there counts as empty.
 fn text_at<T: Tree>(alloc: Global, tree: &mut T, name: &str) -> Result<Bytes, KitError>
-    ensures gives { IfOk result (λ text. IfSome (T.told tree.old).files (λ files. text ≡ text_at files name.now)) }
+    ensures gives { IfOk result (λ text.
+        IfSome (T.told tree.old).files (λ files. text ≡ text_at files name.now)) }
     ensures refuses { IfErr result IsFault }
     ensures looks { OnlyLooks (T.told tree.old) (T.told tree.new) }
-    ensures cause { IsErrOf result KitError.TreeFault → TreeFailed (T.told tree.old) (T.told tree.new) }
+    ensures cause { IsErrOf result KitError.TreeFault
+        → TreeFailed (T.told tree.old) (T.told tree.new) }
 {
     match file_of(alloc, tree, name)? {
         Some(bytes) => Ok(bytes),
@@ -67,11 +77,14 @@ fn text_at<T: Tree>(alloc: Global, tree: &mut T, name: &str) -> Result<Bytes, Ki
 
 /// The symbol file of a path.
 fn symbol_file<T: Tree>(alloc: Global, tree: &mut T, path: &str) -> Result<SymbolFile, KitError>
-    ensures gives { IfOk result (λ file. IfSome (T.told tree.old).files (λ files. IsThere files path.now (symbol_view file))) }
-    ensures refuses { IfErr result (λ error. IfSome (T.told tree.old).files (λ files. RefusesSymbol error files path.now)) }
+    ensures gives { IfOk result (λ file.
+        IfSome (T.told tree.old).files (λ files. IsThere files path.now (symbol_view file))) }
+    ensures refuses { IfErr result
+        (λ error. IfSome (T.told tree.old).files (λ files. RefusesSymbol error files path.now)) }
     ensures kinds { IfErr result IsOfReading }
     ensures looks { OnlyLooks (T.told tree.old) (T.told tree.new) }
-    ensures cause { IsErrOf result KitError.TreeFault → TreeFailed (T.told tree.old) (T.told tree.new) }
+    ensures cause { IsErrOf result KitError.TreeFault
+        → TreeFailed (T.told tree.old) (T.told tree.new) }
 {
     let name = name_of(alloc, path)?;
     match file_of(alloc, tree, name.as_str())? {
@@ -89,11 +102,15 @@ fn symbol_files<T: Tree>(
     tree: &mut T,
     paths: &[Text],
 ) -> Result<Vec<SymbolFile>, KitError>
-    ensures gives { IfOk result (λ symbols. IfSome (T.told tree.old).files (λ files. AreThere files paths.now (map symbol_view symbols.items))) }
-    ensures refuses { IfErr result (λ error. IfSome (T.told tree.old).files (λ files. RefusesSymbols error files paths.now)) }
+    ensures gives { IfOk result (λ symbols.
+        IfSome (T.told tree.old).files
+        (λ files. AreThere files paths.now (map symbol_view symbols.items))) }
+    ensures refuses { IfErr result
+        (λ error. IfSome (T.told tree.old).files (λ files. RefusesSymbols error files paths.now)) }
     ensures kinds { IfErr result IsOfReading }
     ensures looks { OnlyLooks (T.told tree.old) (T.told tree.new) }
-    ensures cause { IsErrOf result KitError.TreeFault → TreeFailed (T.told tree.old) (T.told tree.new) }
+    ensures cause { IsErrOf result KitError.TreeFault
+        → TreeFailed (T.told tree.old) (T.told tree.new) }
 {
     let mut symbols = Vec::with_capacity(alloc, paths.len())?;
     for path in paths {
@@ -110,7 +127,8 @@ impl KitText {
         ensures gives { IfSome (T.told tree.old).files (IsReadFrom result) }
         ensures kinds { IfErr result IsOfReading }
         ensures looks { OnlyLooks (T.told tree.old) (T.told tree.new) }
-        ensures cause { IsErrOf result KitError.TreeFault → TreeFailed (T.told tree.old) (T.told tree.new) }
+        ensures cause { IsErrOf result KitError.TreeFault
+            → TreeFailed (T.told tree.old) (T.told tree.new) }
     {
         let irrelevant = text_at(alloc, tree, "irrelevant.txt")?;
         let prefix = text_at(alloc, tree, "prefix.txt")?;

@@ -62,7 +62,8 @@ fn cut_text(text: &str) -> &str
 
 /// A text that is there, cut, in memory of its own.
 fn cut(alloc: Global, text: Option<&str>) -> Result<Option<Value>, NoMemory>
-    ensures { IfOk result (λ value. value ≡ option_map (λ t. TextValue (cut_text t)) (option_copied text.entry)) }
+    ensures { IfOk result (λ value. value
+        ≡ option_map (λ t. TextValue (cut_text t)) (option_copied text.entry)) }
 {
     match text {
         Some(text) => text_value(alloc, cut_text(text)),
@@ -105,7 +106,8 @@ impl<'a> Known<'a> {
 
     /// The exception, where the dump has one.
     fn exception(&self) -> Option<&Exception<'_>>
-        ensures { option_map (λ e. exception_entry e.now) result ≡ exception_in self.now.reading.now }
+        ensures { option_map (λ e. exception_entry e.now) result
+            ≡ exception_in self.now.reading.now }
     {
         self.reading.dump()?.exception()
     }
@@ -119,7 +121,8 @@ impl<'a> Known<'a> {
 
     /// How many frames were walked, where there is a crashing thread.
     fn frames(&self) -> Option<u64>
-        ensures { result ≡ option_map (λ _. self.now.frame_count) (thread_of (dump_in self.now.reading.now)) }
+        ensures { result ≡ option_map (λ _. self.now.frame_count)
+            (thread_of (dump_in self.now.reading.now)) }
     {
         if self.thread().is_some() {
             Some(self.frame_count)
@@ -129,13 +132,15 @@ impl<'a> Known<'a> {
     }
 
     fn architecture(&self) -> Option<&'static str>
-        ensures { option_copied result ≡ option_map (λ s. architecture_name_of s.arch) (system_in self.now.reading.now) }
+        ensures { option_copied result
+            ≡ option_map (λ s. architecture_name_of s.arch) (system_in self.now.reading.now) }
     {
         Some(architecture_name(self.system()?.arch))
     }
 
     fn platform(&self) -> Option<&'static str>
-        ensures { option_copied result ≡ option_map (λ s. platform_name_of s.platform) (system_in self.now.reading.now) }
+        ensures { option_copied result
+            ≡ option_map (λ s. platform_name_of s.platform) (system_in self.now.reading.now) }
     {
         Some(platform_name(self.system()?.platform))
     }
@@ -192,7 +197,8 @@ impl<'a> Known<'a> {
 
     /// The value that a source gives, if it gives one.
     pub fn value(&self, alloc: Global, source: Source) -> Result<Option<Value>, NoMemory>
-        ensures { IfOk result (λ value. value ≡ value_from (known_view self.now) (source_view source)) }
+        ensures { IfOk result (λ value. value
+            ≡ value_from (known_view self.now) (source_view source)) }
     {
         match source {
             Source::Product => copied(alloc, text_at(self.raw, "ProductName")),

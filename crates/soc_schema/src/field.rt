@@ -310,7 +310,8 @@ fn table() -> &'static [Entry]
     ensures names { map (λ e. e.name.now) result.now ≡ map (λ e. e.name) field_table }
     ensures kinds { map (λ e. e.kind) result.now ≡ map (λ e. e.kind) field_table }
     ensures permissions { map (λ e. e.permission) result.now ≡ map (λ e. e.permission) field_table }
-    ensures sources { map (λ e. option_map (λ s. s.now) e.source) result.now ≡ map (λ e. e.source) field_table }
+    ensures sources { map (λ e. option_map (λ s. s.now) e.source) result.now
+        ≡ map (λ e. e.source) field_table }
 {
     &TABLE
 }

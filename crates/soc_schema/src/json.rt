@@ -39,7 +39,8 @@ fn put(
     field: Field,
     value: &Value,
 ) -> Result<(), NoMemory>
-    ensures { OnOk result (members_view members.new.entries ≡ put (name_of field) (data_of value.now) (members_view members.old.entries)) }
+    ensures { OnOk result (members_view members.new.entries
+        ≡ put (name_of field) (data_of value.now) (members_view members.old.entries)) }
 {
     let name = String::from_str(alloc, field.name())?;
     let value = json_of(alloc, value)?;

@@ -39,7 +39,8 @@ impl Processed {
         reporter: &R,
         raw: RawCrash,
     ) -> Result<Processed, (RawCrash, NoMemory)>
-        ensures ok { IfOk result (λ processed. processed ≡ record { crash = crash_of raw; row = R.row_of reporter.now (crash_of raw) }) }
+        ensures ok { IfOk result (λ processed. processed
+            ≡ record { crash = crash_of raw; row = R.row_of reporter.now (crash_of raw) }) }
         ensures err { IfErr result (λ back. crash_of back.0 ≡ crash_of raw) }
     {
         match reporter.row(alloc, &raw) {

@@ -47,7 +47,8 @@ impl Row {
         requires { kind_of_value value ≡ kind_of field }
         ensures ok { OnOk result (self.new ≡ with_value self.old field value) }
         ensures value { OnOk result (value_of self.new field ≡ Some value) }
-        ensures others { OnOk result ((other : ℕ) → other ≢ field → value_of self.new other ≡ value_of self.old other) }
+        ensures others { OnOk result ((other : ℕ) → other ≢ field
+            → value_of self.new other ≡ value_of self.old other) }
         ensures err { OnErr result (self.new ≡ self.old) }
     {
         match find(&self.cells, field) {
@@ -202,7 +203,8 @@ impl<'a> Iterator for Cells<'a> {
 /// The field's place among the cells, or else the place where it would stand.
 fn find(cells: &[Cell], field: Field) -> Result<usize, usize>
     requires { IsRow cells.now }
-    ensures place { MatchResult result (λ p. HasFieldAt cells.now field p) (λ p. LacksFieldAt cells.now field p) }
+    ensures place { MatchResult result (λ p. HasFieldAt cells.now field p)
+        (λ p. LacksFieldAt cells.now field p) }
     ensures in_table { IsField field }
 {
     let target = field.place();
@@ -221,7 +223,8 @@ fn place_of(cells: &[Cell], field: Field) -> usize
     requires { IsRow cells.now }
     ensures within { result ≤ length cells.now }
     ensures below { (k : ℕ) → k < result → slice_index (fields cells.now) k < field }
-    ensures above { (k : ℕ) → result ≤ k → k < length cells.now → field ≤ slice_index (fields cells.now) k }
+    ensures above { (k : ℕ) → result ≤ k → k < length cells.now
+        → field ≤ slice_index (fields cells.now) k }
 {
     let mut low = 0;
     let mut high = cells.len();

@@ -41,7 +41,8 @@ impl Row {
     /// Whether the row's text has at most so many bytes. One of fewer than 2^32 bytes has short texts alone.
     pub fn fits(&self, most: u64) -> bool
         ensures fits { IsTrue result ↔ (length (row_text self.now) ≤ most) }
-        ensures short { IsTrue result → most < 2 ^ 32 → AllByRecursion (λ c. IsShort c.value) self.now }
+        ensures short { IsTrue result → most < 2 ^ 32
+            → AllByRecursion (λ c. IsShort c.value) self.now }
     {
         if most < 4 {
             return false;
@@ -61,8 +62,10 @@ impl Row {
     /// The row of a text. `BadRecord` exactly where no row has it.
     pub fn decode(alloc: Global, b: &[u8]) -> Result<Row, RecordError>
         ensures ok { IfOk result (λ row. HasText row b.now) }
-        ensures only { IfOk result (λ row. (cells : List Cell) → HasText cells b.now → cells ≡ row) }
-        ensures bad { IfErr result (λ e. Refuses e ((cells : List Cell) → ¬ (HasText cells b.now))) }
+        ensures only { IfOk result (λ row. (cells : List Cell) → HasText cells b.now
+            → cells ≡ row) }
+        ensures bad { IfErr result (λ e.
+            Refuses e ((cells : List Cell) → ¬ (HasText cells b.now))) }
     {
         let mut cursor = Cursor::new(b);
         let Some(count) = cursor.u32() else {
@@ -119,7 +122,8 @@ fn push_tagged(bytes: &mut Vec<u8>, tag: u8, value: &[u8]) -> Result<(), NoMemor
 }
 
 fn value_at(alloc: Global, cursor: &mut Cursor<'_>) -> Result<Value, RecordError>
-    ensures { MatchResult result (λ v. ReadsValue cursor.old v cursor.new) (λ e. Refuses e ((v : Value) (s : List ℕ) → ¬ (ReadsValue cursor.old v s))) }
+    ensures { MatchResult result (λ v. ReadsValue cursor.old v cursor.new)
+        (λ e. Refuses e ((v : Value) (s : List ℕ) → ¬ (ReadsValue cursor.old v s))) }
 {
     let Some(tag) = cursor.byte() else {
         return Err(RecordError::BadRecord);
@@ -133,7 +137,8 @@ fn value_at(alloc: Global, cursor: &mut Cursor<'_>) -> Result<Value, RecordError
 }
 
 fn text_value_at(alloc: Global, cursor: &mut Cursor<'_>) -> Result<Value, RecordError>
-    ensures { MatchResult result (λ v. ReadsValue (TEXT ∷ cursor.old) v cursor.new) (λ e. Refuses e ((v : Value) (s : List ℕ) → ¬ (ReadsValue (TEXT ∷ cursor.old) v s))) }
+    ensures { MatchResult result (λ v. ReadsValue (TEXT ∷ cursor.old) v cursor.new)
+        (λ e. Refuses e ((v : Value) (s : List ℕ) → ¬ (ReadsValue (TEXT ∷ cursor.old) v s))) }
 {
     match cursor.text() {
         Some(text) => Ok(Value::text(alloc, text)?),
@@ -142,7 +147,8 @@ fn text_value_at(alloc: Global, cursor: &mut Cursor<'_>) -> Result<Value, Record
 }
 
 fn number_value_at(cursor: &mut Cursor<'_>) -> Result<Value, RecordError>
-    ensures { MatchResult result (λ v. ReadsValue (NUMBER ∷ cursor.old) v cursor.new) (λ e. Refuses e ((v : Value) (s : List ℕ) → ¬ (ReadsValue (NUMBER ∷ cursor.old) v s))) }
+    ensures { MatchResult result (λ v. ReadsValue (NUMBER ∷ cursor.old) v cursor.new)
+        (λ e. Refuses e ((v : Value) (s : List ℕ) → ¬ (ReadsValue (NUMBER ∷ cursor.old) v s))) }
 {
     match cursor.u64() {
         Some(number) => Ok(Value::Number(number)),
@@ -151,7 +157,8 @@ fn number_value_at(cursor: &mut Cursor<'_>) -> Result<Value, RecordError>
 }
 
 fn flag_value_at(cursor: &mut Cursor<'_>) -> Result<Value, RecordError>
-    ensures { MatchResult result (λ v. ReadsValue (FLAG ∷ cursor.old) v cursor.new) (λ e. Refuses e ((v : Value) (s : List ℕ) → ¬ (ReadsValue (FLAG ∷ cursor.old) v s))) }
+    ensures { MatchResult result (λ v. ReadsValue (FLAG ∷ cursor.old) v cursor.new)
+        (λ e. Refuses e ((v : Value) (s : List ℕ) → ¬ (ReadsValue (FLAG ∷ cursor.old) v s))) }
 {
     match cursor.byte() {
         Some(0) => Ok(Value::Flag(false)),
@@ -161,7 +168,8 @@ fn flag_value_at(cursor: &mut Cursor<'_>) -> Result<Value, RecordError>
 }
 
 fn cell_at(alloc: Global, cursor: &mut Cursor<'_>, low: u8) -> Result<Cell, RecordError>
-    ensures { MatchResult result (λ c. ReadsCell low cursor.old c cursor.new) (λ e. Refuses e ((c : Cell) (s : List ℕ) → ¬ (ReadsCell low cursor.old c s))) }
+    ensures { MatchResult result (λ c. ReadsCell low cursor.old c cursor.new)
+        (λ e. Refuses e ((c : Cell) (s : List ℕ) → ¬ (ReadsCell low cursor.old c s))) }
 {
     let Some(place) = cursor.byte() else {
         return Err(RecordError::BadRecord);
@@ -178,7 +186,9 @@ fn cell_at(alloc: Global, cursor: &mut Cursor<'_>, low: u8) -> Result<Cell, Reco
 }
 
 fn cells_at(alloc: Global, cursor: &mut Cursor<'_>, count: u32) -> Result<Vec<Cell>, RecordError>
-    ensures { MatchResult result (λ cells. ReadsCells 0 count cursor.old cells.items cursor.new) (λ e. Refuses e ((cells : List Cell) (s : List ℕ) → ¬ (ReadsCells 0 count cursor.old cells s))) }
+    ensures { MatchResult result (λ cells. ReadsCells 0 count cursor.old cells.items cursor.new)
+        (λ e. Refuses e ((cells : List Cell) (s : List ℕ)
+        → ¬ (ReadsCells 0 count cursor.old cells s))) }
 {
     let mut cells = Vec::new(alloc);
     let mut low = 0;

@@ -119,7 +119,8 @@ impl Tokens {
         key: Option<&str>,
         public: &Products,
     ) -> Result<Option<Caller>, NoMemory>
-        ensures { IfOk result (λ caller. caller ≡ caller_of self.now (option_copied key.entry) public.now) }
+        ensures { IfOk result (λ caller. caller
+            ≡ caller_of self.now (option_copied key.entry) public.now) }
     {
         let Some(key) = key else {
             return caller_with(Permissions::public(), public);
@@ -164,7 +165,8 @@ impl Tokens {
 }
 
 fn caller_with(permissions: Permissions, products: &Products) -> Result<Option<Caller>, NoMemory>
-    ensures { IfOk result (λ caller. caller ≡ Some (record { permissions = permissions; products = products.now })) }
+    ensures { IfOk result (λ caller. caller
+        ≡ Some (record { permissions = permissions; products = products.now })) }
 {
     Ok(Some(Caller {
         permissions,

@@ -21,7 +21,8 @@ pub fn answer_of<L: Ledger>(
 ) -> Result<Answer, NoMemory>
     ensures value { IfOk result (λ answer. answer ≡ answer_of query.now store.now) }
     ensures none { query.now.number ≡ 0 → steps.new ≡ steps.old }
-    ensures past { (answer_of query.now store.now).total ≤ query.now.offset → steps.new ≡ steps.old }
+    ensures past { (answer_of query.now store.now).total ≤ query.now.offset
+        → steps.new ≡ steps.old }
     ensures few { steps.new ≤ steps.old + (answer_of query.now store.now).total }
 {
     let set = matching(alloc, store, query)?;

@@ -25,8 +25,11 @@ pub(crate) fn facets(
     query: &Query,
     set: &Option<PlaceSet>,
 ) -> Result<Facets, NoMemory>
-    requires { Selects (selected set.now) (λ row. sees query.now.caller row && meets query.now.conditions row) store.now }
-    ensures { IfOk result (λ facets. facets ≡ map (facet_of query.now.facet_size (filter (λ s. selected set.now s.0) store.now)) query.now.facets) }
+    requires { Selects (selected set.now)
+        (λ row. sees query.now.caller row && meets query.now.conditions row) store.now }
+    ensures { IfOk result (λ facets. facets
+        ≡ map (facet_of query.now.facet_size (filter (λ s. selected set.now s.0) store.now))
+        query.now.facets) }
 {
     let products = products_alone(alloc, store, query, set)?;
     facets_of(alloc, store, query, set, &products)
@@ -41,7 +44,9 @@ fn facets_of(
     products: &Option<ProductSet<'_>>,
 ) -> Result<Facets, NoMemory>
     requires { AskAlone (selected set.now) store.now products.now }
-    ensures { IfOk result (λ facets. facets ≡ map (facet_of query.now.facet_size (filter (λ s. selected set.now s.0) store.now)) query.now.facets) }
+    ensures { IfOk result (λ facets. facets
+        ≡ map (facet_of query.now.facet_size (filter (λ s. selected set.now s.0) store.now))
+        query.now.facets) }
 {
     let mut facets = Facets::new(alloc);
     for field in query.facets() {
@@ -61,7 +66,8 @@ fn products_alone<'a>(
     query: &Query,
     set: &Option<PlaceSet>,
 ) -> Result<Option<ProductSet<'a>>, NoMemory>
-    requires { Selects (selected set.now) (λ row. sees query.now.caller row && meets query.now.conditions row) store.now }
+    requires { Selects (selected set.now)
+        (λ row. sees query.now.caller row && meets query.now.conditions row) store.now }
     ensures { IfOk result (AskAlone (selected set.now) store.now) }
 {
     match set {
@@ -80,7 +86,9 @@ fn facet_terms(
     size: u64,
 ) -> Result<Terms, NoMemory>
     requires { AskAlone (selected set.now) store.now products.now }
-    ensures { IfOk result (λ terms. terms ≡ take size (in_order by_count (terms_of field (filter (λ s. selected set.now s.0) store.now)))) }
+    ensures { IfOk result (λ terms. terms
+        ≡ take size (in_order by_count
+        (terms_of field (filter (λ s. selected set.now s.0) store.now)))) }
 {
     leading_values(alloc, store, field, set, products, size as usize)?.terms(alloc)
 }
@@ -95,7 +103,12 @@ fn leading_values<'a>(
     size: usize,
 ) -> Result<Leaders<'a>, NoMemory>
     requires { AskAlone (selected set.now) store.now products.now }
-    ensures { IfOk result (λ leaders. leaders ≡ record { size = size; terms = take size (in_order by_count (terms_of field (filter (λ s. selected set.now s.0) store.now))) }) }
+    ensures { IfOk result (λ leaders. leaders
+        ≡ record {
+          size = size;
+          terms = take size
+              (in_order by_count (terms_of field (filter (λ s. selected set.now s.0) store.now)));
+        }) }
 {
     let mut leaders = Leaders::new(alloc, size);
     let mut near = 0;
@@ -121,7 +134,8 @@ fn count_at(
 ) -> u64
     requires within { i < length (values_of field store.now) }
     requires alone { AskAlone (selected set.now) store.now products.now }
-    ensures { IfSome (slice_get (values_of field store.now) i) (λ v. result ≡ length (rows_with field v (filter (λ s. selected set.now s.0) store.now))) }
+    ensures { IfSome (slice_get (values_of field store.now) i)
+        (λ v. result ≡ length (rows_with field v (filter (λ s. selected set.now s.0) store.now))) }
 {
     if set.is_none() {
         return store.count_near(field, i, near) as u64;

@@ -32,7 +32,8 @@ pub(crate) fn hits<L: Ledger>(
 ) -> Result<Hits, NoMemory>
     requires among { AreAmong (selected set.now) store.now (option_copied among) }
     requires total { total ≡ length (filter (λ s. selected set.now s.0) store.now) }
-    ensures value { IfOk result (λ hits. hits ≡ hits_of query.now (filter (λ s. selected set.now s.0) store.now)) }
+    ensures value { IfOk result (λ hits. hits
+        ≡ hits_of query.now (filter (λ s. selected set.now s.0) store.now)) }
     ensures none { query.now.number ≡ 0 → steps.new ≡ steps.old }
     ensures past { total ≤ query.now.offset → steps.new ≡ steps.old }
     ensures few { steps.new ≤ steps.old + length (filter (λ s. selected set.now s.0) store.now) }
@@ -60,8 +61,10 @@ pub(crate) fn sorted_rows<'a, L: Ledger>(
     places: &[u32],
     steps: &mut Steps<L>,
 ) -> Result<Vec<&'a Row>, NoMemory>
-    ensures rows { (test : ℕ × List Cell → Bool) → places.now ≡ map (λ s. s.0) (filter test store.now)
-        → IfOk result (λ rows. map (λ row. row.now) rows.items ≡ in_order (row_order sorts.now) (map (λ s. s.1) (filter test store.now))) }
+    ensures rows { (test : ℕ × List Cell → Bool)
+        → places.now ≡ map (λ s. s.0) (filter test store.now)
+        → IfOk result (λ rows. map (λ row. row.now) rows.items
+        ≡ in_order (row_order sorts.now) (map (λ s. s.1) (filter test store.now))) }
     ensures few { steps.new ≤ steps.old + length places.now }
 {
     store.places_rise();
@@ -72,7 +75,9 @@ pub(crate) fn sorted_rows<'a, L: Ledger>(
 
 /// As many rows as are wanted from the query's offset on, with its columns.
 fn copied(alloc: Global, query: &Query, rows: &[&Row], wanted: u64) -> Result<Hits, NoMemory>
-    ensures { IfOk result (λ hits. hits ≡ map (columns_of query.now.columns) (take wanted (drop query.now.offset (map (λ row. row.now) rows.now)))) }
+    ensures { IfOk result (λ hits. hits
+        ≡ map (columns_of query.now.columns)
+        (take wanted (drop query.now.offset (map (λ row. row.now) rows.now)))) }
 {
     let mut hits = Hits::new(alloc);
     for row in part_of(rows, query.offset(), wanted) {
@@ -83,7 +88,8 @@ fn copied(alloc: Global, query: &Query, rows: &[&Row], wanted: u64) -> Result<Hi
 
 /// As many rows as `number` from the offset on.
 fn part_of<'a, 'b>(rows: &'b [&'a Row], offset: u64, number: u64) -> &'b [&'a Row]
-    ensures { map (λ row. row.now) result.now ≡ take number (drop offset (map (λ row. row.now) rows.now)) }
+    ensures { map (λ row. row.now) result.now
+        ≡ take number (drop offset (map (λ row. row.now) rows.now)) }
 {
     let first = rows.len().min(offset as usize);
     let left = &rows[first..];
@@ -123,7 +129,8 @@ fn read_rows<'a, L: Ledger>(
     places: &[u32],
     steps: &mut Steps<L>,
 ) -> Result<Vec<&'a Row>, NoMemory>
-    ensures rows { IfOk result (λ rows. map (λ row. row.now) rows.items ≡ filter_map (row_of store.now) places.now) }
+    ensures rows { IfOk result (λ rows. map (λ row. row.now) rows.items
+        ≡ filter_map (row_of store.now) places.now) }
     ensures few { steps.new ≤ steps.old + length places.now }
 {
     let mut rows = Vec::new(alloc);
@@ -137,7 +144,8 @@ fn read_rows<'a, L: Ledger>(
 
 /// Puts rows in order; what ties stays as it stands.
 fn sort_rows(rows: &mut Vec<&Row>, sorts: &[Sort]) -> Result<(), NoMemory>
-    ensures { OnOk result (map (λ row. row.now) rows.new.items ≡ in_order (row_order sorts.now) (map (λ row. row.now) rows.old.items)) }
+    ensures { OnOk result (map (λ row. row.now) rows.new.items
+        ≡ in_order (row_order sorts.now) (map (λ row. row.now) rows.old.items)) }
 {
     rows.sort_by(|a, b| compare_rows(sorts, a, b))?;
     Ok(())

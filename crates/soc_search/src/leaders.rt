@@ -38,9 +38,18 @@ impl<'a> Model for Leaders<'a> {
 
     ghost Value = { Leading };
 
-    ghost view = { λ l. record { size = l.size; terms = take l.size (in_order by_count (map as_term l.kept.items)) } };
+    ghost view = { λ l. record {
+      size = l.size;
+      terms = take l.size
+          (in_order by_count (map as_term l.kept.items));
+    } };
 
-    ghost invariant = { λ l. IsBar l.bar (record { size = l.size; terms = take l.size (in_order by_count (map as_term l.kept.items)) }) };
+    ghost invariant = { λ l. IsBar l.bar
+        (record {
+          size = l.size;
+          terms = take l.size
+              (in_order by_count (map as_term l.kept.items));
+        }) };
 }
 
 impl<'a> Leaders<'a> {
@@ -58,7 +67,8 @@ impl<'a> Leaders<'a> {
     /// Whether a value that so many rows have may be one of them.
     pub(crate) fn wants(&self, count: u64) -> bool
         ensures some { result ≡ true → 0 < count }
-        ensures none { result ≡ false → 0 < count → (v : Value) → with_term (record { value = v; count = count }) self.now ≡ self.now }
+        ensures none { result ≡ false → 0 < count → (v : Value)
+            → with_term (record { value = v; count = count }) self.now ≡ self.now }
     {
         count > self.bar
     }
@@ -105,7 +115,8 @@ fn terms_of(alloc: Global, kept: &[Counted<'_>]) -> Result<Terms, NoMemory>
 
 /// Greater counts first, and no more values than `size`. Where memory is wanting, they are as they were.
 fn cut(kept: &mut Vec<Counted<'_>>, size: usize) -> Result<(), NoMemory>
-    ensures ok { OnOk result (map as_term kept.new.items ≡ take size (in_order by_count (map as_term kept.old.items))) }
+    ensures ok { OnOk result (map as_term kept.new.items
+        ≡ take size (in_order by_count (map as_term kept.old.items))) }
     ensures err { OnErr result (kept.new.items ≡ kept.old.items) }
 {
     sort_by_count(kept)?;
@@ -115,7 +126,8 @@ fn cut(kept: &mut Vec<Counted<'_>>, size: usize) -> Result<(), NoMemory>
 
 /// Greater counts first; what ties stays as it stands.
 fn sort_by_count(counted: &mut Vec<Counted<'_>>) -> Result<(), NoMemory>
-    ensures ok { OnOk result (map as_term counted.new.items ≡ in_order by_count (map as_term counted.old.items)) }
+    ensures ok { OnOk result (map as_term counted.new.items
+        ≡ in_order by_count (map as_term counted.old.items)) }
     ensures err { OnErr result (counted.new.items ≡ counted.old.items) }
 {
     counted.sort_by(|a, b| b.count.cmp(&a.count))?;

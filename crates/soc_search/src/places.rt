@@ -74,7 +74,8 @@ impl PlaceSet {
 
     /// Puts places into the set.
     pub(crate) fn add_all(&mut self, places: &[u32]) -> Result<(), NoMemory>
-        ensures { OnOk result ((p : ℕ) → has self.new p ≡ (has self.old p || list_any (λ q. p == q) places.now)) }
+        ensures { OnOk result ((p : ℕ)
+            → has self.new p ≡ (has self.old p || list_any (λ q. p == q) places.now)) }
     {
         for place in places {
             self.add(*place)?;
@@ -132,7 +133,8 @@ impl Page {
     }
 
     fn meet(&mut self, how: Meeting, other: &[u64])
-        ensures { (k : ℕ) → word_has self.new k ≡ met how (word_has self.old k) (word_has other.now k) }
+        ensures { (k : ℕ) → word_has self.new k
+            ≡ met how (word_has self.old k) (word_has other.now k) }
     {
         meet_words(how, &mut self.words, other);
     }
@@ -155,7 +157,8 @@ impl Page {
 
 /// As many pages at least, the further ones without places.
 fn grow_pages(pages: &mut Vec<Page>, count: usize) -> Result<(), NoMemory>
-    ensures { OnOk result ((count ≤ length pages.new.items) × ((i : ℕ) → slice_index_or pages.new.items i [] ≡ slice_index_or pages.old.items i [])) }
+    ensures { OnOk result ((count ≤ length pages.new.items)
+        × ((i : ℕ) → slice_index_or pages.new.items i [] ≡ slice_index_or pages.old.items i [])) }
 {
     let alloc = *pages.allocator();
     while pages.len() < count {
@@ -168,7 +171,8 @@ fn grow_pages(pages: &mut Vec<Page>, count: usize) -> Result<(), NoMemory>
 
 /// As many words at least, the further ones without bits.
 fn grow_words(words: &mut Vec<u64>, count: usize) -> Result<(), NoMemory>
-    ensures { OnOk result ((count ≤ length words.new.items) × ((i : ℕ) → slice_index words.new.items i ≡ slice_index words.old.items i)) }
+    ensures { OnOk result ((count ≤ length words.new.items)
+        × ((i : ℕ) → slice_index words.new.items i ≡ slice_index words.old.items i)) }
 {
     if words.len() < count {
         words.resize(count, 0)?;
@@ -198,7 +202,8 @@ fn words_of(pages: &[Page], i: usize) -> &[u64]
 
 /// The words, as they meet others bit by bit.
 fn meet_words(how: Meeting, words: &mut [u64], other: &[u64])
-    ensures { (k : ℕ) → word_has words.new k ≡ met how (word_has words.old k) (word_has other.now k) }
+    ensures { (k : ℕ) → word_has words.new k
+        ≡ met how (word_has words.old k) (word_has other.now k) }
 {
     for i in 0..words.len() {
         words[i] = meet(how, words[i], word_at(other, i));

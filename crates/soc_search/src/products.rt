@@ -84,7 +84,9 @@ pub(crate) fn asked_products<'a>(
     store: &'a Store,
     query: &Query,
 ) -> Result<Option<ProductSet<'a>>, NoMemory>
-    ensures { (set : ℕ → Bool) → Selects set (λ row. sees query.now.caller row && meets query.now.conditions row) store.now → IfOk result (AskAlone set store.now) }
+    ensures { (set : ℕ → Bool) → Selects set
+        (λ row. sees query.now.caller row && meets query.now.conditions row) store.now
+        → IfOk result (AskAlone set store.now) }
 {
     if !ask_of_products(query.conditions()) || store.values(Field::PRODUCT) > FEW {
         return Ok(None);
@@ -117,7 +119,8 @@ fn ask_of_products(conditions: &[Condition]) -> bool
 
 /// Whether a query that asks about products alone asks for rows with this one, or without one.
 fn is_asked(query: &Query, product: Option<&Value>) -> bool
-    ensures { result ≡ is_asked query.now.caller query.now.conditions (option_copied product.entry) }
+    ensures { result ≡ is_asked query.now.caller query.now.conditions
+        (option_copied product.entry) }
 {
     let name = match product {
         Some(value) => text_of(value),

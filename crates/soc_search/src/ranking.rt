@@ -30,7 +30,9 @@ pub(crate) fn counts_among(
 ) -> Result<Vec<u64>, NoMemory>
     requires { IsNonDecreasing places.now }
     ensures { (test : ℕ × List Cell → Bool) → places.now ≡ map (λ s. s.0) (filter test store.now)
-        → IfOk result (λ counts. counts.items ≡ map (λ v. length (rows_with signature_field v (filter test store.now))) (values_of signature_field store.now)) }
+        → IfOk result (λ counts. counts.items
+        ≡ map (λ v. length (rows_with signature_field v (filter test store.now)))
+        (values_of signature_field store.now)) }
 {
     store.places_rise();
     let mut counts = Vec::new(alloc);
@@ -65,7 +67,8 @@ fn is_among(rising: &[u32], place: u32) -> bool
 
 /// The signatures that are counted, greater counts first.
 pub(crate) fn ranking(alloc: Global, counts: &[u64]) -> Result<Vec<Ranked>, NoMemory>
-    ensures { IfOk result (λ ranking. ranking.items ≡ in_order (λ a b. nat_cmp b.count a.count) (numbered 0 counts.now)) }
+    ensures { IfOk result (λ ranking. ranking.items
+        ≡ in_order (λ a b. nat_cmp b.count a.count) (numbered 0 counts.now)) }
 {
     let mut ranking = counted(alloc, counts)?;
     sort_by_count(&mut ranking)?;
@@ -89,7 +92,8 @@ fn counted(alloc: Global, counts: &[u64]) -> Result<Vec<Ranked>, NoMemory>
 
 /// Greater counts first; what ties stays as it stands.
 fn sort_by_count(ranking: &mut Vec<Ranked>) -> Result<(), NoMemory>
-    ensures { OnOk result (ranking.new.items ≡ in_order (λ a b. nat_cmp b.count a.count) ranking.old.items) }
+    ensures { OnOk result (ranking.new.items
+        ≡ in_order (λ a b. nat_cmp b.count a.count) ranking.old.items) }
 {
     ranking.sort_by(|a, b| b.count.cmp(&a.count))?;
     Ok(())
@@ -103,7 +107,8 @@ pub(crate) fn ranks(
 ) -> Result<Vec<Option<u64>>, NoMemory>
     requires { AreBelow signatures ranking.now }
     ensures count { IfOk result (λ ranks. length ranks.items ≡ signatures) }
-    ensures each { IfOk result (λ ranks. (i : ℕ) → slice_index_or ranks.items i None ≡ index_rank 1 i ranking.now) }
+    ensures each { IfOk result (λ ranks. (i : ℕ)
+        → slice_index_or ranks.items i None ≡ index_rank 1 i ranking.now) }
 {
     let mut ranks = vec![in alloc; None; signatures]?;
     for i in (0..ranking.len()).rev() {

@@ -44,10 +44,14 @@ pub(crate) fn rows_found<L: Ledger>(
     query: &TopsQuery,
     steps: &mut Steps<L>,
 ) -> Result<Found, NoMemory>
-    ensures new { IfOk result (λ found. found.places.items ≡ map (λ s. s.0) (rows_between query.now query.now.days store.now)) }
-    ensures old { IfOk result (λ found. found.old_places.items ≡ map (λ s. s.0) (rows_between query.now query.now.old_days store.now)) }
-    ensures rising { IfOk result (λ found. IsNonDecreasing found.places.items × IsNonDecreasing found.old_places.items) }
-    ensures few { steps.new ≤ steps.old + length (rows_with product_field (Value.Text query.now.product) store.now) }
+    ensures new { IfOk result (λ found. found.places.items
+        ≡ map (λ s. s.0) (rows_between query.now query.now.days store.now)) }
+    ensures old { IfOk result (λ found. found.old_places.items
+        ≡ map (λ s. s.0) (rows_between query.now query.now.old_days store.now)) }
+    ensures rising { IfOk result (λ found. IsNonDecreasing found.places.items
+        × IsNonDecreasing found.old_places.items) }
+    ensures few { steps.new ≤ steps.old + length
+        (rows_with product_field (Value.Text query.now.product) store.now) }
 {
     store.places_rise();
     if !visible(&query.caller, Some(query.product.as_str())) {
@@ -75,8 +79,12 @@ fn rows_among<L: Ledger>(
 ) -> Result<Found, NoMemory>
     requires product { wanted.now.product ≡ Value.Text query.now.product }
     requires version { wanted.now.version ≡ Value.Text query.now.version }
-    ensures new { IfOk result (λ found. found.places.items ≡ filter (λ p. option_map_or (is_asked query.now query.now.days) (row_of store.now p) false) places.now) }
-    ensures old { IfOk result (λ found. found.old_places.items ≡ filter (λ p. option_map_or (is_asked query.now query.now.old_days) (row_of store.now p) false) places.now) }
+    ensures new { IfOk result (λ found. found.places.items
+        ≡ filter (λ p. option_map_or (is_asked query.now query.now.days) (row_of store.now p) false)
+        places.now) }
+    ensures old { IfOk result (λ found. found.old_places.items
+        ≡ filter (λ p. option_map_or (is_asked query.now query.now.old_days)
+        (row_of store.now p) false) places.now) }
     ensures few { steps.new ≤ steps.old + length places.now }
 {
     let mut found = Found::new(alloc);
@@ -109,8 +117,12 @@ impl Found {
     ) -> Result<(), NoMemory>
         requires product { wanted.now.product ≡ Value.Text query.now.product }
         requires version { wanted.now.version ≡ Value.Text query.now.version }
-        ensures new { OnOk result (self.new.places.items ≡ self.old.places.items ++ (if option_map_or (is_asked query.now query.now.days) (row_of store.now place) false then place ∷ [] else [])) }
-        ensures old { OnOk result (self.new.old_places.items ≡ self.old.old_places.items ++ (if option_map_or (is_asked query.now query.now.old_days) (row_of store.now place) false then place ∷ [] else [])) }
+        ensures new { OnOk result (self.new.places.items ≡ self.old.places.items
+            ++ (if option_map_or (is_asked query.now query.now.days)
+            (row_of store.now place) false then place ∷ [] else [])) }
+        ensures old { OnOk result (self.new.old_places.items ≡ self.old.old_places.items
+            ++ (if option_map_or (is_asked query.now query.now.old_days)
+            (row_of store.now place) false then place ∷ [] else [])) }
         ensures step { steps.new ≡ steps.old + 1 }
     {
         let Some(row) = store.row(place, steps) else {

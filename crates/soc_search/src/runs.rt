@@ -32,9 +32,12 @@ pub(crate) fn run_of(store: &Store, field: Field, how: Comparison, operand: &Val
     requires { is_run how ≡ true }
     ensures order { result.first ≤ result.end }
     ensures within { result.end ≤ length (values_of field store.now) }
-    ensures before { (k : ℕ) (d : Value) → k < result.first → compares how operand.now (slice_index_or (values_of field store.now) k d) ≡ false }
-    ensures each { (k : ℕ) (d : Value) → result.first ≤ k → k < result.end → compares how operand.now (slice_index_or (values_of field store.now) k d) ≡ true }
-    ensures behind { (k : ℕ) (d : Value) → result.end ≤ k → k < length (values_of field store.now) → compares how operand.now (slice_index_or (values_of field store.now) k d) ≡ false }
+    ensures before { (k : ℕ) (d : Value) → k < result.first
+        → compares how operand.now (slice_index_or (values_of field store.now) k d) ≡ false }
+    ensures each { (k : ℕ) (d : Value) → result.first ≤ k → k < result.end
+        → compares how operand.now (slice_index_or (values_of field store.now) k d) ≡ true }
+    ensures behind { (k : ℕ) (d : Value) → result.end ≤ k → k < length (values_of field store.now)
+        → compares how operand.now (slice_index_or (values_of field store.now) k d) ≡ false }
 {
     let first = count_before(store, field, how, operand, Edge::First);
     let end = count_before(store, field, how, operand, Edge::End);
@@ -44,7 +47,8 @@ pub(crate) fn run_of(store: &Store, field: Field, how: Comparison, operand: &Val
 /// How many of the values come before an edge of the run.
 fn count_before(store: &Store, field: Field, how: Comparison, operand: &Value, edge: Edge) -> usize
     requires { is_run how ≡ true }
-    ensures { IsFront (λ v. comes_before edge (stands how operand.now v)) (values_of field store.now) result }
+    ensures { IsFront (λ v. comes_before edge (stands how operand.now v))
+        (values_of field store.now) result }
 {
     let mut low = 0;
     let mut high = store.values(field);

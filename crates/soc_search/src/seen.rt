@@ -11,7 +11,8 @@ use soc_tops::TopsQuery;
 /// An answer depends on what the query's caller may see alone: on the granted fields of the rows whose product is
 /// shown. It does nothing when it runs.
 pub fn answers_by_what_is_seen(query: &Query)
-    ensures { (rows : List (ℕ × List Cell)) → answer_of query.now (seen_rows query.now.caller rows) ≡ answer_of query.now rows }
+    ensures { (rows : List (ℕ × List Cell))
+        → answer_of query.now (seen_rows query.now.caller rows) ≡ answer_of query.now rows }
 {
     let _caller = query.caller();
 }
@@ -19,7 +20,8 @@ pub fn answers_by_what_is_seen(query: &Query)
 /// An answer doesn't depend on the order in which the rows are listed, nor on their places, where no two of them have
 /// one id. It does nothing when it runs.
 pub fn answers_in_any_order(query: &Query)
-    ensures { (rows others : List (ℕ × List Cell)) → HaveOwnIds rows → HaveOwnIds others → ListTheSame rows others → answer_of query.now rows ≡ answer_of query.now others }
+    ensures { (rows others : List (ℕ × List Cell)) → HaveOwnIds rows → HaveOwnIds others
+        → ListTheSame rows others → answer_of query.now rows ≡ answer_of query.now others }
 {
     let _caller = query.caller();
 }
@@ -27,7 +29,8 @@ pub fn answers_in_any_order(query: &Query)
 /// Top crashers depend on what the query's caller may see alone: on the granted fields of the rows whose product is
 /// shown. It does nothing when it runs.
 pub fn tops_by_what_is_seen(query: &TopsQuery)
-    ensures { (rows : List (ℕ × List Cell)) → tops_of query.now (seen_rows query.now.caller rows) ≡ tops_of query.now rows }
+    ensures { (rows : List (ℕ × List Cell))
+        → tops_of query.now (seen_rows query.now.caller rows) ≡ tops_of query.now rows }
 {
     let _caller = &query.caller;
 }
@@ -35,7 +38,8 @@ pub fn tops_by_what_is_seen(query: &TopsQuery)
 /// Top crashers don't depend on the order in which the rows are listed, nor on their places, where no two of them have
 /// one id. It does nothing when it runs.
 pub fn tops_in_any_order(query: &TopsQuery)
-    ensures { (rows others : List (ℕ × List Cell)) → HaveOwnIds rows → HaveOwnIds others → ListTheSame rows others → tops_of query.now rows ≡ tops_of query.now others }
+    ensures { (rows others : List (ℕ × List Cell)) → HaveOwnIds rows → HaveOwnIds others
+        → ListTheSame rows others → tops_of query.now rows ≡ tops_of query.now others }
 {
     let _caller = &query.caller;
 }

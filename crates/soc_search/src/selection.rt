@@ -30,7 +30,8 @@ pub(crate) fn matching(
     store: &Store,
     query: &Query,
 ) -> Result<Option<PlaceSet>, NoMemory>
-    ensures { IfOk result (λ set. Selects (selected set) (λ row. sees query.now.caller row && meets query.now.conditions row) store.now) }
+    ensures { IfOk result (λ set. Selects (selected set)
+        (λ row. sees query.now.caller row && meets query.now.conditions row) store.now) }
 {
     let mut set = visible_places(alloc, store, query.caller())?;
     let mut met = [false; 36];
@@ -92,7 +93,8 @@ pub(crate) fn selected_places(
     set: &Option<PlaceSet>,
 ) -> Result<Vec<u32>, NoMemory>
     requires { AreAmong (selected set.now) store.now (option_copied among) }
-    ensures places { IfOk result (λ places. places.items ≡ map (λ s. s.0) (filter (λ s. selected set.now s.0) store.now)) }
+    ensures places { IfOk result (λ places. places.items
+        ≡ map (λ s. s.0) (filter (λ s. selected set.now s.0) store.now)) }
     ensures rise { PlacesRise store.now }
 {
     store.places_rise();
@@ -119,7 +121,8 @@ pub(crate) fn chosen_among(
 
 /// Puts a place to the others, if it is one of them.
 pub(crate) fn put_if(places: &mut Vec<u32>, place: u32, is_one: bool) -> Result<(), NoMemory>
-    ensures { OnOk result (places.new.items ≡ places.old.items ++ (if is_one then place ∷ [] else [])) }
+    ensures { OnOk result (places.new.items ≡ places.old.items
+        ++ (if is_one then place ∷ [] else [])) }
 {
     if is_one {
         places.push(place)?;
@@ -159,7 +162,8 @@ pub(crate) fn matching_places(
     store: &Store,
     set: &Option<PlaceSet>,
 ) -> Result<Vec<u32>, NoMemory>
-    ensures places { IfOk result (λ places. places.items ≡ map (λ s. s.0) (filter (λ s. selected set.now s.0) store.now)) }
+    ensures places { IfOk result (λ places. places.items
+        ≡ map (λ s. s.0) (filter (λ s. selected set.now s.0) store.now)) }
     ensures rise { PlacesRise store.now }
 {
     let mut places = Vec::new(alloc);
@@ -198,7 +202,8 @@ fn visible_places(
 
 /// The places of the rows of these products.
 fn shown_places(alloc: Global, store: &Store, names: &TextList) -> Result<PlaceSet, NoMemory>
-    ensures { IfOk result (λ set. Selects (has set) (λ row. shows (Products.Some names.now) (product_of row)) store.now) }
+    ensures { IfOk result (λ set. Selects (has set)
+        (λ row. shows (Products.Some names.now) (product_of row)) store.now) }
 {
     let mut set = PlaceSet::new(alloc);
     store.places_rise();
@@ -246,7 +251,8 @@ pub(crate) fn narrowed(
     condition: &Condition,
 ) -> Result<PlaceSet, NoMemory>
     ensures { (test : List Cell → Bool) → Selects (selected set) test store.now
-        → IfOk result (λ more. Selects (has more) (λ row. test row && meets_alone row condition.now) store.now) }
+        → IfOk result (λ more. Selects (has more)
+        (λ row. test row && meets_alone row condition.now) store.now) }
 {
     let joined = joined_places(alloc, store, condition)?;
     if is_reversed(condition) {
@@ -279,7 +285,9 @@ fn value_places(
     field: Field,
     value: &Value,
 ) -> Result<PlaceSet, NoMemory>
-    ensures { IfOk result (λ set. Selects (has set) (λ row. option_map_or (λ v. is_eq (value_cmp value.now v)) (value_of row field) false) store.now) }
+    ensures { IfOk result (λ set. Selects (has set)
+        (λ row. option_map_or (λ v. is_eq (value_cmp value.now v)) (value_of row field) false)
+        store.now) }
 {
     store.places_rise();
     PlaceSet::of(alloc, store.places(field, value))
@@ -294,7 +302,8 @@ fn run_places(
     operand: &Value,
 ) -> Result<PlaceSet, NoMemory>
     requires { is_run how ≡ true }
-    ensures { IfOk result (λ set. Selects (has set) (λ row. option_map_or (compares how operand.now) (value_of row field) false) store.now) }
+    ensures { IfOk result (λ set. Selects (has set)
+        (λ row. option_map_or (compares how operand.now) (value_of row field) false) store.now) }
 {
     let mut set = PlaceSet::new(alloc);
     store.places_rise();
@@ -339,7 +348,8 @@ fn within(set: Option<PlaceSet>, other: PlaceSet) -> PlaceSet
 
 /// The selected places, as a set.
 fn every_selected(alloc: Global, store: &Store, set: Option<PlaceSet>) -> Result<PlaceSet, NoMemory>
-    ensures { (test : List Cell → Bool) → Selects (selected set) test store.now → IfOk result (λ whole. Selects (has whole) test store.now) }
+    ensures { (test : List Cell → Bool) → Selects (selected set) test store.now
+        → IfOk result (λ whole. Selects (has whole) test store.now) }
 {
     match set {
         None => every_place(alloc, store),

@@ -27,7 +27,8 @@ pub fn tops_of<L: Ledger>(
     steps: &mut Steps<L>,
 ) -> Result<Tops, NoMemory>
     ensures value { IfOk result (λ tops. tops ≡ tops_of query.now store.now) }
-    ensures few { steps.new ≤ steps.old + length (rows_with product_field (Value.Text query.now.product) store.now) }
+    ensures few { steps.new ≤ steps.old + length
+        (rows_with product_field (Value.Text query.now.product) store.now) }
 {
     let found = rows_found(alloc, store, query, steps)?;
     if found.places.is_empty() {
@@ -72,7 +73,9 @@ fn listed(
     requires within { AreBelow (length (values_of signature_field store.now)) ranking.now }
     requires counts { length old_counts.now ≡ length (values_of signature_field store.now) }
     requires ranks { length old_ranks.now ≡ length (values_of signature_field store.now) }
-    ensures { IfOk result (λ tops. tops ≡ map (top_at (values_of signature_field store.now) old_counts.now old_ranks.now) (enumerate_from 1 ranking.now)) }
+    ensures { IfOk result (λ tops. tops
+        ≡ map (top_at (values_of signature_field store.now) old_counts.now old_ranks.now)
+        (enumerate_from 1 ranking.now)) }
 {
     let mut tops = TopList::new(alloc);
     for (i, ranked) in ranking.iter().enumerate() {
@@ -94,7 +97,9 @@ fn top_at(
     requires within { ranked.index < length (values_of signature_field store.now) }
     requires counts { length old_counts.now ≡ length (values_of signature_field store.now) }
     requires ranks { length old_ranks.now ≡ length (values_of signature_field store.now) }
-    ensures { IfOk result (λ top. top ≡ top_at (values_of signature_field store.now) old_counts.now old_ranks.now (rank, ranked)) }
+    ensures { IfOk result (λ top. top
+        ≡ top_at (values_of signature_field store.now) old_counts.now old_ranks.now
+        (rank, ranked)) }
 {
     let signature = store.value_at(Field::SIGNATURE, ranked.index);
     Ok(Top {

@@ -33,7 +33,8 @@ pub(crate) fn walked_rows<'a, L: Ledger>(
     steps: &mut Steps<L>,
 ) -> Result<Vec<&'a Row>, NoMemory>
     ensures rows { IfOk result (λ rows. take goal (map (λ row. row.now) rows.items)
-        ≡ take goal (in_order (row_order sorts.now) (map (λ s. s.1) (filter (λ s. selected set.now s.0) store.now)))) }
+        ≡ take goal (in_order (row_order sorts.now)
+        (map (λ s. s.1) (filter (λ s. selected set.now s.0) store.now)))) }
     ensures few { steps.new ≤ steps.old + length (filter (λ s. selected set.now s.0) store.now) }
 {
     let mut rows = Vec::new(alloc);
@@ -54,7 +55,8 @@ fn add_rows<'a, L: Ledger>(
 ) -> Result<(), NoMemory>
     ensures rows { OnOk result (take goal (map (λ row. row.now) rows.new.items)
         ≡ take goal (map (λ row. row.now) rows.old.items
-        ++ in_order (row_order sorts.now) (map (λ s. s.1) (filter (λ s. selected set.now s.0) store.now)))) }
+        ++ in_order (row_order sorts.now)
+        (map (λ s. s.1) (filter (λ s. selected set.now s.0) store.now)))) }
     ensures few { steps.new ≤ steps.old + length (filter (λ s. selected set.now s.0) store.now) }
 {
     let sort = first_sort(sorts);
@@ -111,7 +113,8 @@ fn group_at(
     near: &mut usize,
 ) -> Result<Vec<u32>, NoMemory>
     ensures { IfOk result (λ places. places.items
-        ≡ map (λ s. s.0) (filter (λ s. selected set.now s.0 && is_in_group sort store.now i s.1) store.now)) }
+        ≡ map (λ s. s.0) (filter (λ s. selected set.now s.0 && is_in_group sort store.now i s.1)
+        store.now)) }
 {
     if i < store.values(sort.field) {
         return chosen_among(alloc, set, nth_places(store, sort, i, near));
@@ -123,7 +126,8 @@ fn group_at(
 /// The places of the rows that have the `i`th value of a field, in the order that is asked.
 fn nth_places<'a>(store: &'a Store, sort: Sort, i: usize, near: &mut usize) -> &'a [u32]
     requires { i < length (values_of sort.field store.now) }
-    ensures { result.now ≡ map (λ s. s.0) (filter (λ s. is_in_group sort store.now i s.1) store.now) }
+    ensures { result.now ≡ map (λ s. s.0)
+        (filter (λ s. is_in_group sort store.now i s.1) store.now) }
 {
     let index = walk_index(store.values(sort.field), sort.falling, i);
     let (_, places, _) = store.term_near(sort.field, index, near);
@@ -141,7 +145,8 @@ fn walk_index(values: usize, falling: bool, i: usize) -> usize
 
 /// The places of the rows without the field.
 fn places_without(alloc: Global, store: &Store, field: Field) -> Result<Vec<u32>, NoMemory>
-    ensures { IfOk result (λ places. places.items ≡ map (λ s. s.0) (filter (λ s. is_none (value_of s.1 field)) store.now)) }
+    ensures { IfOk result (λ places. places.items
+        ≡ map (λ s. s.0) (filter (λ s. is_none (value_of s.1 field)) store.now)) }
 {
     let absent = Condition {
         field,

@@ -12,12 +12,15 @@ use std::alloc::Global;
 
 /// The texts of all files, and what settings and tokens say.
 pub(crate) fn read_files<T: Tree>(alloc: Global, tree: &mut T) -> Result<(Texts, Setup), FilesFault>
-    ensures told { IfOk result (λ files. IfSome (T.told tree.old).files (λ told. AreTexts told files.0)) }
+    ensures told { IfOk result (λ files.
+        IfSome (T.told tree.old).files (λ told. AreTexts told files.0)) }
     ensures says { IfOk result (λ files. setup_of files.0.settings files.0.tokens ≡ Ok files.1) }
-    ensures fault { IfErr result (λ fault. IfSome (T.told tree.old).files (λ files. IsFilesFault (files_say files) fault)) }
+    ensures fault { IfErr result (λ fault.
+        IfSome (T.told tree.old).files (λ files. IsFilesFault (files_say files) fault)) }
     ensures kinds { IsErrOf result FilesFault.Maker → ⊥ }
     ensures looks { OnlyLooks (T.told tree.old) (T.told tree.new) }
-    ensures tree_cause { IsErrOf result FilesFault.Tree → TreeFailed (T.told tree.old) (T.told tree.new) }
+    ensures tree_cause { IsErrOf result FilesFault.Tree
+        → TreeFailed (T.told tree.old) (T.told tree.new) }
 {
     let texts = read_texts(alloc, tree)?;
     let setup = set_up(alloc, texts.settings.as_slice(), texts.tokens.as_slice())?;

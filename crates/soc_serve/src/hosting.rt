@@ -68,7 +68,8 @@ pub fn run_hall<
     requires served { served.old ≡ nothing_served }
     ensures hosts { let told = ⟦<World<T, K, D, C, W, P> as TellsAll>⟧.told in
         (end : End) × (result.0 ≡ status_of end)
-        × HostsWords (words_of (map string_bytes words.now)) served.new.kept (told world.old) (told world.new) end }
+        × HostsWords (words_of (map string_bytes words.now)) served.new.kept (told world.old)
+        (told world.new) end }
     ensures handed { (L.told result.1).handed ≡ (L.told listener).handed + served.new.connections }
     ensures over { IsServe (words_of (map string_bytes words.now)) → result.0 ≡ 0
         → (served.new.stopped ≡ true) ⊎ ((L.told result.1).ended ≡ true) }
@@ -139,13 +140,15 @@ fn host<
     ensures hosts { let told = ⟦<World<T, K, D, C, W, P> as TellsAll>⟧.told in
         Hosts served.new.kept (told world.old) (told world.new) result.0 }
     ensures handed { (L.told result.1).handed ≡ (L.told listener).handed + served.new.connections }
-    ensures over { status_of result.0 ≡ 0 → (served.new.stopped ≡ true) ⊎ ((L.told result.1).ended ≡ true) }
+    ensures over { status_of result.0 ≡ 0 → (served.new.stopped ≡ true)
+        ⊎ ((L.told result.1).ended ≡ true) }
     ensures hosts_on { let told = ⟦<World<T, K, D, C, W, P> as TellsAll>⟧.told in
         HostsOn (told world.old) (told world.new) }
     ensures no_fewer { (L.told listener).faults ≤ (L.told result.1).faults }
     ensures cause { let told = ⟦<World<T, K, D, C, W, P> as TellsAll>⟧.told in
         HostHasCause (told world.old) (told world.new) (status_of result.0) }
-    ensures listener_cause { status_of result.0 ≡ 6 → Rose (L.told listener).faults (L.told result.1).faults }
+    ensures listener_cause { status_of result.0 ≡ 6
+        → Rose (L.told listener).faults (L.told result.1).faults }
 {
     let (ended, listener) = by_files(site, world, listener, served);
     match ended {
@@ -182,7 +185,9 @@ fn by_files<
     requires served { served.old ≡ nothing_served }
     ensures hosts { let told = ⟦<World<T, K, D, C, W, P> as TellsAll>⟧.told in
         IfOk result.0 (HostsFiles served.new.kept (told world.old) (told world.new)) }
-    ensures fault { IfErr result.0 (λ fault. IfSome (T.told world.old.tree).files (λ files. IsFilesFault (files_say files) fault)) }
+    ensures fault { IfErr result.0
+        (λ fault. IfSome (T.told world.old.tree).files
+        (λ files. IsFilesFault (files_say files) fault)) }
     ensures before { let told = ⟦<World<T, K, D, C, W, P> as TellsAll>⟧.told in
         OnErr result.0 (StaysStill (told world.old).around (told world.new).around) }
     ensures unserved { OnErr result.0 ((served.new ≡ nothing_served) × (result.1 ≡ listener)) }
@@ -192,8 +197,10 @@ fn by_files<
     ensures hosts_on { let told = ⟦<World<T, K, D, C, W, P> as TellsAll>⟧.told in
         HostsOn (told world.old) (told world.new) }
     ensures no_fewer { (L.told listener).faults ≤ (L.told result.1).faults }
-    ensures tree_cause { IsErrOf result.0 FilesFault.Tree → TreeFailed (T.told world.old.tree) (T.told world.new.tree) }
-    ensures maker_cause { IsErrOf result.0 FilesFault.Maker → Rose (P.faults world.old.maker) (P.faults world.new.maker) }
+    ensures tree_cause { IsErrOf result.0 FilesFault.Tree
+        → TreeFailed (T.told world.old.tree) (T.told world.new.tree) }
+    ensures maker_cause { IsErrOf result.0 FilesFault.Maker
+        → Rose (P.faults world.old.maker) (P.faults world.new.maker) }
     ensures cause { let told = ⟦<World<T, K, D, C, W, P> as TellsAll>⟧.told in
         IfOk result.0 (λ end. HostHasCause (told world.old) (told world.new) (status_of end)) }
     ensures listener_cause { IfOk result.0 (λ end. status_of end ≡ 6

@@ -24,8 +24,10 @@ pub(crate) fn tell_counts<K: Sink>(
     crashes: u32,
     reports: u32,
 ) -> Result<(), LinesFault>
-    ensures tells { Tells (K.told output.old) (K.told output.new) (lines_of crashes reports) result }
-    ensures cause { IsErrOf result LinesFault.Cut → WriteFailed (K.told output.old) (K.told output.new) }
+    ensures tells { Tells (K.told output.old) (K.told output.new)
+        (lines_of crashes reports) result }
+    ensures cause { IsErrOf result LinesFault.Cut
+        → WriteFailed (K.told output.old) (K.told output.new) }
     ensures only { OnlyWrites (K.told output.old) (K.told output.new) }
 {
     let Ok(text) = counts_text(alloc, crashes, reports) else {

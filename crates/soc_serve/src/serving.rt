@@ -131,9 +131,12 @@ fn close<R: Reporter, K: Sink, D: Disk>(
     failed: Result<bool, NoMemory>,
 ) -> HostEnd
     ensures same_disk { book.new.vault.disk.ghost_name ≡ book.old.vault.disk.ghost_name }
-    ensures closes { (basis : Basis) (state : State) → basis.row_of ≡ R.row_of book.old.reporter.now → basis.digest ≡ R.digest_of book.old.reporter.now
-        → Stands basis book.old.limits book.old.ledger book.old.store book.old.doubt book.old.vault.journal (D.state book.old.vault.disk.now) state
-        → (after : State) × Stands basis book.new.limits book.new.ledger book.new.store book.new.doubt book.new.vault.journal (D.state book.new.vault.disk.now) after
+    ensures closes { (basis : Basis) (state : State) → basis.row_of ≡ R.row_of book.old.reporter.now
+        → basis.digest ≡ R.digest_of book.old.reporter.now
+        → Stands basis book.old.limits book.old.ledger book.old.store book.old.doubt
+        book.old.vault.journal (D.state book.old.vault.disk.now) state
+        → (after : State) × Stands basis book.new.limits book.new.ledger book.new.store
+        book.new.doubt book.new.vault.journal (D.state book.new.vault.disk.now) after
         × ((early late : Outlook) → ClosesBook
         (surroundings (K.told output.old) (D.state book.old.vault.disk.now) early)
         (surroundings (K.told output.new) (D.state book.new.vault.disk.now) late) result basis state after) }

@@ -102,7 +102,9 @@ fn play_by<'s, R: Threads + Wait + Sync, P: Reporter + Sync, G: Gate + Sync>(
 ) -> Result<Bytes, NoMemory>
     requires ranges { LieInRanges words.now }
     requires few { words.now.count ≤ 65536 }
-    ensures { IfOk result (λ text. ∥ PlaysBy (P.row_of reporter.now) (P.digest_of reporter.now) setup.now.limits words.now.count text ∥₁) }
+    ensures { IfOk result (λ text.
+        ∥ PlaysBy (P.row_of reporter.now)
+        (P.digest_of reporter.now) setup.now.limits words.now.count text ∥₁) }
 {
     let crew = Crew {
         collectors: words.collectors,
@@ -135,7 +137,9 @@ fn play_on<'s, R: Threads + Wait + Sync, P: Reporter + Sync, G: Gate + Sync>(
     requires few { words.now.count ≤ 65536 }
     requires crew { (setting.crew.collectors ≡ words.now.collectors)
         × (setting.crew.processors ≡ words.now.processors) }
-    ensures { IfOk result (λ text. ∥ PlaysBy (P.row_of setting.entry.reporter.now) (P.digest_of setting.entry.reporter.now) limits words.now.count text ∥₁) }
+    ensures { IfOk result (λ text.
+        ∥ PlaysBy (P.row_of setting.entry.reporter.now)
+        (P.digest_of setting.entry.reporter.now) limits words.now.count text ∥₁) }
 {
     let alloc = setting.session.alloc;
     let reporter = setting.reporter;

@@ -31,8 +31,11 @@ pub(crate) fn sum_up<D: Disk, R: Reporter>(
     count: u32,
 ) -> Result<Bytes, NoMemory>
     ensures same_disk { book.new.vault.disk.ghost_name ≡ book.old.vault.disk.ghost_name }
-    ensures subsides { IfOk result (λ text. (basis : Basis) (state : State) → basis.row_of ≡ R.row_of book.old.reporter.now → IsTrue basis.is_told
-        → Stands basis book.old.limits book.old.ledger book.old.store book.old.doubt book.old.vault.journal (D.state book.old.vault.disk.now) state
+    ensures subsides { IfOk result
+        (λ text. (basis : Basis) (state : State) → basis.row_of ≡ R.row_of book.old.reporter.now
+        → IsTrue basis.is_told
+        → Stands basis book.old.limits book.old.ledger book.old.store book.old.doubt
+        book.old.vault.journal (D.state book.old.vault.disk.now) state
         → Subsides basis state count text) }
 {
     let Ok(()) = drain(book) else {
@@ -54,8 +57,10 @@ fn push_signatures<D: Disk, R: Reporter>(
     book: &mut Book<'_, D, R>,
 ) -> Result<(), NoMemory>
     ensures same_disk { book.new.vault.disk.ghost_name ≡ book.old.vault.disk.ghost_name }
-    ensures pushed { OnOk result ((basis : Basis) (state : State) → basis.row_of ≡ R.row_of book.old.reporter.now → IsTrue basis.is_told
-        → Stands basis book.old.limits book.old.ledger book.old.store book.old.doubt book.old.vault.journal (D.state book.old.vault.disk.now) state
+    ensures pushed { OnOk result ((basis : Basis) (state : State)
+        → basis.row_of ≡ R.row_of book.old.reporter.now → IsTrue basis.is_told
+        → Stands basis book.old.limits book.old.ledger book.old.store book.old.doubt
+        book.old.vault.journal (D.state book.old.vault.disk.now) state
         → text.new.items ≡ text.old.items ++ term_lines (signatures_of basis state.log)) }
 {
     let query = signature_query(alloc)?;
@@ -98,7 +103,8 @@ fn push_pair(alloc: Global, pairs: &mut Pairs, name: &str, value: &str) -> Resul
 
 /// Adds a line for each term, in rising order of values.
 fn push_terms(alloc: Global, text: &mut Vec<u8>, terms: &[Term]) -> Result<(), NoMemory>
-    ensures { OnOk result (text.new.items ≡ text.old.items ++ term_lines (in_order by_value terms.now)) }
+    ensures { OnOk result (text.new.items ≡ text.old.items
+        ++ term_lines (in_order by_value terms.now)) }
 {
     let sorted = sorted_terms(alloc, terms)?;
     push_lines(text, sorted.as_slice())
@@ -106,7 +112,8 @@ fn push_terms(alloc: Global, text: &mut Vec<u8>, terms: &[Term]) -> Result<(), N
 
 /// The terms in rising order of values.
 fn sorted_terms<'a>(alloc: Global, terms: &'a [Term]) -> Result<Vec<&'a Term>, NoMemory>
-    ensures { IfOk result (λ sorted. map (λ term. term.now) sorted.items ≡ in_order by_value terms.now) }
+    ensures { IfOk result (λ sorted. map (λ term. term.now) sorted.items
+        ≡ in_order by_value terms.now) }
 {
     let mut sorted = listed(alloc, terms)?;
     sorted.sort_by(|a, b| compare_values(&a.value, &b.value))?;
@@ -125,7 +132,8 @@ fn listed<'a>(alloc: Global, terms: &'a [Term]) -> Result<Vec<&'a Term>, NoMemor
 }
 
 fn push_lines(text: &mut Vec<u8>, terms: &[&Term]) -> Result<(), NoMemory>
-    ensures { OnOk result (text.new.items ≡ text.old.items ++ term_lines (map (λ term. term.now) terms.now)) }
+    ensures { OnOk result (text.new.items ≡ text.old.items
+        ++ term_lines (map (λ term. term.now) terms.now)) }
 {
     for term in terms {
         push_term(text, term)?;

@@ -24,10 +24,14 @@ pub enum SweepFault {
 /// Processes what is due, keeps the reports for later runs, and processes what has become due meanwhile.
 pub(crate) fn sweep<D: Disk, R: Reporter>(book: &mut Book<'_, D, R>) -> Result<(), SweepFault>
     ensures same_disk { book.new.vault.disk.ghost_name ≡ book.old.vault.disk.ghost_name }
-    ensures ends { (basis : Basis) (state : State) → basis.row_of ≡ R.row_of book.old.reporter.now → basis.digest ≡ R.digest_of book.old.reporter.now
-        → Stands basis book.old.limits book.old.ledger book.old.store book.old.doubt book.old.vault.journal (D.state book.old.vault.disk.now) state
-        → (after : State) × Stands basis book.new.limits book.new.ledger book.new.store book.new.doubt book.new.vault.journal (D.state book.new.vault.disk.now) after
-        × EndsSweep basis state (D.state book.old.vault.disk.now) result after (D.state book.new.vault.disk.now)
+    ensures ends { (basis : Basis) (state : State) → basis.row_of ≡ R.row_of book.old.reporter.now
+        → basis.digest ≡ R.digest_of book.old.reporter.now
+        → Stands basis book.old.limits book.old.ledger book.old.store book.old.doubt
+        book.old.vault.journal (D.state book.old.vault.disk.now) state
+        → (after : State) × Stands basis book.new.limits book.new.ledger book.new.store
+        book.new.doubt book.new.vault.journal (D.state book.new.vault.disk.now) after
+        × EndsSweep basis state (D.state book.old.vault.disk.now) result after
+        (D.state book.new.vault.disk.now)
         × GoesOn (D.state book.old.vault.disk.now) (D.state book.new.vault.disk.now) }
 {
     drain(book)?;
@@ -41,9 +45,12 @@ pub(crate) fn drain<D: Disk, R: Reporter>(book: &mut Book<'_, D, R>) -> Result<(
     ensures limits { book.new.limits ≡ book.old.limits }
     ensures reporter { book.new.reporter.now ≡ book.old.reporter.now }
     ensures ends { (basis : Basis) (state : State) → basis.row_of ≡ R.row_of book.old.reporter.now
-        → Stands basis book.old.limits book.old.ledger book.old.store book.old.doubt book.old.vault.journal (D.state book.old.vault.disk.now) state
-        → (after : State) × Stands basis book.new.limits book.new.ledger book.new.store book.new.doubt book.new.vault.journal (D.state book.new.vault.disk.now) after
-        × EndsDrain basis state (D.state book.old.vault.disk.now) result after (D.state book.new.vault.disk.now)
+        → Stands basis book.old.limits book.old.ledger book.old.store book.old.doubt
+        book.old.vault.journal (D.state book.old.vault.disk.now) state
+        → (after : State) × Stands basis book.new.limits book.new.ledger book.new.store
+        book.new.doubt book.new.vault.journal (D.state book.new.vault.disk.now) after
+        × EndsDrain basis state (D.state book.old.vault.disk.now) result after
+        (D.state book.new.vault.disk.now)
         × GoesOn (D.state book.old.vault.disk.now) (D.state book.new.vault.disk.now) }
 {
     drained(&book.drain())
@@ -65,10 +72,14 @@ fn keep<D: Disk, R: Reporter>(book: &mut Book<'_, D, R>) -> Result<(), SweepFaul
     ensures same_disk { book.new.vault.disk.ghost_name ≡ book.old.vault.disk.ghost_name }
     ensures limits { book.new.limits ≡ book.old.limits }
     ensures reporter { book.new.reporter.now ≡ book.old.reporter.now }
-    ensures ends { (basis : Basis) (state : State) → basis.row_of ≡ R.row_of book.old.reporter.now → basis.digest ≡ R.digest_of book.old.reporter.now
-        → Stands basis book.old.limits book.old.ledger book.old.store book.old.doubt book.old.vault.journal (D.state book.old.vault.disk.now) state
-        → (after : State) × Stands basis book.new.limits book.new.ledger book.new.store book.new.doubt book.new.vault.journal (D.state book.new.vault.disk.now) after
-        × EndsKeep basis state (D.state book.old.vault.disk.now) result after (D.state book.new.vault.disk.now)
+    ensures ends { (basis : Basis) (state : State) → basis.row_of ≡ R.row_of book.old.reporter.now
+        → basis.digest ≡ R.digest_of book.old.reporter.now
+        → Stands basis book.old.limits book.old.ledger book.old.store book.old.doubt
+        book.old.vault.journal (D.state book.old.vault.disk.now) state
+        → (after : State) × Stands basis book.new.limits book.new.ledger book.new.store
+        book.new.doubt book.new.vault.journal (D.state book.new.vault.disk.now) after
+        × EndsKeep basis state (D.state book.old.vault.disk.now) result after
+        (D.state book.new.vault.disk.now)
         × GoesOn (D.state book.old.vault.disk.now) (D.state book.new.vault.disk.now) }
 {
     kept(&book.keep())

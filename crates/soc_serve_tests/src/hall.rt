@@ -78,7 +78,8 @@ fn hall_of_two<'a>(
     alloc: Global,
     book: Shared<'a>,
 ) -> Result<(Hall<Shared<'a>>, Seats<Shared<'a>>), NoMemory>
-    ensures count { IfOk result (λ made. (seats_of made.0 ≡ 2) × (length (seats_in made.1) ≡ 2) × (2 ≤ room_of made.1)) }
+    ensures count { IfOk result (λ made. (seats_of made.0 ≡ 2) × (length (seats_in made.1) ≡ 2)
+        × (2 ≤ room_of made.1)) }
     ensures each { IfOk result (λ made. All (λ seat. IsSeatOf made.0 seat) (seats_in made.1)) }
 {
     Hall::new(alloc, book, 2)

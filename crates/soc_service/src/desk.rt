@@ -33,7 +33,8 @@ pub struct HallDesk<'h, T: SharedDesk, G: Gate, W: Wait> {
     began: Snapshot<Seat<T>>,
     stopped: bool,
     kept: u64,
-    ghost sits: { ∥ IsSomeAnd seat (λ s. IsSeatOf hall.now s × (kept ≤ length (seen_of (known_of s)))) ∥₁ },
+    ghost sits: { ∥ IsSomeAnd seat
+        (λ s. IsSeatOf hall.now s × (kept ≤ length (seen_of (known_of s)))) ∥₁ },
     ghost turned: { ∥ IsSomeAnd seat (λ s. HasTurned (known_of began.value) (known_of s) kept) ∥₁ },
     ghost passes: { ∥ IsSomeAnd pass (λ p. IsPassOf jobs.now p) ∥₁ },
 }
@@ -83,7 +84,8 @@ impl<'h, T: SharedDesk, G: Gate, W: Wait> HallDesk<'h, T, G, W> {
     /// Its seat and its pass.
     pub fn end(self) -> (Seat<T>, Pass)
         ensures seat { (self.entry.seat ≡ Some result.0) × IsSeatOf self.entry.hall.now result.0 }
-        ensures turned { ∥ HasTurned (known_of self.entry.began.value) (known_of result.0) self.entry.kept ∥₁ }
+        ensures turned { ∥ HasTurned (known_of self.entry.began.value)
+            (known_of result.0) self.entry.kept ∥₁ }
         ensures pass { (self.entry.pass ≡ Some result.1) × IsPassOf self.entry.jobs.now result.1 }
     {
         let (Some(seat), Some(pass)) = (self.seat, self.pass) else {
@@ -95,7 +97,9 @@ impl<'h, T: SharedDesk, G: Gate, W: Wait> HallDesk<'h, T, G, W> {
     // Asks the command in one turn.
     fn turn(&mut self, command: Command) -> Receipt
         requires { IfSome self.old.seat (λ s. MayTurn T.desk_of (known_of s) command) }
-        ensures same { (self.new.hall ≡ self.old.hall) × (self.new.jobs ≡ self.old.jobs) × (self.new.pass ≡ self.old.pass) × (self.new.stopped ≡ self.old.stopped) × (self.new.began ≡ self.old.began) }
+        ensures same { (self.new.hall ≡ self.old.hall) × (self.new.jobs ≡ self.old.jobs)
+            × (self.new.pass ≡ self.old.pass) × (self.new.stopped ≡ self.old.stopped)
+            × (self.new.began ≡ self.old.began) }
         ensures turn { TakesTurn T.Logged T.command_of
             self.old.seat self.old.kept command result self.new.seat self.new.kept }
     {
@@ -112,8 +116,11 @@ impl<'h, T: SharedDesk, G: Gate, W: Wait> HallDesk<'h, T, G, W> {
 
     // Puts the job of a crash, where there is one, once. A full ring leaves it to a later sweep.
     fn put(&mut self, due: Option<CrashId>)
-        ensures same { (self.new.hall ≡ self.old.hall) × (self.new.jobs ≡ self.old.jobs) × (self.new.seat ≡ self.old.seat) × (self.new.stopped ≡ self.old.stopped) × (self.new.kept ≡ self.old.kept) × (self.new.began ≡ self.old.began) }
-        ensures put { IsSomeAnd self.old.pass (λ p. IsSomeAnd self.new.pass (λ q. PutsJob due p q)) }
+        ensures same { (self.new.hall ≡ self.old.hall) × (self.new.jobs ≡ self.old.jobs)
+            × (self.new.seat ≡ self.old.seat) × (self.new.stopped ≡ self.old.stopped)
+            × (self.new.kept ≡ self.old.kept) × (self.new.began ≡ self.old.began) }
+        ensures put { IsSomeAnd self.old.pass
+            (λ p. IsSomeAnd self.new.pass (λ q. PutsJob due p q)) }
     {
         let Some(id) = due else {
             return;
@@ -138,12 +145,15 @@ impl<'h, T: SharedDesk, G: Gate, W: Wait> Desk for HallDesk<'h, T, G, W> {
     ghost use Rattle.soc_service.specs.Due.{asked_id, due_after};
     ghost use Rattle.soc_service.specs.inner.Options.{for_some};
 
-    ghost Allows = { λ desk command. IfSome desk.seat (λ s. MayTurn T.desk_of (known_of s) command) };
+    ghost Allows = { λ desk command.
+        IfSome desk.seat (λ s. MayTurn T.desk_of (known_of s) command) };
 
-    ghost Asks = { λ before command receipt after. (after.hall ≡ before.hall) × (after.jobs ≡ before.jobs)
+    ghost Asks = { λ before command receipt after. (after.hall ≡ before.hall)
+        × (after.jobs ≡ before.jobs)
         × TakesTurn T.Logged T.command_of
         before.seat before.kept command receipt after.seat after.kept
-        × IsSomeAnd before.pass (λ p. IsSomeAnd after.pass (λ q. PutsJob (due_after (asked_id command) receipt.reply) p q))
+        × IsSomeAnd before.pass (λ p. IsSomeAnd after.pass
+        (λ q. PutsJob (due_after (asked_id command) receipt.reply) p q))
         × (after.stopped ≡ (before.stopped || receipt.stopped))
         × (after.began ≡ before.began) };
 
@@ -156,7 +166,9 @@ impl<'h, T: SharedDesk, G: Gate, W: Wait> Desk for HallDesk<'h, T, G, W> {
         receipt
     }
 
-    ghost allows_others = { λ desk command needs_nothing. for_some desk.seat (λ s basis is. may_others (T.desk_of basis) (seen_of (known_of s)) command needs_nothing) };
+    ghost allows_others = { λ desk command needs_nothing.
+        for_some desk.seat (λ s basis is.
+        may_others (T.desk_of basis) (seen_of (known_of s)) command needs_nothing) };
 }
 
 impl<'h, T: SharedDesk, G: Gate, W: Wait> KeepingDesk for HallDesk<'h, T, G, W> {
@@ -170,5 +182,6 @@ impl<'h, T: SharedDesk, G: Gate, W: Wait> KeepingDesk for HallDesk<'h, T, G, W> 
     }
 
     ghost added_grows = { λ before command receipt after asked.
-        counted_grows _ T.command_of T.desk_of T.tells before.seat after.seat before.kept after.kept command receipt (λ s. IsSeatOf after.hall.now s) asked.2 after.sits };
+        counted_grows _ T.command_of T.desk_of T.tells before.seat after.seat before.kept after.kept
+        command receipt (λ s. IsSeatOf after.hall.now s) asked.2 after.sits };
 }

@@ -19,7 +19,8 @@ pub(crate) struct Lists {
 impl Lists {
     /// No crashes.
     pub(crate) fn new(alloc: Global) -> Lists
-        ensures { (result.taken.items ≡ []) × (result.made.items ≡ []) × (result.stale.items ≡ []) × (result.missed.items ≡ []) }
+        ensures { (result.taken.items ≡ []) × (result.made.items ≡ []) × (result.stale.items ≡ [])
+            × (result.missed.items ≡ []) }
     {
         Lists {
             taken: Vec::new(alloc),
@@ -32,10 +33,17 @@ impl Lists {
     /// Notes what became of a crash.
     pub(crate) fn note(&mut self, id: CrashId, outcome: Outcome) -> Result<(), NoMemory>
         ensures taken { self.new.taken ≡ self.old.taken }
-        ensures made { OnOk result (self.new.made.items ≡ (if is_made outcome then self.old.made.items ++ id ∷ [] else self.old.made.items)) }
-        ensures stale { OnOk result (self.new.stale.items ≡ (if is_stale outcome then self.old.stale.items ++ id ∷ [] else self.old.stale.items)) }
-        ensures missed { OnOk result (self.new.missed.items ≡ (if is_missed outcome then self.old.missed.items ++ id ∷ [] else self.old.missed.items)) }
-        ensures err { OnErr result ((self.new.made.items ≡ self.old.made.items) × (self.new.stale.items ≡ self.old.stale.items) × (self.new.missed.items ≡ self.old.missed.items)) }
+        ensures made { OnOk result (self.new.made.items
+            ≡ (if is_made outcome then self.old.made.items ++ id ∷ [] else self.old.made.items)) }
+        ensures stale { OnOk result (self.new.stale.items
+            ≡ (if is_stale outcome then self.old.stale.items
+            ++ id ∷ [] else self.old.stale.items)) }
+        ensures missed { OnOk result (self.new.missed.items
+            ≡ (if is_missed outcome then self.old.missed.items
+            ++ id ∷ [] else self.old.missed.items)) }
+        ensures err { OnErr result ((self.new.made.items ≡ self.old.made.items)
+            × (self.new.stale.items ≡ self.old.stale.items)
+            × (self.new.missed.items ≡ self.old.missed.items)) }
     {
         match outcome {
             Outcome::Made => self.made.push(id)?,

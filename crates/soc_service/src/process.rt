@@ -29,7 +29,8 @@ pub enum Outcome {
 
 // The raw crash that a fetch gave, or what became of the crash where it gave none.
 fn given(reply: Reply) -> Result<RawCrash, Option<Outcome>>
-    ensures { MatchResult result (λ raw. reply ≡ gives raw) (λ outcome. outcome ≡ fetched_as reply) }
+    ensures { MatchResult result (λ raw. reply ≡ gives raw)
+        (λ outcome. outcome ≡ fetched_as reply) }
 {
     match reply {
         Reply::Fetched(Some(raw)) => Ok(raw),
@@ -77,7 +78,8 @@ fn finish<T: SharedDesk, W: Wait>(
     requires seat { IsSeatOf hall.now seat }
     requires may { MayTurn T.desk_of (known_of seat) (asks_finish processed) }
     ensures seat { IsSeatOf hall.now result.0 }
-    ensures finish { Finishes T.Logged T.command_of (known_of seat) processed.crash result.1 (known_of result.0) }
+    ensures finish { Finishes T.Logged T.command_of (known_of seat) processed.crash result.1
+        (known_of result.0) }
 {
     let (seat, answer) = take_turn(rt, alloc, hall, seat, Command::Finish { processed });
     (seat, answer.reply.reply)
@@ -94,7 +96,8 @@ pub(crate) fn process<T: SharedDesk, R: Reporter, G: Gate, W: Wait>(
     id: CrashId,
 ) -> (Seat<T>, Option<Outcome>)
     requires seat { IsSeatOf hall.now seat }
-    requires reporter { IfSome (known_of seat).basis (λ basis. (T.desk_of basis).row_of ≡ R.row_of reporter.now) }
+    requires reporter { IfSome (known_of seat).basis
+        (λ basis. (T.desk_of basis).row_of ≡ R.row_of reporter.now) }
     ensures seat { IsSeatOf hall.now result.0 }
     ensures basis { (known_of result.0).basis ≡ (known_of seat).basis }
     ensures works { MatchOption result.1

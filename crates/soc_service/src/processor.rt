@@ -43,7 +43,8 @@ pub struct WorkerEnd<S> {
 // The lists of a processor that stopped.
 fn end_of<S>(lists: Lists, seat: S, pass: Pass, stop: WorkerStop) -> WorkerEnd<S>
     ensures given { (result.seat ≡ seat) × (result.pass ≡ pass) × (result.stop ≡ stop) }
-    ensures lists { (result.taken ≡ lists.taken) × (result.made ≡ lists.made) × (result.stale ≡ lists.stale) × (result.missed ≡ lists.missed) }
+    ensures lists { (result.taken ≡ lists.taken) × (result.made ≡ lists.made)
+        × (result.stale ≡ lists.stale) × (result.missed ≡ lists.missed) }
 {
     let Lists {
         taken,
@@ -72,12 +73,18 @@ pub fn worker<T: SharedDesk, R: Reporter, G: Gate, W: Wait>(
 ) -> WorkerEnd<Seat<T>>
     requires seat { IsSeatOf site.now.hall.now seat }
     requires pass { IsPassOf site.now.jobs.now pass }
-    requires reporter { IfSome (known_of seat).basis (λ basis. (T.desk_of basis).row_of ≡ R.row_of reporter.now) }
+    requires reporter { IfSome (known_of seat).basis
+        (λ basis. (T.desk_of basis).row_of ≡ R.row_of reporter.now) }
     ensures seat { IsSeatOf site.now.hall.now result.seat }
     ensures pass { IsPassOf site.now.jobs.now result.pass }
-    ensures taken { (seen_of result.pass).takes ≡ (seen_of pass).takes ++ (crash_jobs result.taken.items ++ last_job result.stop) }
-    ensures puts_none { ((seen_of result.pass).number ≡ (seen_of pass).number) × ((seen_of result.pass).puts ≡ (seen_of pass).puts) × (fulls_of result.pass ≡ fulls_of pass) }
-    ensures worked { Worked T.Logged T.command_of (known_of seat) result.taken.items result.made.items result.stale.items result.missed.items result.stop (known_of result.seat) }
+    ensures taken { (seen_of result.pass).takes ≡ (seen_of pass).takes
+        ++ (crash_jobs result.taken.items ++ last_job result.stop) }
+    ensures puts_none { ((seen_of result.pass).number ≡ (seen_of pass).number)
+        × ((seen_of result.pass).puts ≡ (seen_of pass).puts)
+        × (fulls_of result.pass ≡ fulls_of pass) }
+    ensures worked { Worked T.Logged T.command_of
+        (known_of seat) result.taken.items result.made.items result.stale.items result.missed.items
+        result.stop (known_of result.seat) }
 {
     let mut lists = Lists::new(site.alloc);
     for _ in site.rt.forever() {

@@ -21,7 +21,9 @@ pub(crate) fn take_turn<T: SharedDesk, W: Wait>(
     requires seat { IsSeatOf hall.now seat }
     requires may { MayTurn T.desk_of (known_of seat) command }
     ensures seat { IsSeatOf hall.now result.0 }
-    ensures turn { (prepared : _) × (T.command_of prepared ≡ command) × Asks T.log_of T.basis_of T.asks T.answers (known_of seat) prepared result.1 (known_of result.0) }
+    ensures turn { (prepared : _) × (T.command_of prepared ≡ command)
+        × Asks T.log_of T.basis_of T.asks T.answers (known_of seat) prepared result.1
+        (known_of result.0) }
 {
     let prepared = T::prepare(alloc, command);
     hall.ask(rt, seat, prepared)

@@ -36,7 +36,8 @@ pub(crate) fn answer<K: Desk, C: Clock, W: Draws>(
     draws: &mut W,
 ) -> Handled
     requires { IfSome content FitsContent }
-    ensures { (message : Message) → IfSome content (Says rules.now message) → Answers K.Asks rules.now message desk.old desk.new
+    ensures { (message : Message) → IfSome content (Says rules.now message)
+        → Answers K.Asks rules.now message desk.old desk.new
         (outlook (C.told clock.old) (W.told draws.old))
         (outlook (C.told clock.new) (W.told draws.new)) result }
 {

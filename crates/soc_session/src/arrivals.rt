@@ -28,9 +28,11 @@ pub(crate) fn next_message<X: Source>(
     link: &mut X,
     buffer: &mut Buffer,
 ) -> Result<Option<Incoming>, HeadError>
-    ensures arrives { Arrives rules.now (X.told link.old) (X.told link.new) buffer.old result buffer.new }
+    ensures arrives { Arrives rules.now (X.told link.old)
+        (X.told link.new) buffer.old result buffer.new }
     ensures sized { IfOk result (λ found. IfSome found IsSized) }
-    ensures cause { IfErr result (λ error. error ≡ HeadError.ReadFault → ReadFailed (X.told link.old) (X.told link.new)) }
+    ensures cause { IfErr result (λ error. error ≡ HeadError.ReadFault
+        → ReadFailed (X.told link.old) (X.told link.new)) }
 {
     let Some(head) = read_head(alloc, link, buffer)? else {
         return Ok(None);

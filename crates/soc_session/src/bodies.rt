@@ -25,8 +25,10 @@ pub(crate) fn take_in<X: Source>(
 ) -> Result<Content, BodyError>
     requires ready { IsFormReady intake }
     requires short { head.now.length ≤ 16777216 }
-    ensures takes { TakesBody (IsOfBody intake) (X.told link.old) (X.told link.new) buffer.old head.now.length result buffer.new }
-    ensures cause { IsErrOf result BodyError.ReadFault → ReadFailed (X.told link.old) (X.told link.new) }
+    ensures takes { TakesBody (IsOfBody intake) (X.told link.old)
+        (X.told link.new) buffer.old head.now.length result buffer.new }
+    ensures cause { IsErrOf result BodyError.ReadFault
+        → ReadFailed (X.told link.old) (X.told link.new) }
 {
     match intake {
         Ok(Intake::Passes(plan)) => {
@@ -50,7 +52,8 @@ pub(crate) fn take_in<X: Source>(
 
 /// What a form said, or why it was refused.
 fn content_of(alloc: Global, said: Result<Submission, FormError>) -> Result<Content, BodyError>
-    ensures of { (boundary body : List ℕ) → IsSaid boundary body said → IfOk result (IsOfForm boundary body) }
+    ensures of { (boundary body : List ℕ) → IsSaid boundary body said
+        → IfOk result (IsOfForm boundary body) }
     ensures wanting { IfErr result IsWanting }
 {
     match said {
@@ -88,8 +91,10 @@ fn feed<X: Source>(
 ) -> Result<Result<Submission, FormError>, BodyError>
     requires ready { WasFed form [] }
     requires short { length ≤ 16777216 }
-    ensures takes { TakesBody (IsSaid form.boundary) (X.told link.old) (X.told link.new) buffer.old length result buffer.new }
-    ensures cause { IsErrOf result BodyError.ReadFault → ReadFailed (X.told link.old) (X.told link.new) }
+    ensures takes { TakesBody (IsSaid form.boundary) (X.told link.old)
+        (X.told link.new) buffer.old length result buffer.new }
+    ensures cause { IsErrOf result BodyError.ReadFault
+        → ReadFailed (X.told link.old) (X.told link.new) }
 {
     let mut form = form;
     let mut left = length;
@@ -110,9 +115,11 @@ fn feed_piece<X: Source>(
     left: &mut u64,
 ) -> Result<Result<(), FormError>, BodyError>
     requires { 0 < left.old }
-    ensures feeds { FeedsPiece (X.told link.old) (X.told link.new) buffer.old form.old form.new left.old left.new result buffer.new }
+    ensures feeds { FeedsPiece (X.told link.old)
+        (X.told link.new) buffer.old form.old form.new left.old left.new result buffer.new }
     ensures keeps { form.new.boundary ≡ form.old.boundary }
-    ensures cause { IsErrOf result BodyError.ReadFault → ReadFailed (X.told link.old) (X.told link.new) }
+    ensures cause { IsErrOf result BodyError.ReadFault
+        → ReadFailed (X.told link.old) (X.told link.new) }
 {
     let piece = body_piece(buffer, link, left)?;
     Ok(form.feed(piece))

@@ -44,7 +44,8 @@ pub fn session<K: Desk, X: Source + Sink, C: Clock, W: Draws>(
         (around (X.told link.new) desk.new (outlook (C.told clock.new) (W.told draws.new)))
         buffer.new result }
     ensures never_fall { NeverFall (X.told link.old) (X.told link.new) }
-    ensures cause { HasCause (result ≡ SessionEnd.ReadFault) (result ≡ SessionEnd.WriteFault) (X.told link.old) (X.told link.new) }
+    ensures cause { HasCause (result ≡ SessionEnd.ReadFault) (result ≡ SessionEnd.WriteFault)
+        (X.told link.old) (X.told link.new) }
 {
     let mut left = setting.rules.session_bytes;
     if left == 0 {
@@ -81,7 +82,8 @@ fn answer_next<K: Desk, X: Source + Sink, C: Clock, W: Draws>(
         result }
     ensures spare { closing false spare.new ≡ no_memory }
     ensures never_fall { NeverFall (X.told link.old) (X.told link.new) }
-    ensures cause { HasCause (result ≡ Next.Ends SessionEnd.ReadFault) (result ≡ Next.Ends SessionEnd.WriteFault) (X.told link.old) (X.told link.new) }
+    ensures cause { HasCause (result ≡ Next.Ends SessionEnd.ReadFault)
+        (result ≡ Next.Ends SessionEnd.WriteFault) (X.told link.old) (X.told link.new) }
 {
     match next_message(setting.alloc, setting.rules, setting.routes, link, buffer) {
         Ok(None) => Next::Ends(SessionEnd::Ended),
@@ -94,7 +96,8 @@ fn answer_next<K: Desk, X: Source + Sink, C: Clock, W: Draws>(
 fn halt<X: Sink>(alloc: Global, link: &mut X, error: HeadError) -> SessionEnd
     ensures halts { Halts (X.told link.old).held (X.told link.new).held error result }
     ensures read_fault { result ≡ SessionEnd.ReadFault → error ≡ HeadError.ReadFault }
-    ensures write_cause { result ≡ SessionEnd.WriteFault → WriteFailed (X.told link.old) (X.told link.new) }
+    ensures write_cause { result ≡ SessionEnd.WriteFault
+        → WriteFailed (X.told link.old) (X.told link.new) }
     ensures only { OnlyWrites (X.told link.old) (X.told link.new) }
 {
     match error {
@@ -108,7 +111,8 @@ fn halt<X: Sink>(alloc: Global, link: &mut X, error: HeadError) -> SessionEnd
 fn refuse<X: Sink>(alloc: Global, link: &mut X, error: HeadError) -> SessionEnd
     ensures refuses { Refuses (X.told link.old).held (X.told link.new).held error result }
     ensures no_read_fault { result ≢ SessionEnd.ReadFault }
-    ensures write_cause { result ≡ SessionEnd.WriteFault → WriteFailed (X.told link.old) (X.told link.new) }
+    ensures write_cause { result ≡ SessionEnd.WriteFault
+        → WriteFailed (X.told link.old) (X.told link.new) }
     ensures only { OnlyWrites (X.told link.old) (X.told link.new) }
 {
     let Ok(room) = Room::new(alloc) else {
@@ -140,7 +144,8 @@ fn answer_message<K: Desk, X: Sink, C: Clock, W: Draws>(
         (X.told link.old).held (X.told link.new).held result }
     ensures spare { closing false spare.new ≡ no_memory }
     ensures no_read_fault { result ≢ Next.Ends SessionEnd.ReadFault }
-    ensures write_cause { result ≡ Next.Ends SessionEnd.WriteFault → WriteFailed (X.told link.old) (X.told link.new) }
+    ensures write_cause { result ≡ Next.Ends SessionEnd.WriteFault
+        → WriteFailed (X.told link.old) (X.told link.new) }
     ensures only { OnlyWrites (X.told link.old) (X.told link.new) }
 {
     let Incoming { head, content } = incoming;
@@ -183,8 +188,10 @@ fn write_last<X: Sink>(
     last: bool,
 ) -> Result<(), WriteFault>
     requires { closing false spare.old ≡ no_memory }
-    ensures written { OnOk result (Writes (X.told link.old) (X.told link.new) (reply_text (closing last (reply_of reply)))) }
-    ensures front { OnErr result (WritesFront (X.told link.old) (X.told link.new) (reply_text (closing last (reply_of reply)))) }
+    ensures written { OnOk result (Writes (X.told link.old) (X.told link.new)
+        (reply_text (closing last (reply_of reply)))) }
+    ensures front { OnErr result (WritesFront (X.told link.old) (X.told link.new)
+        (reply_text (closing last (reply_of reply)))) }
     ensures spare { closing false spare.new ≡ no_memory }
     ensures cause { OnErr result (WriteFailed (X.told link.old) (X.told link.new)) }
 {

@@ -24,7 +24,8 @@ pub(crate) fn annotations_json(alloc: Global, annotations: &Texts) -> Result<Byt
 }
 
 fn put_annotations(alloc: Global, out: &mut Vec<u8>, annotations: &Texts) -> Result<(), NoMemory>
-    ensures { OnOk result (out.new.items ≡ out.old.items ++ joined annotation_json annotations.now) }
+    ensures { OnOk result (out.new.items ≡ out.old.items
+        ++ joined annotation_json annotations.now) }
 {
     for i in 0..annotations.len() {
         let (name, value) = annotations.at(i);
@@ -55,7 +56,8 @@ pub(crate) fn fields_json(alloc: Global, caller: &Caller) -> Result<Bytes, NoMem
 
 fn put_fields(out: &mut Vec<u8>, caller: &Caller) -> Result<(), NoMemory>
     ensures { OnOk result (out.new.items ≡ out.old.items
-        ++ joined field_json (filter (λ field. holds caller.now.permissions field.permission) field_table)) }
+        ++ joined field_json (filter (λ field. holds caller.now.permissions field.permission)
+        field_table)) }
 {
     let mut count = 0;
     for place in 0..Field::COUNT {

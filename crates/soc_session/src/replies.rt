@@ -258,7 +258,8 @@ fn tops_reply(alloc: Global, form: ReplyForm, tops: &Tops) -> Result<Answered, N
 
 /// Why a query isn't read.
 pub(crate) fn query_refusal(alloc: Global, error: QueryError) -> Result<Answered, NoMemory>
-    ensures { IfOk result (λ answered. (answered ≡ query_refusal error) × (error ≢ QueryError.NoMemory)) }
+    ensures { IfOk result (λ answered. (answered ≡ query_refusal error)
+        × (error ≢ QueryError.NoMemory)) }
 {
     match error {
         QueryError::UnknownField { name } => named(alloc, 400, "unknown field ", name.as_str()),
@@ -274,7 +275,8 @@ pub(crate) fn query_refusal(alloc: Global, error: QueryError) -> Result<Answered
 
 /// Why a query for top crashers isn't read.
 pub(crate) fn tops_refusal(alloc: Global, error: TopsError) -> Result<Answered, NoMemory>
-    ensures { IfOk result (λ answered. (answered ≡ tops_refusal error) × (error ≢ TopsError.NoMemory)) }
+    ensures { IfOk result (λ answered. (answered ≡ tops_refusal error)
+        × (error ≢ TopsError.NoMemory)) }
 {
     match error {
         TopsError::BadParameter { name } => named(alloc, 400, "bad parameter ", name.as_str()),
@@ -301,7 +303,8 @@ fn named(alloc: Global, status: u16, front: &str, name: &str) -> Result<Answered
 
 /// A field that the caller may not see.
 fn not_granted(alloc: Global, name: &str, permission: Permission) -> Result<Answered, NoMemory>
-    ensures { IfOk result (λ answered. answered ≡ query_refusal (QueryError.NotGranted name.now permission)) }
+    ensures { IfOk result (λ answered. answered
+        ≡ query_refusal (QueryError.NotGranted name.now permission)) }
 {
     let mut text = Vec::new(alloc);
     text.extend_from_slice(b"field ")?;

@@ -25,7 +25,11 @@ pub struct Lists {
 impl Model for Lists {
     ghost Value = { ListTexts };
 
-    ghost view = { λ l. record { irrelevant = l.irrelevant; prefix = l.prefix; sentinel = l.sentinel } };
+    ghost view = { λ l. record {
+      irrelevant = l.irrelevant;
+      prefix = l.prefix;
+      sentinel = l.sentinel;
+    } };
 }
 
 impl Lists {

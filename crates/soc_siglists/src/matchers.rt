@@ -66,7 +66,11 @@ pub struct ListMatchers<'a> {
 impl<'a> Model for ListMatchers<'a> {
     ghost Value = { ListTexts };
 
-    ghost view = { λ m. record { irrelevant = m.irrelevant; prefix = m.prefix; sentinel = m.sentinel } };
+    ghost view = { λ m. record {
+      irrelevant = m.irrelevant;
+      prefix = m.prefix;
+      sentinel = m.sentinel;
+    } };
 }
 
 impl<'a> ListMatchers<'a> {
@@ -75,7 +79,12 @@ impl<'a> ListMatchers<'a> {
         prefix: PatternMatchers<'a>,
         sentinel: PatternMatchers<'a>,
     ) -> ListMatchers<'a>
-        ensures { result ≡ record { irrelevant = irrelevant.entry; prefix = prefix.entry; sentinel = sentinel.entry } }
+        ensures { result ≡ record {
+          irrelevant = irrelevant.entry;
+          prefix = prefix.entry;
+          sentinel =
+              sentinel.entry;
+        } }
     {
         ListMatchers {
             irrelevant,

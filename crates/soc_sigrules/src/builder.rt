@@ -38,7 +38,15 @@ impl<'a> Model for SignatureBuilder<'a> {
 
     ghost Value = { Summary };
 
-    ghost view = { λ b. record { lists = b.lists; has_frames = b.proto.has_frames; proto = b.proto.text; watched = b.watched; has_sentinel = b.has_sentinel; texts = b.texts } };
+    ghost view = { λ b. record {
+      lists = b.lists;
+      has_frames = b.proto.has_frames;
+      proto =
+          b.proto.text;
+      watched = b.watched;
+      has_sentinel = b.has_sentinel;
+      texts = b.texts;
+    } };
 }
 
 impl<'a> SignatureBuilder<'a> {
@@ -58,14 +66,20 @@ impl<'a> SignatureBuilder<'a> {
 
     /// Adds the frame as it is.
     fn extend_proto(&mut self, frame: &str) -> Result<(), NoMemory>
-        ensures { OnOk result (self.new ≡ record self.old { has_frames = true; proto = proto_with self.old.has_frames self.old.proto frame.now }) }
+        ensures { OnOk result (self.new
+            ≡ record self.old {
+              has_frames = true;
+              proto = proto_with self.old.has_frames
+                  self.old.proto frame.now;
+            }) }
     {
         self.proto.push(frame)
     }
 
     /// Looks whether the frame is the watchdog's.
     fn watch(&mut self, frame: &str)
-        ensures { self.new ≡ record self.old { watched = self.old.watched || bytes_eq frame.now watchdog } }
+        ensures { self.new ≡ record self.old
+            { watched = self.old.watched || bytes_eq frame.now watchdog } }
     {
         if frame == WATCHDOG {
             self.watched = true;
@@ -74,7 +88,12 @@ impl<'a> SignatureBuilder<'a> {
 
     /// Looks whether the frame is the first sentinel: what stands before that is forgotten.
     fn meet_sentinel(&mut self, frame: &str) -> Result<(), NoMemory>
-        ensures { OnOk result (self.new ≡ record self.old { has_sentinel = self.old.has_sentinel || is_sentinel self.old.lists frame.now; texts = texts_before self.old frame.now }) }
+        ensures { OnOk result (self.new
+            ≡ record self.old {
+              has_sentinel = self.old.has_sentinel
+                  || is_sentinel self.old.lists frame.now;
+              texts = texts_before self.old frame.now;
+            }) }
     {
         if self.has_sentinel || !self.lists.is_sentinel(self.alloc, frame)? {
             return Ok(());
@@ -86,7 +105,11 @@ impl<'a> SignatureBuilder<'a> {
 
     /// Adds a text at the end.
     fn append(&mut self, text: &str) -> Result<(), NoMemory>
-        ensures { OnOk result (self.new ≡ record self.old { texts = with_text self.old.texts text.now (is_prefix self.old.lists text.now) }) }
+        ensures { OnOk result (self.new
+            ≡ record self.old {
+              texts = with_text self.old.texts text.now
+                  (is_prefix self.old.lists text.now);
+            }) }
     {
         let is_prefix = self.lists.is_prefix(self.alloc, text)?;
         self.texts.push(self.alloc, text, is_prefix)
@@ -94,7 +117,8 @@ impl<'a> SignatureBuilder<'a> {
 
     /// Adds what is kept of a frame.
     fn keep(&mut self, frame: &str) -> Result<(), NoMemory>
-        ensures { OnOk result (self.new ≡ record self.old { texts = texts_with self.old.lists self.old.texts frame.now }) }
+        ensures { OnOk result (self.new
+            ≡ record self.old { texts = texts_with self.old.lists self.old.texts frame.now }) }
     {
         if self.texts.is_ended() || self.lists.is_irrelevant(self.alloc, frame)? {
             return Ok(());
@@ -112,7 +136,10 @@ impl<'a> SignatureBuilder<'a> {
     /// that they are forgotten for, and all that is kept of the frames as they are is there.
     pub fn is_settled(&self) -> bool
         ensures value { result ≡ is_settled self.now }
-        ensures frames { IsTrue result → (lists : ListTexts) (frames : List (List ℕ)) (frame : List ℕ) → bytes_eq frame watchdog ≡ false → self.now ≡ summary_of lists frames → self.now ≡ summary_of lists (frames ++ frame ∷ []) }
+        ensures frames { IsTrue result
+            → (lists : ListTexts) (frames : List (List ℕ)) (frame : List ℕ)
+            → bytes_eq frame watchdog ≡ false → self.now ≡ summary_of lists frames
+            → self.now ≡ summary_of lists (frames ++ frame ∷ []) }
     {
         self.texts.is_ended()
             && self.proto.is_full()
@@ -122,7 +149,9 @@ impl<'a> SignatureBuilder<'a> {
     /// Adds the text of the next frame.
     pub fn push(mut self, frame: &str) -> Result<SignatureBuilder<'a>, NoMemory>
         ensures step { IfOk result (λ builder. builder ≡ with_frame self.entry frame.now) }
-        ensures frames { IfOk result (λ builder. (lists : _) (frames : List (List ℕ)) → self.entry ≡ summary_of lists frames → builder ≡ summary_of lists (frames ++ frame.now ∷ [])) }
+        ensures frames { IfOk result (λ builder. (lists : _) (frames : List (List ℕ))
+            → self.entry ≡ summary_of lists frames
+            → builder ≡ summary_of lists (frames ++ frame.now ∷ [])) }
     {
         self.extend_proto(frame)?;
         self.watch(frame);
@@ -133,7 +162,9 @@ impl<'a> SignatureBuilder<'a> {
 
     /// The signature of a crash with these frames. The frames of `input` aren't looked at.
     pub fn end(self, input: &SigInput) -> Result<Signature, NoMemory>
-        ensures { IfOk result (λ signature. (lists : _) (frames : List (List ℕ)) → self.entry ≡ summary_of lists frames → signature ≡ signature_of lists (record input.now { frames = frames })) }
+        ensures { IfOk result (λ signature. (lists : _) (frames : List (List ℕ))
+            → self.entry ≡ summary_of lists frames
+            → signature ≡ signature_of lists (record input.now { frames = frames })) }
     {
         let crash = Crash {
             input,
@@ -156,7 +187,8 @@ fn apply_rule(
     marked: Marked,
     rule: Rule,
 ) -> Result<Marked, NoMemory>
-    ensures { IfOk result (λ new. new ≡ after_rule crash.entry.watched crash.entry.input.now marked rule) }
+    ensures { IfOk result (λ new. new
+        ≡ after_rule crash.entry.watched crash.entry.input.now marked rule) }
 {
     let Some(text) = rule.apply(alloc, crash, marked.text.as_str())? else {
         return Ok(marked);
@@ -170,7 +202,8 @@ fn apply_rule(
 
 /// The text after each rule in turn.
 fn apply_rules(alloc: Global, crash: Crash<'_>, text: Text) -> Result<Marked, NoMemory>
-    ensures { IfOk result (λ marked. marked ≡ after_rules crash.entry.watched crash.entry.input.now text) }
+    ensures { IfOk result (λ marked. marked
+        ≡ after_rules crash.entry.watched crash.entry.input.now text) }
 {
     let mut marked = Marked {
         text,

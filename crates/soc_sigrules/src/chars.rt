@@ -31,7 +31,10 @@ pub fn char_count(text: &str) -> usize
 
 /// Where the characters behind the first `count` begin, in a text that has more of them.
 fn chars_end(text: &[u8], count: usize) -> Option<usize>
-    ensures { MatchOption result ((is_longer count text.now ≡ false) × (first_chars count text.now ≡ text.now)) (λ end. (is_longer count text.now ≡ true) × (take end text.now ≡ first_chars count text.now) × IsCharBoundary text.now end) }
+    ensures { MatchOption result ((is_longer count text.now ≡ false)
+        × (first_chars count text.now ≡ text.now))
+        (λ end. (is_longer count text.now ≡ true) × (take end text.now ≡ first_chars count text.now)
+        × IsCharBoundary text.now end) }
 {
     let mut left = count;
     for (place, byte) in text.iter().enumerate() {

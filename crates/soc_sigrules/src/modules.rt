@@ -21,7 +21,9 @@ fn begins_with_mark(text: &[u8]) -> bool
 /// Where a mark may stand at the earliest, from a place on: four bytes before the next `@`.
 fn next_candidate(frame: &[u8], place: usize) -> Option<usize>
     requires { place ≤ length frame.now }
-    ensures { MatchOption result (mark_from frame.now place ≡ None) (λ found. (place ≤ found) × (found < length frame.now) × (mark_from frame.now place ≡ mark_from frame.now found)) }
+    ensures { MatchOption result (mark_from frame.now place ≡ None)
+        (λ found. (place ≤ found) × (found < length frame.now)
+        × (mark_from frame.now place ≡ mark_from frame.now found)) }
 {
     match memchr(b'@', after(frame, place + ENDING.len())) {
         Some(found) => Some(place + found),

@@ -40,7 +40,12 @@ impl Proto {
 
     /// Adds a frame.
     pub fn push(&mut self, frame: &str) -> Result<(), NoMemory>
-        ensures { OnOk result (self.new ≡ record { has_frames = true; text = proto_with self.old.has_frames self.old.text frame.now }) }
+        ensures { OnOk result (self.new
+            ≡ record {
+              has_frames = true;
+              text = proto_with self.old.has_frames self.old.text
+                  frame.now;
+            }) }
     {
         if self.has_frames {
             self.text.push(SEPARATOR)?;

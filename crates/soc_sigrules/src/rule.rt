@@ -54,7 +54,8 @@ impl Rule {
         crash: Crash<'_>,
         text: &str,
     ) -> Result<Option<Text>, NoMemory>
-        ensures { IfOk result (λ new. new ≡ apply crash.entry.watched crash.entry.input.now self text.now) }
+        ensures { IfOk result (λ new. new
+            ≡ apply crash.entry.watched crash.entry.input.now self text.now) }
     {
         match self {
             Rule::OutOfMemory => rules::out_of_memory(alloc, crash, text),

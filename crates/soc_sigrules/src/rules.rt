@@ -53,7 +53,8 @@ fn memory_text(alloc: Global, size: &str, text: &str) -> Result<Text, NoMemory>
 
 /// An allocation failed.
 pub fn out_of_memory(alloc: Global, crash: Crash<'_>, text: &str) -> Result<Option<Text>, NoMemory>
-    ensures { IfOk result (λ new. new ≡ apply crash.entry.watched crash.entry.input.now OutOfMemory text.now) }
+    ensures { IfOk result (λ new. new
+        ≡ apply crash.entry.watched crash.entry.input.now OutOfMemory text.now) }
 {
     match &crash.input.oom {
         Some(size) => Ok(Some(memory_text(alloc, size.as_str(), text)?)),
@@ -71,7 +72,8 @@ fn abort_text(alloc: Global, message: &str, text: &str) -> Result<Text, NoMemory
 
 /// The program gave up with a message.
 pub fn abort(alloc: Global, crash: Crash<'_>, text: &str) -> Result<Option<Text>, NoMemory>
-    ensures { IfOk result (λ new. new ≡ apply crash.entry.watched crash.entry.input.now Abort text.now) }
+    ensures { IfOk result (λ new. new
+        ≡ apply crash.entry.watched crash.entry.input.now Abort text.now) }
 {
     match &crash.input.abort {
         Some(message) => Ok(Some(abort_text(alloc, message.as_str(), text)?)),
@@ -81,7 +83,8 @@ pub fn abort(alloc: Global, crash: Crash<'_>, text: &str) -> Result<Option<Text>
 
 /// A phase of the shutdown took too long.
 pub fn shutdown(alloc: Global, crash: Crash<'_>, _text: &str) -> Result<Option<Text>, NoMemory>
-    ensures { IfOk result (λ new. new ≡ apply crash.entry.watched crash.entry.input.now Shutdown _text.now) }
+    ensures { IfOk result (λ new. new
+        ≡ apply crash.entry.watched crash.entry.input.now Shutdown _text.now) }
 {
     match &crash.input.shutdown {
         Some(description) => Ok(Some(shutdown_text(alloc, description.as_str())?)),
@@ -91,7 +94,8 @@ pub fn shutdown(alloc: Global, crash: Crash<'_>, _text: &str) -> Result<Option<T
 
 /// The watchdog ended a shutdown that hung.
 pub fn shutdown_hang(alloc: Global, crash: Crash<'_>, text: &str) -> Result<Option<Text>, NoMemory>
-    ensures { IfOk result (λ new. new ≡ apply crash.entry.watched crash.entry.input.now ShutdownHang text.now) }
+    ensures { IfOk result (λ new. new
+        ≡ apply crash.entry.watched crash.entry.input.now ShutdownHang text.now) }
 {
     prefixed(alloc, crash.watched, "shutdownhang | ", text)
 }
@@ -110,7 +114,8 @@ fn ipc_text(alloc: Global, is_browser: bool, error: &str) -> Result<Text, NoMemo
 
 /// A channel between processes failed.
 pub fn ipc(alloc: Global, crash: Crash<'_>, _text: &str) -> Result<Option<Text>, NoMemory>
-    ensures { IfOk result (λ new. new ≡ apply crash.entry.watched crash.entry.input.now Ipc _text.now) }
+    ensures { IfOk result (λ new. new
+        ≡ apply crash.entry.watched crash.entry.input.now Ipc _text.now) }
 {
     match &crash.input.ipc {
         Some(error) => Ok(Some(ipc_text(alloc, crash.input.ipc_browser, error.as_str())?)),
@@ -120,35 +125,40 @@ pub fn ipc(alloc: Global, crash: Crash<'_>, _text: &str) -> Result<Option<Text>,
 
 /// The stack overflowed.
 pub fn stack_overflow(alloc: Global, crash: Crash<'_>, text: &str) -> Result<Option<Text>, NoMemory>
-    ensures { IfOk result (λ new. new ≡ apply crash.entry.watched crash.entry.input.now StackOverflow text.now) }
+    ensures { IfOk result (λ new. new
+        ≡ apply crash.entry.watched crash.entry.input.now StackOverflow text.now) }
 {
     prefixed(alloc, crash.input.overflow, "stackoverflow | ", text)
 }
 
 /// The program hung.
 pub fn hang(alloc: Global, crash: Crash<'_>, text: &str) -> Result<Option<Text>, NoMemory>
-    ensures { IfOk result (λ new. new ≡ apply crash.entry.watched crash.entry.input.now Hang text.now) }
+    ensures { IfOk result (λ new. new
+        ≡ apply crash.entry.watched crash.entry.input.now Hang text.now) }
 {
     prefixed(alloc, crash.input.hang, "hang | ", text)
 }
 
 /// A bit may have flipped in memory.
 pub fn bad_hardware(alloc: Global, crash: Crash<'_>, text: &str) -> Result<Option<Text>, NoMemory>
-    ensures { IfOk result (λ new. new ≡ apply crash.entry.watched crash.entry.input.now BadHardware text.now) }
+    ensures { IfOk result (λ new. new
+        ≡ apply crash.entry.watched crash.entry.input.now BadHardware text.now) }
 {
     prefixed(alloc, crash.input.bad_hardware, "bad hardware | ", text)
 }
 
 /// Runs of blanks become one space.
 pub fn spaces(alloc: Global, _crash: Crash<'_>, text: &str) -> Result<Option<Text>, NoMemory>
-    ensures { IfOk result (λ new. new ≡ apply _crash.entry.watched _crash.entry.input.now Spaces text.now) }
+    ensures { IfOk result (λ new. new
+        ≡ apply _crash.entry.watched _crash.entry.input.now Spaces text.now) }
 {
     Ok(Some(spaced(alloc, text)?))
 }
 
 /// A long text is cut.
 pub fn cut(alloc: Global, _crash: Crash<'_>, text: &str) -> Result<Option<Text>, NoMemory>
-    ensures { IfOk result (λ new. new ≡ apply _crash.entry.watched _crash.entry.input.now Cut text.now) }
+    ensures { IfOk result (λ new. new
+        ≡ apply _crash.entry.watched _crash.entry.input.now Cut text.now) }
 {
     if is_longer(text, MOST) {
         Ok(Some(cut_text(alloc, text, MOST)?))

@@ -30,7 +30,8 @@ fn text_at<'a>(value: &'a Value, key: &str) -> Option<&'a str>
 
 /// What is waited for.
 fn conditions_of(value: &Value) -> Option<&Vec<Value>>
-    ensures { option_map (λ conditions. items_view conditions.now.items) result ≡ conditions_of (view value.now) }
+    ensures { option_map (λ conditions. items_view conditions.now.items) result
+        ≡ conditions_of (view value.now) }
 {
     value.get("conditions")?.as_array()
 }

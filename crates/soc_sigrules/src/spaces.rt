@@ -34,7 +34,8 @@ fn word_len(text: &[u8]) -> usize
 
 /// The first word, and what stands behind it.
 pub fn next_word(text: &str) -> Option<(&str, &str)>
-    ensures { MatchOption result (words text.now ≡ []) (λ parts. IsFirstWord text.now parts.0.now parts.1.now) }
+    ensures { MatchOption result (words text.now ≡ [])
+        (λ parts. IsFirstWord text.now parts.0.now parts.1.now) }
 {
     let behind = &text[gaps_len(text.as_bytes())..];
     if behind.is_empty() {

@@ -52,7 +52,8 @@ impl StackTexts {
 
     /// Adds a word.
     fn push_word(&mut self, word: &str) -> Result<(), NoMemory>
-        ensures { OnOk result (self.new ≡ record self.old { front = with_word self.old.front word.now }) }
+        ensures { OnOk result (self.new
+            ≡ record self.old { front = with_word self.old.front word.now }) }
     {
         if !self.front.is_empty() {
             self.front.push(SPACE)?;
@@ -62,7 +63,8 @@ impl StackTexts {
 
     /// Adds the words of a text.
     fn push_words(&mut self, text: &str) -> Result<(), NoMemory>
-        ensures { OnOk result (self.new ≡ record self.old { front = with_words self.old.front (words text.now) }) }
+        ensures { OnOk result (self.new
+            ≡ record self.old { front = with_words self.old.front (words text.now) }) }
     {
         let mut rest = text;
         while !self.front.is_full() {

@@ -48,7 +48,10 @@ struct Around<'a> {
 impl<'a> Memory for Around<'a> {
     ghost use Rattle.std.specs.Prelude.{◌==◌, nat_le, if◌then◌else◌, Some, None};
 
-    ghost word = { λ around address width. if address == 0x7000 then Some 0x7100 else if address == 0x7008 then Some 0x10000200 else if address == around.last then Some 0x10000300 else if nat_le 0x6ff0 address then Some 0 else None };
+    ghost word = { λ around address width.
+        if address == 0x7000 then Some 0x7100 else if address == 0x7008 then Some 0x10000200 else if
+        address == around.last then Some 0x10000300 else if nat_le 0x6ff0 address then Some 0 else
+        None };
 
     fn word(&self, address: u64, _width: u8) -> Option<u64> {
         if address == 0x7000 {
@@ -73,7 +76,8 @@ impl<'a> Surroundings for Around<'a> {
 
     ghost takes = { λ around word. nat_le 0x10000300 word };
 
-    ghost rules = { λ around address. if address == around.covered then option_map in_force around.rules else None };
+    ghost rules = { λ around address.
+        if address == around.covered then option_map in_force around.rules else None };
 
     fn is_in_module(&self, address: u64) -> bool {
         0x1000_0000 <= address
@@ -212,7 +216,9 @@ struct Process<'a> {
 impl<'a> Memory for Process<'a> {
     ghost use Rattle.std.specs.Prelude.{◌==◌, if◌then◌else◌, Some, None};
 
-    ghost word = { λ process address width. if address == 0x7000 then Some 0x7100 else if address == 0x7008 then Some 0x10000200 else None };
+    ghost word = { λ process address width.
+        if address == 0x7000 then Some 0x7100 else if address == 0x7008 then Some 0x10000200 else
+        None };
 
     fn word(&self, address: u64, _width: u8) -> Option<u64> {
         if address == 0x7000 {
@@ -233,7 +239,8 @@ impl<'a> Places for Process<'a> {
 
     ghost in_code = { λ process address. nat_le 0x10000000 address && nat_lt address 0x10001000 };
 
-    ghost rules = { λ process address. if address == 0x10000100 then option_map in_force process.rules else None };
+    ghost rules = { λ process address.
+        if address == 0x10000100 then option_map in_force process.rules else None };
 
     fn in_module(&self, address: u64) -> bool {
         0x1000_0000 <= address && address < 0x1000_1000

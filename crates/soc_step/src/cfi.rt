@@ -45,7 +45,8 @@ fn rule_for<'a>(rules: &Rules<'a>, register: &Register) -> Option<&'a str>
 
 /// The rule of the register at a place.
 fn rule_at<'a>(registers: &Registers, rules: &Rules<'a>, place: usize) -> Option<&'a str>
-    ensures { option_copied result ≡ spec.rule_at (machine_of registers.now.machine) (in_force rules.now) place }
+    ensures { option_copied result
+        ≡ spec.rule_at (machine_of registers.now.machine) (in_force rules.now) place }
 {
     rule_for(rules, registers.machine.register(place)?)
 }
@@ -57,7 +58,9 @@ fn stack_pointer_by<S: Surroundings>(
     cfa: u64,
     around: &S,
 ) -> Option<u64>
-    ensures { result ≡ spec.stack_pointer_by (surroundings (S.word around.now) (S.is_in_module around.now) (S.takes around.now) (S.rules around.now)) (registers_of registers.now) (in_force rules.now) cfa }
+    ensures { result ≡ spec.stack_pointer_by
+        (surroundings (S.word around.now) (S.is_in_module around.now) (S.takes around.now)
+        (S.rules around.now)) (registers_of registers.now) (in_force rules.now) cfa }
 {
     match rule_at(registers, rules, registers.machine.stack_pointer) {
         Some(rule) => eval_bank(rule, registers, Some(cfa), around),
@@ -71,7 +74,9 @@ fn pointers_by<S: Surroundings>(
     rules: &Rules<'_>,
     around: &S,
 ) -> Option<Pointers>
-    ensures { result ≡ spec.pointers_by (surroundings (S.word around.now) (S.is_in_module around.now) (S.takes around.now) (S.rules around.now)) (registers_of registers.now) (in_force rules.now) }
+    ensures { result ≡ spec.pointers_by
+        (surroundings (S.word around.now) (S.is_in_module around.now) (S.takes around.now)
+        (S.rules around.now)) (registers_of registers.now) (in_force rules.now) }
 {
     let frame_address = eval_bank(rules.rule(".cfa")?, registers, None, around)?;
     let instruction = eval_bank(rules.rule(".ra")?, registers, Some(frame_address), around)?;
@@ -91,7 +96,9 @@ fn other_by<S: Surroundings>(
     around: &S,
     place: usize,
 ) -> Option<u64>
-    ensures { result ≡ spec.other_by (surroundings (S.word around.now) (S.is_in_module around.now) (S.takes around.now) (S.rules around.now)) (registers_of registers.now) (in_force rules.now) cfa place }
+    ensures { result ≡ spec.other_by
+        (surroundings (S.word around.now) (S.is_in_module around.now) (S.takes around.now)
+        (S.rules around.now)) (registers_of registers.now) (in_force rules.now) cfa place }
 {
     let register = registers.machine.register(place)?;
     match rule_for(rules, register) {
@@ -109,7 +116,9 @@ fn value_by<S: Surroundings>(
     around: &S,
     place: usize,
 ) -> Option<u64>
-    ensures { result ≡ spec.value_by (surroundings (S.word around.now) (S.is_in_module around.now) (S.takes around.now) (S.rules around.now)) (registers_of registers.now) (in_force rules.now) pointers.now place }
+    ensures { result ≡ spec.value_by
+        (surroundings (S.word around.now) (S.is_in_module around.now) (S.takes around.now)
+        (S.rules around.now)) (registers_of registers.now) (in_force rules.now) pointers.now place }
 {
     if place == registers.machine.instruction_pointer {
         Some(pointers.instruction)
@@ -126,7 +135,9 @@ fn by_rules<S: Surroundings>(
     rules: &Rules<'_>,
     around: &S,
 ) -> Option<[Option<u64>; PLACES]>
-    ensures { result ≡ spec.by_rules (surroundings (S.word around.now) (S.is_in_module around.now) (S.takes around.now) (S.rules around.now)) (registers_of registers.now) (in_force rules.now) }
+    ensures { result ≡ spec.by_rules
+        (surroundings (S.word around.now) (S.is_in_module around.now) (S.takes around.now)
+        (S.rules around.now)) (registers_of registers.now) (in_force rules.now) }
 {
     let pointers = pointers_by(registers, rules, around)?;
     let mut values = [None; PLACES];
@@ -142,7 +153,9 @@ pub fn by_cfi<S: Surroundings>(
     first: bool,
     around: &S,
 ) -> Option<[Option<u64>; PLACES]>
-    ensures { result ≡ spec.by_cfi (surroundings (S.word around.now) (S.is_in_module around.now) (S.takes around.now) (S.rules around.now)) first (registers_of registers.now) }
+    ensures { result ≡ spec.by_cfi
+        (surroundings (S.word around.now) (S.is_in_module around.now) (S.takes around.now)
+        (S.rules around.now)) first (registers_of registers.now) }
 {
     let instruction = registers.instruction_pointer()?;
     let rules = around.rules(lookup_address(first, instruction))?;

@@ -15,7 +15,9 @@ pub fn by_frame_pointer<S: Surroundings>(
     registers: &Registers,
     around: &S,
 ) -> Option<[Option<u64>; PLACES]>
-    ensures { result ≡ spec.by_frame_pointer (surroundings (S.word around.now) (S.is_in_module around.now) (S.takes around.now) (S.rules around.now)) (registers_of registers.now) }
+    ensures { result ≡ spec.by_frame_pointer
+        (surroundings (S.word around.now) (S.is_in_module around.now) (S.takes around.now)
+        (S.rules around.now)) (registers_of registers.now) }
 {
     let machine = &registers.machine;
     let width = machine.width.bytes();

@@ -61,7 +61,8 @@ fn is_called(register: &Register, name: &str) -> bool
 
 /// The place of a register among others, by one of its names.
 fn place_among(registers: &[Register], name: &str) -> Option<usize>
-    ensures { result ≡ position (λ register. spec.is_called name.now (register_of register)) registers.now }
+    ensures { result ≡ position (λ register. spec.is_called name.now (register_of register))
+        registers.now }
 {
     registers
         .iter()
@@ -71,7 +72,8 @@ fn place_among(registers: &[Register], name: &str) -> Option<usize>
 impl Machine {
     /// The register at a place.
     pub(crate) fn register(&self, place: usize) -> Option<&'static Register>
-        ensures { option_map (λ register. register_of register.now) result ≡ slice_get (machine_of self.now).registers place }
+        ensures { option_map (λ register. register_of register.now) result
+            ≡ slice_get (machine_of self.now).registers place }
     {
         self.registers.get(place)
     }

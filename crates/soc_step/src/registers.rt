@@ -24,7 +24,8 @@ impl Registers {
 
     /// The value of the instruction pointer, where it is known.
     pub fn instruction_pointer(&self) -> Option<u64>
-        ensures { result ≡ spec.value_at (registers_of self.now) self.now.machine.instruction_pointer }
+        ensures { result ≡ spec.value_at
+            (registers_of self.now) self.now.machine.instruction_pointer }
     {
         self.at(self.machine.instruction_pointer)
     }

@@ -21,7 +21,8 @@ fn scan<S: Surroundings>(
     words: u64,
     start: u64,
 ) -> Option<(u64, u64)>
-    ensures { result ≡ spec.scan (surroundings (S.word around.now) (S.is_in_module around.now) (S.takes around.now) (S.rules around.now)) (registers_of registers.now) words start }
+    ensures { result ≡ spec.scan (surroundings (S.word around.now) (S.is_in_module around.now)
+        (S.takes around.now) (S.rules around.now)) (registers_of registers.now) words start }
 {
     let mut address = start;
     for _ in 0..words {
@@ -41,7 +42,9 @@ pub fn by_scan<S: Surroundings>(
     first: bool,
     around: &S,
 ) -> Option<[Option<u64>; PLACES]>
-    ensures { result ≡ spec.by_scan (surroundings (S.word around.now) (S.is_in_module around.now) (S.takes around.now) (S.rules around.now)) first (registers_of registers.now) }
+    ensures { result ≡ spec.by_scan
+        (surroundings (S.word around.now) (S.is_in_module around.now) (S.takes around.now)
+        (S.rules around.now)) first (registers_of registers.now) }
 {
     let words = if first {
         WORDS_OF_FIRST

@@ -29,7 +29,8 @@ impl Registers {
     /// That the caller's instruction pointer is 0, or that its stack pointer isn't greater than the
     /// frame's, is not looked at.
     pub fn caller<S: Surroundings>(&self, first: bool, around: &S) -> Option<Caller>
-        ensures { result ≡ caller_of (surroundings (S.word around.now) (S.is_in_module around.now) (S.takes around.now) (S.rules around.now)) first (registers_of self.now) }
+        ensures { result ≡ caller_of (surroundings (S.word around.now) (S.is_in_module around.now)
+            (S.takes around.now) (S.rules around.now)) first (registers_of self.now) }
     {
         if let Some(values) = by_cfi(self, first, around) {
             let trust = Trust::Cfi;

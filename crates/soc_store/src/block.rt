@@ -53,7 +53,8 @@ impl Block {
         place: u32,
         product: Option<&SharedText>,
     ) -> Result<(), NoMemory>
-        ensures ok { OnOk result (self.new ≡ with_posting (Some value.now) place (option_copied product.entry) self.old) }
+        ensures ok { OnOk result (self.new
+            ≡ with_posting (Some value.now) place (option_copied product.entry) self.old) }
         ensures err { OnErr result (self.new ≡ self.old) }
     {
         match place_in(self.slots.as_slice(), value) {
@@ -71,7 +72,8 @@ impl Block {
 
     /// One row less that has the value.
     pub(crate) fn remove(&mut self, value: &Value, place: u32, product: Option<&SharedText>)
-        ensures { self.new ≡ without_posting (Some value.now) place (option_copied product.entry) self.old }
+        ensures { self.new ≡ without_posting (Some value.now) place
+            (option_copied product.entry) self.old }
     {
         if let Ok(i) = place_in(self.slots.as_slice(), value) {
             let slot = &mut self.slots[i];
@@ -92,7 +94,8 @@ impl Block {
     pub(crate) fn compare_first(&self, key: u64, value: &Value) -> Ordering
         requires some { 0 < length self.now }
         requires key { key ≡ key_of value.now }
-        ensures { (first : Value) × (slice_get (map (λ t. t.value) self.now) 0 ≡ Some first) × (result ≡ value_cmp first value.now) }
+        ensures { (first : Value) × (slice_get (map (λ t. t.value) self.now) 0 ≡ Some first)
+            × (result ≡ value_cmp first value.now) }
     {
         self.slots[0].compare(key, value)
     }

@@ -26,7 +26,8 @@ pub(crate) type Counts = SmallVec<ProductCount, 1>;
 /// Counts one more of the product.
 pub(crate) fn count_one(counts: &mut Counts, product: Option<&SharedText>) -> Result<(), NoMemory>
     requires { Rising (λ c. c.product) product_cmp counts.old.items }
-    ensures ok { OnOk result (counts.new.items ≡ counted (option_copied product.entry) counts.old.items) }
+    ensures ok { OnOk result (counts.new.items
+        ≡ counted (option_copied product.entry) counts.old.items) }
     ensures err { OnErr result (counts.new.items ≡ counts.old.items) }
 {
     match place_in(counts.as_slice(), product) {
@@ -61,7 +62,8 @@ pub(crate) fn count_less(counts: &mut Counts, product: Option<&SharedText>)
 /// Where the product's count stands, or else where it would stand.
 fn place_in(counts: &[ProductCount], product: Option<&SharedText>) -> Result<usize, usize>
     requires { Rising (λ c. c.product) product_cmp counts.now }
-    ensures { FindsKey (λ c. c.product) product_cmp (option_copied product.entry) counts.now result }
+    ensures { FindsKey (λ c. c.product) product_cmp
+        (option_copied product.entry) counts.now result }
 {
     let mut low = 0;
     let mut high = counts.len();

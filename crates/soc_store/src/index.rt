@@ -48,7 +48,8 @@ impl Index {
         place: u32,
         product: Option<&SharedText>,
     ) -> Result<(), NoMemory>
-        ensures ok { OnOk result (self.new ≡ with_posting (Some value.now) place (option_copied product.entry) self.old) }
+        ensures ok { OnOk result (self.new
+            ≡ with_posting (Some value.now) place (option_copied product.entry) self.old) }
         ensures err { OnErr result (self.new ≡ self.old) }
     {
         add_value(alloc, &mut self.parts, value, place, product)
@@ -56,7 +57,8 @@ impl Index {
 
     /// One row less that has the value.
     pub(crate) fn remove(&mut self, value: &Value, place: u32, product: Option<&SharedText>)
-        ensures { self.new ≡ without_posting (Some value.now) place (option_copied product.entry) self.old }
+        ensures { self.new ≡ without_posting (Some value.now) place
+            (option_copied product.entry) self.old }
     {
         remove_value(&mut self.parts, value, place, product);
     }
@@ -80,7 +82,8 @@ impl Index {
     pub(crate) fn term_near(&self, i: usize, near: &mut usize) -> &Term
         requires { i < length self.now }
         ensures value { slice_get (map (λ t. t.value) self.now) i ≡ Some result.now.value }
-        ensures found { at_key (λ t. t.value) value_cmp result.now.value self.now ≡ Some result.now }
+        ensures found { at_key (λ t. t.value) value_cmp result.now.value self.now
+            ≡ Some result.now }
     {
         term_near(&self.parts, i, near)
     }
@@ -88,7 +91,8 @@ impl Index {
     /// How many rows have the value at `i`, which is found in the same way.
     pub(crate) fn count_near(&self, i: usize, near: &mut usize) -> usize
         requires { i < length self.now }
-        ensures { IfSome (slice_get (map (λ t. t.value) self.now) i) (λ v. result ≡ length (places_in (at_key (λ t. t.value) value_cmp v self.now))) }
+        ensures { IfSome (slice_get (map (λ t. t.value) self.now) i)
+            (λ v. result ≡ length (places_in (at_key (λ t. t.value) value_cmp v self.now))) }
     {
         count_near(&self.parts, i, near)
     }

@@ -36,7 +36,9 @@ pub(crate) fn add_value(
 ) -> Result<(), NoMemory>
     requires { AreParts parts.old.items }
     ensures parts { AreParts parts.new.items }
-    ensures ok { OnOk result (postings_in parts.new.items ≡ with_posting (Some value.now) place (option_copied product.entry) (postings_in parts.old.items)) }
+    ensures ok { OnOk result (postings_in parts.new.items
+        ≡ with_posting (Some value.now) place (option_copied product.entry)
+        (postings_in parts.old.items)) }
     ensures err { OnErr result (postings_in parts.new.items ≡ postings_in parts.old.items) }
 {
     begin(alloc, parts)?;
@@ -56,7 +58,9 @@ pub(crate) fn remove_value(
 )
     requires { AreParts parts.old.items }
     ensures parts { AreParts parts.new.items }
-    ensures left { postings_in parts.new.items ≡ without_posting (Some value.now) place (option_copied product.entry) (postings_in parts.old.items) }
+    ensures left { postings_in parts.new.items
+        ≡ without_posting (Some value.now) place (option_copied product.entry)
+        (postings_in parts.old.items) }
 {
     if parts.is_empty() {
         return;
@@ -158,8 +162,10 @@ pub(crate) fn part_of(parts: &[Part], value: &Value) -> usize
     requires filled { AreFilled (blocks_of parts.now) }
     requires rising { Rising (λ t. t.value) value_cmp (postings_in parts.now) }
     ensures within { result < length parts.now }
-    ensures before { AllByRecursion (λ t. value_cmp value.now t.value ≡ Greater) (joined (take result (blocks_of parts.now))) }
-    ensures after { AllByRecursion (λ t. value_cmp value.now t.value ≡ Less) (joined (drop (result + 1) (blocks_of parts.now))) }
+    ensures before { AllByRecursion (λ t. value_cmp value.now t.value ≡ Greater)
+        (joined (take result (blocks_of parts.now))) }
+    ensures after { AllByRecursion (λ t. value_cmp value.now t.value ≡ Less)
+        (joined (drop (result + 1) (blocks_of parts.now))) }
 {
     let key = key_of(value);
     let mut low = 0;
@@ -211,7 +217,8 @@ fn settle(alloc: Global, parts: &mut Vec<Part>, k: usize)
 /// Takes the block out where it is empty and not the first.
 fn drop_empty(parts: &mut Vec<Part>, k: usize)
     requires within { k < length parts.old.items }
-    requires filled { (block : List Posting) → 0 < length block → AreFilled (slice_set (blocks_of parts.old.items) k block) }
+    requires filled { (block : List Posting) → 0 < length block
+        → AreFilled (slice_set (blocks_of parts.old.items) k block) }
     ensures filled { AreFilled (blocks_of parts.new.items) }
     ensures same { postings_in parts.new.items ≡ postings_in parts.old.items }
 {

@@ -32,7 +32,8 @@ impl Model for Rows {
 
     ghost view = { λ r. rows_in (λ e. e.place) (λ e. e.row.value) r.entries.items };
 
-    ghost invariant = { λ r. PlacesRise (rows_in (λ e. e.place) (λ e. e.row.value) r.entries.items) };
+    ghost invariant = { λ r. PlacesRise
+        (rows_in (λ e. e.place) (λ e. e.row.value) r.entries.items) };
 }
 
 impl Rows {
@@ -113,7 +114,8 @@ impl Rows {
 /// Where the row of a place stands, or else where it would stand.
 fn place_in(entries: &[Entry], place: u32) -> Result<usize, usize>
     requires { PlacesRise (rows_in (λ e. e.place) (λ e. e.row.value) entries.now) }
-    ensures { FindsKey (λ s. s.0) nat_cmp place (rows_in (λ e. e.place) (λ e. e.row.value) entries.now) result }
+    ensures { FindsKey (λ s. s.0) nat_cmp place
+        (rows_in (λ e. e.place) (λ e. e.row.value) entries.now) result }
 {
     let mut low = 0;
     let mut high = entries.len();

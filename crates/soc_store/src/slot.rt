@@ -32,7 +32,8 @@ impl Model for Slot {
 
     ghost view = { λ s. s.term.value };
 
-    ghost invariant = { λ s. (s.key ≡ key_of s.term.value.value) × (s.count ≡ length s.term.value.places) };
+    ghost invariant = { λ s. (s.key ≡ key_of s.term.value.value)
+        × (s.count ≡ length s.term.value.places) };
 }
 
 impl Slot {
@@ -43,7 +44,8 @@ impl Slot {
         place: u32,
         product: Option<&SharedText>,
     ) -> Result<Slot, NoMemory>
-        ensures { IfOk result (λ slot. slot ≡ posted value.now place (option_copied product.entry) None) }
+        ensures { IfOk result (λ slot. slot
+            ≡ posted value.now place (option_copied product.entry) None) }
     {
         let term = Box::new(alloc, Term::new(alloc, value, place, product)?)?;
         let count = term.places().len();
@@ -56,7 +58,8 @@ impl Slot {
 
     /// One more row that has the value.
     pub(crate) fn add(&mut self, place: u32, product: Option<&SharedText>) -> Result<(), NoMemory>
-        ensures ok { OnOk result (self.new ≡ posted self.old.value place (option_copied product.entry) (Some self.old)) }
+        ensures ok { OnOk result (self.new
+            ≡ posted self.old.value place (option_copied product.entry) (Some self.old)) }
         ensures err { OnErr result (self.new ≡ self.old) }
     {
         let term: &mut Term = &mut self.term;

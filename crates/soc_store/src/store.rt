@@ -80,7 +80,8 @@ impl Store {
 
         // The values rise, each row's is among them, and of some of the rows they are those that one of these has.
         ensures rising { Rising (λ v. v) value_cmp (values_of field self.now) }
-        ensures each { All (λ s. IfSome (value_of s.1 field) (Contains (values_of field self.now))) self.now }
+        ensures each { All (λ s. IfSome (value_of s.1 field) (Contains (values_of field self.now)))
+            self.now }
         ensures of_some { (test : ℕ × List Cell → Bool) → values_of field (filter test self.now)
             ≡ filter (some_has field (filter test self.now)) (values_of field self.now) }
     {
@@ -125,7 +126,8 @@ impl Store {
     /// How many rows have the `i`th value, from 0, which is found as by `term_near`.
     pub fn count_near(&self, field: Field, i: usize, near: &mut usize) -> usize
         requires { i < length (values_of field self.now) }
-        ensures { IfSome (slice_get (values_of field self.now) i) (λ v. result ≡ length (places_of field v self.now)) }
+        ensures { IfSome (slice_get (values_of field self.now) i)
+            (λ v. result ≡ length (places_of field v self.now)) }
     {
         self.fields[usize::from(field.place())].count_near(i, near)
     }

@@ -30,7 +30,8 @@ impl Model for Term {
 
     ghost view = { λ t. record { value = t.value; places = t.places.items; counts = t.counts.items } };
 
-    ghost invariant = { λ t. PlacesInOrder t.places.items × Rising (λ c. c.product) product_cmp t.counts.items };
+    ghost invariant = { λ t. PlacesInOrder t.places.items
+        × Rising (λ c. c.product) product_cmp t.counts.items };
 }
 
 impl Term {
@@ -41,7 +42,8 @@ impl Term {
         place: u32,
         product: Option<&SharedText>,
     ) -> Result<Term, NoMemory>
-        ensures { IfOk result (λ term. term ≡ posted value.now place (option_copied product.entry) None) }
+        ensures { IfOk result (λ term. term
+            ≡ posted value.now place (option_copied product.entry) None) }
     {
         let mut places: Places = SmallVec::new(alloc);
         places.push(place)?;
@@ -56,7 +58,8 @@ impl Term {
 
     /// One more row that has the value.
     pub(crate) fn add(&mut self, place: u32, product: Option<&SharedText>) -> Result<(), NoMemory>
-        ensures ok { OnOk result (self.new ≡ posted self.old.value place (option_copied product.entry) (Some self.old)) }
+        ensures ok { OnOk result (self.new
+            ≡ posted self.old.value place (option_copied product.entry) (Some self.old)) }
         ensures err { OnErr result (self.new ≡ self.old) }
     {
         let i = place_after(self.places.as_slice(), place);
@@ -117,7 +120,8 @@ fn place_after(places: &[u32], place: u32) -> usize
     requires { PlacesInOrder places.now }
     ensures within { result ≤ length places.now }
     ensures below { (k : ℕ) → k < result → slice_index places.now k ≤ place }
-    ensures above { (k : ℕ) → result ≤ k → k < length places.now → place < slice_index places.now k }
+    ensures above { (k : ℕ) → result ≤ k → k < length places.now
+        → place < slice_index places.now k }
 {
     let mut low = 0;
     let mut high = places.len();

@@ -19,8 +19,12 @@ pub(crate) fn add_values(
 ) -> Result<(), NoMemory>
     requires whole { length fields.old ≡ 36 }
     requires postings { (f : ℕ) → f < 36 → ArePostings (slice_index_or fields.old f []) }
-    ensures ok { OnOk result ((f : ℕ) → f < 36 → slice_index_or fields.new f [] ≡ with_posting (value_of row.now f) place (option_copied product.entry) (slice_index_or fields.old f [])) }
-    ensures err { OnErr result ((f : ℕ) → f < 36 → slice_index_or fields.new f [] ≡ slice_index_or fields.old f []) }
+    ensures ok { OnOk result ((f : ℕ) → f < 36
+        → slice_index_or fields.new f []
+        ≡ with_posting (value_of row.now f) place (option_copied product.entry)
+        (slice_index_or fields.old f [])) }
+    ensures err { OnErr result ((f : ℕ) → f < 36
+        → slice_index_or fields.new f [] ≡ slice_index_or fields.old f []) }
 {
     for (added, (field, value)) in row.iter().enumerate() {
         let at = usize::from(field.place());
@@ -43,7 +47,9 @@ pub(crate) fn remove_values(
 )
     requires whole { length fields.old ≡ 36 }
     requires within { count ≤ length row.now }
-    ensures { (f : ℕ) → slice_index_or fields.new f [] ≡ without_posting (value_of (take count row.now) f) place (option_copied product.entry) (slice_index_or fields.old f []) }
+    ensures { (f : ℕ) → slice_index_or fields.new f []
+        ≡ without_posting (value_of (take count row.now) f) place (option_copied product.entry)
+        (slice_index_or fields.old f []) }
 {
     for (field, value) in row.iter().take(count) {
         let at = usize::from(field.place());

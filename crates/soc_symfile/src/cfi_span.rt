@@ -32,7 +32,8 @@ impl<'a> CfiSpan<'a> {
     /// A delta: the offset from which on it applies, and its rules. The first one is 0.
     pub fn delta(&self, i: usize) -> (u64, &'a str)
         requires { i < length (span_of self.now).deltas }
-        ensures { slice_get (span_of self.now).deltas i ≡ Some (record { address = result.0; text = result.1.now }) }
+        ensures { slice_get (span_of self.now).deltas i
+            ≡ Some (record { address = result.0; text = result.1.now }) }
     {
         let delta = &self.deltas[i];
         (delta.address, delta.text)

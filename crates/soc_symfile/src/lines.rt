@@ -22,7 +22,8 @@ fn strip_carriage_return(line: &[u8]) -> &[u8]
 /// The first line, without its end, and what stands behind it. An empty text has none.
 pub fn split_line(text: &[u8]) -> Option<(&[u8], &[u8])>
     ensures { MatchOption result (lines text.now ≡ [])
-        (λ parts. (lines text.now ≡ parts.0.now ∷ lines parts.1.now) × (length parts.1.now < length text.now)) }
+        (λ parts. (lines text.now ≡ parts.0.now ∷ lines parts.1.now)
+        × (length parts.1.now < length text.now)) }
 {
     if text.is_empty() {
         return None;

@@ -28,14 +28,16 @@ const DIGITS: [u8; 256] = [
 
 /// The value of a hexadecimal digit, in either case.
 fn hexadecimal_digit(byte: u8) -> Option<u8>
-    ensures { MatchOption result (16 ≤ digit_value byte) (λ digit. (digit ≡ digit_value byte) × (digit < 16)) }
+    ensures { MatchOption result (16 ≤ digit_value byte)
+        (λ digit. (digit ≡ digit_value byte) × (digit < 16)) }
 {
     let digit = DIGITS[byte as usize];
     if digit < 16 { Some(digit) } else { None }
 }
 
 fn decimal_digit(byte: u8) -> Option<u8>
-    ensures { MatchOption result (10 ≤ digit_value byte) (λ digit. (digit ≡ digit_value byte) × (digit < 10)) }
+    ensures { MatchOption result (10 ≤ digit_value byte)
+        (λ digit. (digit ≡ digit_value byte) × (digit < 10)) }
 {
     match byte {
         b'0'..=b'9' => Some(byte - b'0'),

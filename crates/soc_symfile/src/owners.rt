@@ -11,7 +11,8 @@ pub fn push_owner<'a>(
     extent: Extent<'a>,
     count: usize,
 ) -> Result<(), NoMemory>
-    ensures ok { OnOk result (owners.new.items ≡ owners.old.items ++ record { extent = extent.entry; first = count; end = count } ∷ []) }
+    ensures ok { OnOk result (owners.new.items ≡ owners.old.items
+        ++ record { extent = extent.entry; first = count; end = count } ∷ []) }
     ensures err { OnErr result (owners.new.items ≡ owners.old.items) }
 {
     owners.push(Owner {

@@ -17,7 +17,8 @@ pub struct Place {
 
 /// The places of the records, in their order.
 fn places_of<R: Keyed>(alloc: Global, records: &[R]) -> Result<Vec<Place>, NoMemory>
-    ensures { IfOk result (λ places. places.items ≡ map (λ r. record { key = R.key_of r.1; at = r.0 }) (enumerate_from 0 records.now)) }
+    ensures { IfOk result (λ places. places.items
+        ≡ map (λ r. record { key = R.key_of r.1; at = r.0 }) (enumerate_from 0 records.now)) }
 {
     let places: Vec<Place> = records
         .iter()
@@ -58,7 +59,8 @@ pub fn index<R: Keyed>(alloc: Global, records: &[R]) -> Result<Vec<Place>, NoMem
 /// How many places have a key below this one.
 fn count_below(places: &[Place], key: u64) -> usize
     ensures bound { result ≤ length places.now }
-    ensures point { IsNonDecreasingBy (λ place. place.key) places.now → IsPartitionPoint (λ place. place.key < key) (λ place. key ≤ place.key) places.now result }
+    ensures point { IsNonDecreasingBy (λ place. place.key) places.now
+        → IsPartitionPoint (λ place. place.key < key) (λ place. key ≤ place.key) places.now result }
 {
     places.partition_point(|place| place.key < key)
 }
@@ -66,14 +68,16 @@ fn count_below(places: &[Place], key: u64) -> usize
 /// How many places have this key or one below it.
 fn count_to(places: &[Place], key: u64) -> usize
     ensures bound { result ≤ length places.now }
-    ensures point { IsNonDecreasingBy (λ place. place.key) places.now → IsPartitionPoint (λ place. place.key ≤ key) (λ place. key < place.key) places.now result }
+    ensures point { IsNonDecreasingBy (λ place. place.key) places.now
+        → IsPartitionPoint (λ place. place.key ≤ key) (λ place. key < place.key) places.now result }
 {
     places.partition_point(|place| place.key <= key)
 }
 
 /// The first record of the key.
 pub fn first_of(places: &[Place], key: u64) -> Option<usize>
-    ensures { (keys : List ℕ) → IsIndex places.now keys → MatchOption result (HasNone keys key) (IsFirstOf keys key) }
+    ensures { (keys : List ℕ) → IsIndex places.now keys
+        → MatchOption result (HasNone keys key) (IsFirstOf keys key) }
 {
     let count = count_below(places, key);
     if count == places.len() {
@@ -89,7 +93,8 @@ pub fn first_of(places: &[Place], key: u64) -> Option<usize>
 
 /// The last record of the key.
 pub fn last_of(places: &[Place], key: u64) -> Option<usize>
-    ensures { (keys : List ℕ) → IsIndex places.now keys → MatchOption result (HasNone keys key) (IsLastOf keys key) }
+    ensures { (keys : List ℕ) → IsIndex places.now keys
+        → MatchOption result (HasNone keys key) (IsLastOf keys key) }
 {
     let count = count_to(places, key);
     if count == 0 {
@@ -105,7 +110,8 @@ pub fn last_of(places: &[Place], key: u64) -> Option<usize>
 
 /// The first record of the greatest key at or below the offset.
 pub fn nearest(places: &[Place], offset: u64) -> Option<usize>
-    ensures { (keys : List ℕ) → IsIndex places.now keys → MatchOption result (AllAbove keys offset) (IsNearest keys offset) }
+    ensures { (keys : List ℕ) → IsIndex places.now keys
+        → MatchOption result (AllAbove keys offset) (IsNearest keys offset) }
 {
     let count = count_to(places, offset);
     if count == 0 {

@@ -75,7 +75,8 @@ impl<'a> SymFile<'a> {
 
     /// The function that covers an offset.
     fn function_at(&self, offset: u64) -> Option<Owned<'_, SourceLine>>
-        ensures { option_map (λ owned. (extent_entry owned.extent, owned.parts.now)) result ≡ owner_at self.now.functions offset }
+        ensures { option_map (λ owned. (extent_entry owned.extent, owned.parts.now)) result
+            ≡ owner_at self.now.functions offset }
     {
         let at = nearest(self.functions.as_slice(), offset)?;
         let function = self.tables.function(at);
@@ -88,7 +89,8 @@ impl<'a> SymFile<'a> {
 
     /// The INIT that covers an offset.
     fn init_at(&self, offset: u64) -> Option<Owned<'_, Label<'_>>>
-        ensures { option_map (λ owned. (extent_entry owned.extent, map label_entry owned.parts.now)) result ≡ owner_at self.now.inits offset }
+        ensures { option_map (λ owned. (extent_entry owned.extent, map label_entry owned.parts.now))
+            result ≡ owner_at self.now.inits offset }
     {
         let at = nearest(self.inits.as_slice(), offset)?;
         let init = self.tables.init(at);

@@ -57,7 +57,9 @@ impl<'a> Tables<'a> {
 
     /// Adds a function that has no source lines yet.
     fn add_function(&mut self, extent: Extent<'a>) -> Result<(), NoMemory>
-        ensures { OnOk result (self.new ≡ with_functions self.old (self.old.functions ++ (extent_entry extent.entry, []) ∷ [])) }
+        ensures { OnOk result (self.new
+            ≡ with_functions self.old (self.old.functions
+            ++ (extent_entry extent.entry, []) ∷ [])) }
     {
         push_owner(&mut self.functions, extent, self.sources.len())
     }
@@ -65,7 +67,8 @@ impl<'a> Tables<'a> {
     /// Adds a source line to the last function.
     fn add_source(&mut self, line: SourceLine) -> Result<(), NoMemory>
         requires { 0 < length self.old.functions }
-        ensures { OnOk result (self.new ≡ with_functions self.old (onto_last line self.old.functions)) }
+        ensures { OnOk result (self.new
+            ≡ with_functions self.old (onto_last line self.old.functions)) }
     {
         self.sources.push(line)?;
         extend_last(&mut self.functions, self.sources.len());
@@ -73,14 +76,16 @@ impl<'a> Tables<'a> {
     }
 
     fn add_public(&mut self, label: Label<'a>) -> Result<(), NoMemory>
-        ensures { OnOk result (self.new ≡ with_publics self.old (self.old.publics ++ label_entry label.entry ∷ [])) }
+        ensures { OnOk result (self.new
+            ≡ with_publics self.old (self.old.publics ++ label_entry label.entry ∷ [])) }
     {
         self.publics.push(label)?;
         Ok(())
     }
 
     fn add_file(&mut self, file: File<'a>) -> Result<(), NoMemory>
-        ensures { OnOk result (self.new ≡ with_files self.old (self.old.files ++ file_entry file.entry ∷ [])) }
+        ensures { OnOk result (self.new
+            ≡ with_files self.old (self.old.files ++ file_entry file.entry ∷ [])) }
     {
         self.files.push(file)?;
         Ok(())
@@ -88,7 +93,8 @@ impl<'a> Tables<'a> {
 
     /// Adds an INIT that has no deltas yet.
     fn add_init(&mut self, extent: Extent<'a>) -> Result<(), NoMemory>
-        ensures { OnOk result (self.new ≡ with_inits self.old (self.old.inits ++ (extent_entry extent.entry, []) ∷ [])) }
+        ensures { OnOk result (self.new
+            ≡ with_inits self.old (self.old.inits ++ (extent_entry extent.entry, []) ∷ [])) }
     {
         push_owner(&mut self.inits, extent, self.deltas.len())
     }
@@ -96,7 +102,8 @@ impl<'a> Tables<'a> {
     /// Adds a delta to the last INIT.
     fn add_delta(&mut self, label: Label<'a>) -> Result<(), NoMemory>
         requires { 0 < length self.old.inits }
-        ensures { OnOk result (self.new ≡ with_inits self.old (onto_last (label_entry label.entry) self.old.inits)) }
+        ensures { OnOk result (self.new
+            ≡ with_inits self.old (onto_last (label_entry label.entry) self.old.inits)) }
     {
         self.deltas.push(label)?;
         extend_last(&mut self.inits, self.deltas.len());
@@ -118,7 +125,8 @@ impl<'a> Tables<'a> {
     /// Adds what the line of a number says. A record that belongs to a function or an INIT is
     /// refused where none stands before it.
     pub fn add(&mut self, number: u64, line: Line<'a>) -> Result<(), SymError>
-        ensures { (said : List LineEntry) → self.old ≡ records_in said → Adds result said (line_entry line.entry) number self.new }
+        ensures { (said : List LineEntry) → self.old ≡ records_in said
+            → Adds result said (line_entry line.entry) number self.new }
     {
         let bad = SymError::BadLine { line: number };
         match line {
@@ -145,14 +153,16 @@ impl<'a> Tables<'a> {
 
     /// The places of the functions, by address.
     pub fn function_places(&self, alloc: Global) -> Result<Vec<Place>, NoMemory>
-        ensures { IfOk result (λ places. IsIndex places.items (map owner_address self.now.functions)) }
+        ensures { IfOk result (λ places.
+            IsIndex places.items (map owner_address self.now.functions)) }
     {
         index(alloc, self.functions.as_slice())
     }
 
     /// The places of the public symbols, by address.
     pub fn public_places(&self, alloc: Global) -> Result<Vec<Place>, NoMemory>
-        ensures { IfOk result (λ places. IsIndex places.items (map label_address self.now.publics)) }
+        ensures { IfOk result (λ places.
+            IsIndex places.items (map label_address self.now.publics)) }
     {
         index(alloc, self.publics.as_slice())
     }
@@ -174,7 +184,8 @@ impl<'a> Tables<'a> {
     /// A function with its source lines.
     pub fn function(&self, at: usize) -> Owned<'_, SourceLine>
         requires { at < length self.now.functions }
-        ensures { slice_get self.now.functions at ≡ Some (extent_entry result.extent, result.parts.now) }
+        ensures { slice_get self.now.functions at
+            ≡ Some (extent_entry result.extent, result.parts.now) }
     {
         owned_at(self.functions.as_slice(), self.sources.as_slice(), at)
     }
@@ -198,7 +209,8 @@ impl<'a> Tables<'a> {
     /// An INIT with its deltas.
     pub fn init(&self, at: usize) -> Owned<'_, Label<'_>>
         requires { at < length self.now.inits }
-        ensures { slice_get self.now.inits at ≡ Some (extent_entry result.extent, map label_entry result.parts.now) }
+        ensures { slice_get self.now.inits at
+            ≡ Some (extent_entry result.extent, map label_entry result.parts.now) }
     {
         owned_at(self.inits.as_slice(), self.deltas.as_slice(), at)
     }

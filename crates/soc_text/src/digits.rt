@@ -22,7 +22,8 @@ pub fn two_digits(number: u8) -> [u8; 2]
 /// The number that 1 to `most` digits write, leading zeros allowed, and no sign. Nineteen digits fit 64 bits.
 pub fn number(bytes: &[u8], most: usize) -> Option<u64>
     requires { most ≤ 19 }
-    ensures { MatchOption result (¬ (IsNumber most bytes.now)) (λ n. IsNumber most bytes.now × (n ≡ digits_value 10 bytes.now)) }
+    ensures { MatchOption result (¬ (IsNumber most bytes.now))
+        (λ n. IsNumber most bytes.now × (n ≡ digits_value 10 bytes.now)) }
 {
     if bytes.is_empty() || bytes.len() > most {
         return None;

@@ -4,14 +4,16 @@ ghost use Rattle.std.specs.Prelude.{◌≡◌, ◌++◌, List, ℕ, take, drop, 
 
 /// What stands behind `front`, where the bytes begin with it.
 pub fn strip_front<'a>(bytes: &'a [u8], front: &[u8]) -> Option<&'a [u8]>
-    ensures { MatchOption result ((rest : List ℕ) → ¬ (bytes.now ≡ front.now ++ rest)) (λ rest. bytes.now ≡ front.now ++ rest.now) }
+    ensures { MatchOption result ((rest : List ℕ) → ¬ (bytes.now ≡ front.now ++ rest))
+        (λ rest. bytes.now ≡ front.now ++ rest.now) }
 {
     bytes.strip_prefix(front)
 }
 
 /// What stands before `back`, where the bytes end with it.
 pub fn strip_back<'a>(bytes: &'a [u8], back: &[u8]) -> Option<&'a [u8]>
-    ensures { MatchOption result ((rest : List ℕ) → ¬ (bytes.now ≡ rest ++ back.now)) (λ rest. bytes.now ≡ rest.now ++ back.now) }
+    ensures { MatchOption result ((rest : List ℕ) → ¬ (bytes.now ≡ rest ++ back.now))
+        (λ rest. bytes.now ≡ rest.now ++ back.now) }
 {
     bytes.strip_suffix(back)
 }

@@ -12,7 +12,8 @@ fn is_separator(byte: u8) -> bool
 /// Where the base name of a path begins.
 fn base_start(path: &[u8]) -> usize
     ensures bound { result ≤ length path.now }
-    ensures value { result + suffix_len (λ byte. not (is_separator byte)) path.now ≡ length path.now }
+    ensures value { result + suffix_len (λ byte. not (is_separator byte)) path.now
+        ≡ length path.now }
     ensures behind { 0 < result → slice_index path.now (result - 1) < 128 }
 {
     let mut start = path.len();

@@ -109,7 +109,8 @@ fn condition_of(alloc: Global, form: Form, table: &Table) -> Result<Option<Condi
 }
 
 fn present_of(alloc: Global, table: &Table) -> Result<Option<Condition>, NoMemory>
-    ensures { IfOk result (λ condition. condition ≡ spec.condition_of Form.Present (table_view table.now)) }
+    ensures { IfOk result (λ condition. condition
+        ≡ spec.condition_of Form.Present (table_view table.now)) }
 {
     match text_at(table, "key") {
         Some(key) => Ok(Some(Condition::Present {
@@ -121,7 +122,8 @@ fn present_of(alloc: Global, table: &Table) -> Result<Option<Condition>, NoMemor
 
 /// The key and the text that a rule compares.
 fn compared(alloc: Global, table: &Table) -> Result<Option<KeyAndValue>, NoMemory>
-    ensures { IfOk result (λ pair. option_map (λ p. (p.key, p.value)) pair ≡ spec.compared (table_view table.now)) }
+    ensures { IfOk result (λ pair. option_map (λ p. (p.key, p.value)) pair
+        ≡ spec.compared (table_view table.now)) }
 {
     let Some(key) = text_at(table, "key") else {
         return Ok(None);
@@ -136,7 +138,8 @@ fn compared(alloc: Global, table: &Table) -> Result<Option<KeyAndValue>, NoMemor
 }
 
 fn one_of(alloc: Global, table: &Table) -> Result<Option<Condition>, NoMemory>
-    ensures { IfOk result (λ condition. condition ≡ spec.condition_of Form.OneOf (table_view table.now)) }
+    ensures { IfOk result (λ condition. condition
+        ≡ spec.condition_of Form.OneOf (table_view table.now)) }
 {
     let Some(key) = text_at(table, "key") else {
         return Ok(None);

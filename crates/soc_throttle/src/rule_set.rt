@@ -107,7 +107,8 @@ impl RuleSet {
 
     /// What becomes of a crash with these annotations. All rules use one draw.
     pub fn verdict<'a>(&'a self, annotations: &Texts, draw: u64) -> Verdict<'a>
-        ensures verdict { (result.rule.now, result.outcome) ≡ verdicts.verdict_of self.now annotations.now draw }
+        ensures verdict { (result.rule.now, result.outcome)
+            ≡ verdicts.verdict_of self.now annotations.now draw }
         ensures short { length result.rule.now ≤ 40 }
     {
         match first_deciding(self.rules.as_slice(), annotations, draw) {

@@ -105,7 +105,8 @@ pub fn number_or(table: &Table, key: &str, default: u64, low: u64, high: u64) ->
 
 /// The first key in byte order that is none of the names. A table holds its keys in that order.
 pub fn first_other_key<'a>(table: &'a Table, names: &[&str]) -> Option<&'a str>
-    ensures first { option_copied result ≡ spec.first_other (map (λ name. name.now) names.now) (table_view table.now) }
+    ensures first { option_copied result
+        ≡ spec.first_other (map (λ name. name.now) names.now) (table_view table.now) }
     ensures rising { IsTrue (spec.keys_rise (table_view table.now)) }
 {
     for (key, _value) in table.iter() {

@@ -40,7 +40,8 @@ pub fn texts_within(alloc: Global, value: &Value, most: usize) -> Result<Option<
 }
 
 fn array_within(value: &Value, most: usize) -> Option<&Array>
-    ensures { option_map (λ array. array_view array.now) result ≡ option_and_then (spec.within most) (as_array (view value.now)) }
+    ensures { option_map (λ array. array_view array.now) result
+        ≡ option_and_then (spec.within most) (as_array (view value.now)) }
 {
     let array = value.as_array()?;
     if array.len() <= most {

@@ -53,7 +53,8 @@ impl Given {
     /// One more.
     fn add(&mut self, alloc: Global, name: &str, value: &str) -> Result<(), TopsError>
         ensures ok { OnOk result (with_pair self.old name.entry.now value.entry.now ≡ Ok self.new) }
-        ensures refused { IfErr result (IsRefusal (with_pair self.old name.entry.now value.entry.now)) }
+        ensures refused { IfErr result
+            (IsRefusal (with_pair self.old name.entry.now value.entry.now)) }
     {
         match name {
             "product" => fill_text(alloc, &mut self.product, name, value),
@@ -76,7 +77,8 @@ fn fill_text(
     value: &str,
 ) -> Result<(), TopsError>
     ensures ok { OnOk result (filled name.entry.now into.old (Some value.entry.now) ≡ Ok into.new) }
-    ensures refused { IfErr result (IsRefusal (filled name.entry.now into.old (Some value.entry.now))) }
+    ensures refused { IfErr result
+        (IsRefusal (filled name.entry.now into.old (Some value.entry.now))) }
 {
     if into.is_some() {
         return Err(bad(alloc, name)?);
@@ -92,8 +94,10 @@ fn fill_day(
     name: &str,
     value: &str,
 ) -> Result<(), TopsError>
-    ensures ok { OnOk result (filled name.entry.now into.old (day_of value.entry.now) ≡ Ok into.new) }
-    ensures refused { IfErr result (IsRefusal (filled name.entry.now into.old (day_of value.entry.now))) }
+    ensures ok { OnOk result (filled name.entry.now into.old (day_of value.entry.now)
+        ≡ Ok into.new) }
+    ensures refused { IfErr result
+        (IsRefusal (filled name.entry.now into.old (day_of value.entry.now))) }
 {
     if into.is_some() || !is_day(value) {
         return Err(bad(alloc, name)?);
@@ -109,8 +113,10 @@ fn fill_limit(
     name: &str,
     value: &str,
 ) -> Result<(), TopsError>
-    ensures ok { OnOk result (filled name.entry.now into.old (limit_of value.entry.now) ≡ Ok into.new) }
-    ensures refused { IfErr result (IsRefusal (filled name.entry.now into.old (limit_of value.entry.now))) }
+    ensures ok { OnOk result (filled name.entry.now into.old (limit_of value.entry.now)
+        ≡ Ok into.new) }
+    ensures refused { IfErr result
+        (IsRefusal (filled name.entry.now into.old (limit_of value.entry.now))) }
 {
     let limit = limit_of(value);
     if into.is_some() || limit.is_none() {

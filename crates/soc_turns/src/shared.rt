@@ -25,7 +25,10 @@ pub struct SharedBook<'a, D: Telling, R: Reporter> {
     pub(crate) book: Book<'a, D, R>,
     // The disk as it was when the book was opened.
     pub(crate) opened: Snapshot<D>,
-    ghost stands: { ∥ ((state : State) × Stands (desk_basis (R.row_of book.reporter.now) (R.digest_of book.reporter.now) book.limits D.tells) book.limits book.ledger book.store book.doubt book.vault.journal (D.state book.vault.disk.now) state) ∥₁ },
+    ghost stands: { ∥ ((state : State)
+        × Stands (desk_basis (R.row_of book.reporter.now)
+        (R.digest_of book.reporter.now) book.limits D.tells) book.limits book.ledger book.store
+        book.doubt book.vault.journal (D.state book.vault.disk.now) state) ∥₁ },
     ghost goes_on: { ∥ GoesOn (D.state opened.value) (D.state book.vault.disk.now) ∥₁ },
 }
 
@@ -40,8 +43,12 @@ impl<'a, D: Telling, R: Reporter> SharedBook<'a, D, R> {
         opened: Snapshot<D>,
     ) -> SharedBook<'a, D, R>
         requires settled { restored.journal.doubt ≡ None }
-        requires opens { (basis : Basis) → IsBasisOf (R.row_of reporter.now) (R.digest_of reporter.now) limits (D.state opened.value).content basis
-            → OpensBook basis (D.state opened.value) (D.state disk.old) (Stands basis limits restored.ledger restored.store None restored.journal (D.state disk.old)) }
+        requires opens { (basis : Basis)
+            → IsBasisOf (R.row_of reporter.now) (R.digest_of reporter.now) limits
+            (D.state opened.value).content basis
+            → OpensBook basis (D.state opened.value) (D.state disk.old)
+            (Stands basis limits restored.ledger restored.store None restored.journal
+            (D.state disk.old)) }
         requires goes_on { GoesOn (D.state opened.value) (D.state disk.old) }
         ensures same_disk { result.book.vault.disk.ghost_name ≡ disk.entry.ghost_name }
         ensures disk { result.book.vault.disk.now ≡ disk.old }
@@ -59,7 +66,10 @@ impl<'a, D: Telling, R: Reporter> SharedBook<'a, D, R> {
 
     /// A book to be shared, over a disk that was so when the book was opened.
     fn new(book: Book<'a, D, R>, opened: Snapshot<D>) -> SharedBook<'a, D, R>
-        requires stands { (state : State) × Stands (desk_basis (R.row_of book.reporter.now) (R.digest_of book.reporter.now) book.limits D.tells) book.limits book.ledger book.store book.doubt book.vault.journal (D.state book.vault.disk.now) state }
+        requires stands { (state : State)
+            × Stands (desk_basis (R.row_of book.reporter.now)
+            (R.digest_of book.reporter.now) book.limits D.tells) book.limits book.ledger book.store
+            book.doubt book.vault.journal (D.state book.vault.disk.now) state }
         requires goes_on { GoesOn (D.state opened.value) (D.state book.vault.disk.now) }
         ensures book { result.book ≡ book.entry }
         ensures opened { result.opened.value ≡ opened.value }
@@ -103,7 +113,9 @@ impl<'a, D: Telling, R: Reporter> Logged for SharedBook<'a, D, R> {
 
     type Basis = Grounds<R, D>;
 
-    ghost log_of = { λ s. changes_at (body_at D.tells (D.state s.book.vault.disk.now).content) s.book.ledger.log s.book.ledger.crashes };
+    ghost log_of = { λ s. changes_at
+        (body_at D.tells (D.state s.book.vault.disk.now).content) s.book.ledger.log
+        s.book.ledger.crashes };
 
     ghost basis_of = { λ s. record {
       reporter = s.book.reporter.now;
@@ -112,18 +124,24 @@ impl<'a, D: Telling, R: Reporter> Logged for SharedBook<'a, D, R> {
       opened = s.opened.value;
     } };
 
-    ghost asks = { λ before command receipt after. (after.book.vault.disk.ghost_name ≡ before.book.vault.disk.ghost_name)
+    ghost asks = { λ before command receipt after.
+        (after.book.vault.disk.ghost_name ≡ before.book.vault.disk.ghost_name)
         × (after.book.limits ≡ before.book.limits)
         × (after.book.reporter.now ≡ before.book.reporter.now)
         × IsReplyTo command receipt.reply
-        × AsksBook (R.row_of before.book.reporter.now) (λ basis state. Stands basis before.book.limits before.book.ledger before.book.store before.book.doubt before.book.vault.journal (D.state before.book.vault.disk.now) state)
+        × AsksBook (R.row_of before.book.reporter.now)
+        (λ basis state. Stands basis before.book.limits before.book.ledger before.book.store
+        before.book.doubt before.book.vault.journal (D.state before.book.vault.disk.now) state)
         (D.state before.book.vault.disk.now) command receipt
-        (λ basis state. Stands basis after.book.limits after.book.ledger after.book.store after.book.doubt after.book.vault.journal (D.state after.book.vault.disk.now) state)
+        (λ basis state. Stands basis after.book.limits after.book.ledger after.book.store
+        after.book.doubt after.book.vault.journal (D.state after.book.vault.disk.now) state)
         (D.state after.book.vault.disk.now) };
 
-    ghost answers = { λ basis log command receipt log'. ∥ Answers (desk_by R.row_of R.digest_of D.tells basis) log command receipt log' ∥₁ };
+    ghost answers = { λ basis log command receipt log'.
+        ∥ Answers (desk_by R.row_of R.digest_of D.tells basis) log command receipt log' ∥₁ };
 
-    ghost may_ask = { λ basis log command. MayAsk (desk_by R.row_of R.digest_of D.tells basis) log command };
+    ghost may_ask = { λ basis log command.
+        MayAsk (desk_by R.row_of R.digest_of D.tells basis) log command };
 
     fn turn(&mut self, command: Prepared) -> Receipt {
         self.book.ask_prepared(command)
@@ -133,7 +151,8 @@ impl<'a, D: Telling, R: Reporter> Logged for SharedBook<'a, D, R> {
         self.book.front()
     }
 
-    ghost may_still = { λ basis log more command may. may_still (desk_by R.row_of R.digest_of D.tells basis) log more command may };
+    ghost may_still = { λ basis log more command may.
+        may_still (desk_by R.row_of R.digest_of D.tells basis) log more command may };
 }
 
 impl<'a, D: Telling, R: Reporter> SharedDesk for SharedBook<'a, D, R> {

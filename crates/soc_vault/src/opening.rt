@@ -27,16 +27,22 @@ pub fn open<D: Disk, R: Recover>(
     into: &mut R,
 ) -> Result<Journal, OpenError>
     requires { (start : ℕ) → R.was_given into.old start [] }
-    ensures opens { IfOk result (λ journal. Opens (R.was_given into.new) limit (D.state disk.old) (D.state disk.new) journal) }
+    ensures opens { IfOk result (λ journal.
+        Opens (R.was_given into.new) limit (D.state disk.old) (D.state disk.new) journal) }
     ensures name_stays { R.name into.new ≡ R.name into.old }
-    ensures not_ours { IsErrOf result OpenError.NotOurs → IfSome (D.state disk.old).content (λ bytes. (bytes ≢ []) × ¬ (HasHeader bytes)) }
-    ensures bad_entry { (place : ℕ) → IsErrOf result (OpenError.BadEntry place) → IfSome (D.state disk.old).content (λ bytes. StopsAt R.was_given R.refuses into.new bytes place) }
+    ensures not_ours { IsErrOf result OpenError.NotOurs
+        → IfSome (D.state disk.old).content (λ bytes. (bytes ≢ []) × ¬ (HasHeader bytes)) }
+    ensures bad_entry { (place : ℕ) → IsErrOf result (OpenError.BadEntry place)
+        → IfSome (D.state disk.old).content
+        (λ bytes. StopsAt R.was_given R.refuses into.new bytes place) }
     ensures any_moment { IfSome (D.state disk.old).content (λ bytes.
         LeavesOnly (D.state disk.old) (D.state disk.new) (OpeningLeaves (D.state disk.old).images bytes)) }
-    ensures refused { IfErr result (λ error. error ≢ OpenError.StoreFault → IfSome (D.state disk.old).content (λ bytes.
+    ensures refused { IfErr result
+        (λ error. error ≢ OpenError.StoreFault → IfSome (D.state disk.old).content (λ bytes.
         bytes ≢ [] → Looks (D.state disk.old) (D.state disk.new))) }
     ensures goes_on { GoesOn (D.state disk.old) (D.state disk.new) }
-    ensures cause { IsErrOf result OpenError.StoreFault → DiskFailed (D.state disk.old) (D.state disk.new) }
+    ensures cause { IsErrOf result OpenError.StoreFault
+        → DiskFailed (D.state disk.old) (D.state disk.new) }
 {
     text_is_one();
     fault_is_one();
@@ -53,15 +59,21 @@ fn give_all<D: Disk, R: Recover>(
     into: &mut R,
 ) -> Result<Opening, OpenError>
     requires fresh { (start : ℕ) → R.was_given into.old start [] }
-    requires reads { IfSome (D.state disk.old).content (λ bytes. HasRead opening [] bytes (D.state disk.old).images) }
-    ensures given { IfOk result (λ all. HasGivenAll (R.was_given into.new) all (D.state disk.old).content (D.state disk.new).images) }
+    requires reads { IfSome (D.state disk.old).content
+        (λ bytes. HasRead opening [] bytes (D.state disk.old).images) }
+    ensures given { IfOk result (λ all.
+        HasGivenAll (R.was_given into.new) all (D.state disk.old).content
+        (D.state disk.new).images) }
     ensures name_stays { R.name into.new ≡ R.name into.old }
     ensures ended { IfOk result (λ all. IsTrue all.ended) }
     ensures limit { IfOk result (λ all. all.limit ≡ opening.limit) }
-    ensures bad_entry { (place : ℕ) → IsErrOf result (OpenError.BadEntry place) → IfSome (D.state disk.old).content (λ bytes. StopsAt R.was_given R.refuses into.new bytes place) }
+    ensures bad_entry { (place : ℕ) → IsErrOf result (OpenError.BadEntry place)
+        → IfSome (D.state disk.old).content
+        (λ bytes. StopsAt R.was_given R.refuses into.new bytes place) }
     ensures no_other { IfErr result (λ error. error ≢ OpenError.NotOurs) }
     ensures looks { Looks (D.state disk.old) (D.state disk.new) }
-    ensures cause { IsErrOf result OpenError.StoreFault → DiskFailed (D.state disk.old) (D.state disk.new) }
+    ensures cause { IsErrOf result OpenError.StoreFault
+        → DiskFailed (D.state disk.old) (D.state disk.new) }
 {
     let mut opening = opening;
     while let Some(found) = find_next(alloc, disk, &mut opening)? {
@@ -76,17 +88,24 @@ fn find_next<D: Disk>(
     disk: &mut D,
     opening: &mut Opening,
 ) -> Result<Option<Found>, OpenError>
-    ensures finds { IfSome (D.state disk.old).content (λ bytes. (entries : List Entry) → HasRead opening.old entries bytes (D.state disk.old).images
+    ensures finds { IfSome (D.state disk.old).content
+        (λ bytes. (entries : List Entry)
+        → HasRead opening.old entries bytes (D.state disk.old).images
         → FindsNext entries bytes (D.state disk.new).images result opening.new) }
     ensures moves { IfOk result (λ next. MovesBy opening.old next opening.new) }
-    ensures counts { IfOk result (λ next. IfSome next (λ found. IsEntryOf second_version (entry_of found))) }
-    ensures within { IfOk result (λ next. IfSome next (λ found. found.place + head_size + length found.body < 2 ^ 64)) }
-    ensures opening { opening.new ≡ record opening.old { place = opening.new.place; ended = opening.new.ended } }
+    ensures counts { IfOk result (λ next.
+        IfSome next (λ found. IsEntryOf second_version (entry_of found))) }
+    ensures within { IfOk result (λ next.
+        IfSome next (λ found. found.place + head_size + length found.body < 2 ^ 64)) }
+    ensures opening { opening.new ≡ record opening.old
+        { place = opening.new.place; ended = opening.new.ended } }
     ensures ended { IfOk result (λ next. opening.new.ended ≡ is_none next) }
-    ensures bad_place { (place : ℕ) → IsErrOf result (OpenError.BadEntry place) → place ≡ opening.old.place }
+    ensures bad_place { (place : ℕ) → IsErrOf result (OpenError.BadEntry place)
+        → place ≡ opening.old.place }
     ensures no_other { IfErr result (λ error. error ≢ OpenError.NotOurs) }
     ensures looks { Looks (D.state disk.old) (D.state disk.new) }
-    ensures cause { IsErrOf result OpenError.StoreFault → DiskFailed (D.state disk.old) (D.state disk.new) }
+    ensures cause { IsErrOf result OpenError.StoreFault
+        → DiskFailed (D.state disk.old) (D.state disk.new) }
 {
     let Some(mark) = opening.next(disk)? else {
         return Ok(None);
@@ -109,7 +128,8 @@ fn find_next<D: Disk>(
 // Why an entry whose body isn't read isn't opened.
 fn unread(error: ReadError, place: u64) -> OpenError
     ensures fault { (result ≡ OpenError.StoreFault) → (error ≡ ReadError.StoreFault) }
-    ensures altered { (at : ℕ) → result ≡ OpenError.BadEntry at → (error ≡ ReadError.Altered) × (at ≡ place) }
+    ensures altered { (at : ℕ) → result ≡ OpenError.BadEntry at → (error ≡ ReadError.Altered)
+        × (at ≡ place) }
     ensures no_other { result ≢ OpenError.NotOurs }
 {
     match error {

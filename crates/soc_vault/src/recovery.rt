@@ -35,9 +35,13 @@ pub trait Recover {
         requires short { length found.body ≤ max_body }
         requires within { found.place + head_size + length found.body < 2 ^ 64 }
         ensures name_stays { name self.new ≡ name self.old }
-        ensures given { OnOk result ((start : ℕ) (entries : List Entry) → found.place ≡ place_from start entries
-            → was_given self.old start entries → was_given self.new start (entries ++ entry_of found ∷ [])) }
-        ensures refused { IfErr result (λ error. (error ≡ OpenError.NoMemory) ⊎ ((error ≡ OpenError.BadEntry found.place)
-            × ((start : ℕ) (entries : List Entry) → found.place ≡ place_from start entries → was_given self.old start entries
+        ensures given { OnOk result ((start : ℕ) (entries : List Entry)
+            → found.place ≡ place_from start entries
+            → was_given self.old start entries
+            → was_given self.new start (entries ++ entry_of found ∷ [])) }
+        ensures refused { IfErr result
+            (λ error. (error ≡ OpenError.NoMemory) ⊎ ((error ≡ OpenError.BadEntry found.place)
+            × ((start : ℕ) (entries : List Entry) → found.place ≡ place_from start entries
+            → was_given self.old start entries
             → refuses entries (entry_of found)))) };
 }

@@ -57,13 +57,15 @@ impl<'a, D: Disk> Vault<'a, D> {
         ensures journal { self.new.journal ≡ journal_after self.old.journal result }
         ensures settled { IfOk result (λ settled. (entries : List Entry) (doubt : List Entry)
             → Means (D.state self.old.disk.now) self.old.journal entries doubt
-            → Means (D.state self.new.disk.now) self.new.journal (settled_entries entries doubt settled) []) }
+            → Means (D.state self.new.disk.now) self.new.journal
+            (settled_entries entries doubt settled) []) }
         ensures still_in_doubt { OnErr result ((entries : List Entry) (doubt : List Entry)
             → Means (D.state self.old.disk.now) self.old.journal entries doubt
             → Means (D.state self.new.disk.now) self.new.journal entries doubt) }
         ensures disk_stays { Looks (D.state self.old.disk.now) (D.state self.new.disk.now) }
         ensures calls { (D.state self.new.disk.now).calls ≤ (D.state self.old.disk.now).calls + 2 }
-        ensures cause { OnErr result (DiskFailed (D.state self.old.disk.now) (D.state self.new.disk.now)) }
+        ensures cause { OnErr result (DiskFailed (D.state self.old.disk.now)
+            (D.state self.new.disk.now)) }
     {
         self.journal.mend(self.disk)
     }
@@ -77,27 +79,36 @@ impl<'a, D: Disk> Vault<'a, D> {
         ensures same_disk { self.new.disk.ghost_name ≡ self.old.disk.ghost_name }
         ensures full { IsErrOf result AppendError.JournalFull
             ↔ (self.old.journal.limit < self.old.journal.gate + beside_body + length entry.now.body) }
-        ensures full_journal { IsErrOf result AppendError.JournalFull → self.new.journal ≡ self.old.journal }
-        ensures full_disk { IsErrOf result AppendError.JournalFull → self.new.disk.now ≡ self.old.disk.now }
+        ensures full_journal { IsErrOf result AppendError.JournalFull
+            → self.new.journal ≡ self.old.journal }
+        ensures full_disk { IsErrOf result AppendError.JournalFull
+            → self.new.disk.now ≡ self.old.disk.now }
         ensures place { IfOk result (λ place. place ≡ self.old.journal.gate) }
         ensures journal { OnOk result (self.new.journal
-            ≡ record self.old.journal { gate = self.old.journal.gate + length (entry_text entry.now) }) }
+            ≡ record self.old.journal {
+              gate = self.old.journal.gate + length
+                  (entry_text entry.now);
+            }) }
         ensures doubt { IsErrOf result AppendError.StoreFault → self.new.journal
             ≡ record self.old.journal { doubt = Some (length (entry_text entry.now)) } }
 
         // It stands behind the entries, acknowledged: each image that a stop may leave has it.
-        ensures kept { OnOk result ((entries : List Entry) → Means (D.state self.old.disk.now) self.old.journal entries []
+        ensures kept { OnOk result ((entries : List Entry)
+            → Means (D.state self.old.disk.now) self.old.journal entries []
             → Means (D.state self.new.disk.now) self.new.journal (entries ++ entry.now ∷ []) []) }
         ensures in_doubt { IsErrOf result AppendError.StoreFault → (entries : List Entry)
             → Means (D.state self.old.disk.now) self.old.journal entries []
             → Means (D.state self.new.disk.now) self.new.journal entries (entry.now ∷ []) }
 
         // A stop at any moment of the call leaves the entries from before it, or those and this one.
-        ensures any_moment { (entries : List Entry) → Means (D.state self.old.disk.now) self.old.journal entries []
-            → LeavesOnly (D.state self.old.disk.now) (D.state self.new.disk.now) (StandsFor entries (entry.now ∷ [])) }
+        ensures any_moment { (entries : List Entry)
+            → Means (D.state self.old.disk.now) self.old.journal entries []
+            → LeavesOnly (D.state self.old.disk.now) (D.state self.new.disk.now)
+            (StandsFor entries (entry.now ∷ [])) }
         ensures goes_on { GoesOn (D.state self.old.disk.now) (D.state self.new.disk.now) }
         ensures calls { (D.state self.new.disk.now).calls ≤ (D.state self.old.disk.now).calls + 4 }
-        ensures cause { IsErrOf result AppendError.StoreFault → DiskFailed (D.state self.old.disk.now) (D.state self.new.disk.now) }
+        ensures cause { IsErrOf result AppendError.StoreFault
+            → DiskFailed (D.state self.old.disk.now) (D.state self.new.disk.now) }
     {
         self.journal.append(self.disk, entry)
     }
@@ -113,27 +124,37 @@ impl<'a, D: Disk> Vault<'a, D> {
         ensures same_disk { self.new.disk.ghost_name ≡ self.old.disk.ghost_name }
         ensures full { IsErrOf result AppendError.JournalFull
             ↔ (self.old.journal.limit < self.old.journal.gate + length (sealed_all entries.now)) }
-        ensures full_journal { IsErrOf result AppendError.JournalFull → self.new.journal ≡ self.old.journal }
-        ensures full_disk { IsErrOf result AppendError.JournalFull → self.new.disk.now ≡ self.old.disk.now }
+        ensures full_journal { IsErrOf result AppendError.JournalFull
+            → self.new.journal ≡ self.old.journal }
+        ensures full_disk { IsErrOf result AppendError.JournalFull
+            → self.new.disk.now ≡ self.old.disk.now }
         ensures place { IfOk result (λ place. place ≡ self.old.journal.gate) }
         ensures journal { OnOk result (self.new.journal
-            ≡ record self.old.journal { gate = self.old.journal.gate + length (entries_text entries.now) }) }
+            ≡ record self.old.journal {
+              gate = self.old.journal.gate + length
+                  (entries_text entries.now);
+            }) }
         ensures doubt { IsErrOf result AppendError.StoreFault → self.new.journal
             ≡ record self.old.journal { doubt = Some (length (entries_text entries.now)) } }
 
         // They stand behind the others, acknowledged: each image that a stop may leave has all of them.
-        ensures kept { OnOk result ((before : List Entry) → Means (D.state self.old.disk.now) self.old.journal before []
+        ensures kept { OnOk result ((before : List Entry)
+            → Means (D.state self.old.disk.now) self.old.journal before []
             → Means (D.state self.new.disk.now) self.new.journal (before ++ entries.now) []) }
         ensures in_doubt { IsErrOf result AppendError.StoreFault → (before : List Entry)
             → Means (D.state self.old.disk.now) self.old.journal before []
             → Means (D.state self.new.disk.now) self.new.journal before entries.now }
 
         // A stop at any moment of the call leaves the entries from before it, or those and all of these.
-        ensures any_moment { (before : List Entry) → Means (D.state self.old.disk.now) self.old.journal before []
-            → LeavesOnly (D.state self.old.disk.now) (D.state self.new.disk.now) (StandsFor before entries.now) }
+        ensures any_moment { (before : List Entry)
+            → Means (D.state self.old.disk.now) self.old.journal before []
+            → LeavesOnly (D.state self.old.disk.now) (D.state self.new.disk.now)
+            (StandsFor before entries.now) }
         ensures goes_on { GoesOn (D.state self.old.disk.now) (D.state self.new.disk.now) }
-        ensures calls { (D.state self.new.disk.now).calls ≤ (D.state self.old.disk.now).calls + length entries.now + 3 }
-        ensures cause { IsErrOf result AppendError.StoreFault → DiskFailed (D.state self.old.disk.now) (D.state self.new.disk.now) }
+        ensures calls { (D.state self.new.disk.now).calls
+            ≤ (D.state self.old.disk.now).calls + length entries.now + 3 }
+        ensures cause { IsErrOf result AppendError.StoreFault
+            → DiskFailed (D.state self.old.disk.now) (D.state self.new.disk.now) }
     {
         self.journal.append_all(self.disk, entries)
     }
@@ -146,15 +167,18 @@ impl<'a, D: Disk> Vault<'a, D> {
         ensures same_disk { self.new.disk.ghost_name ≡ self.old.disk.ghost_name }
         ensures journal_stays { self.new.journal ≡ self.old.journal }
         ensures body { (entries : List Entry) (doubt : List Entry) (entry : Entry)
-            → Means (D.state self.old.disk.now) self.old.journal entries doubt → IsAt entries place entry
+            → Means (D.state self.old.disk.now) self.old.journal entries doubt
+            → IsAt entries place entry
             → MatchResult result (λ body. body ≡ entry.body) (λ error. error ≢ ReadError.Altered) }
-        ensures found { IfSome (D.state self.old.disk.now).content (λ bytes. GivesEntry bytes place self.old.journal.gate result) }
+        ensures found { IfSome (D.state self.old.disk.now).content
+            (λ bytes. GivesEntry bytes place self.old.journal.gate result) }
         ensures entries_stay { (entries : List Entry) (doubt : List Entry)
             → Means (D.state self.old.disk.now) self.old.journal entries doubt
             → Means (D.state self.new.disk.now) self.new.journal entries doubt }
         ensures disk_stays { Looks (D.state self.old.disk.now) (D.state self.new.disk.now) }
         ensures calls { (D.state self.new.disk.now).calls ≤ (D.state self.old.disk.now).calls + 2 }
-        ensures cause { IsErrOf result ReadError.StoreFault → DiskFailed (D.state self.old.disk.now) (D.state self.new.disk.now) }
+        ensures cause { IsErrOf result ReadError.StoreFault
+            → DiskFailed (D.state self.old.disk.now) (D.state self.new.disk.now) }
     {
         entry_is_one();
         self.journal.read(alloc, self.disk, place)
@@ -168,17 +192,21 @@ impl<'a, D: Disk> Vault<'a, D> {
             IsTrue holds ↔ ReadsFrom bytes place text.now)) }
 
         // Behind the body may stand anything.
-        ensures holds { IfOk result (λ holds. (entries : List Entry) (doubt : List Entry) (entry : Entry) (at skip : ℕ)
-            → Means (D.state self.old.disk.now) self.old.journal entries doubt → IsAt entries at entry
+        ensures holds { IfOk result (λ holds.
+            (entries : List Entry) (doubt : List Entry) (entry : Entry) (at skip : ℕ)
+            → Means (D.state self.old.disk.now) self.old.journal entries doubt
+            → IsAt entries at entry
             → place ≡ at + (head_size + skip) → skip ≤ length entry.body
-            → (more : List ℕ) × (IsTrue holds ↔ (take (length text.now) (drop skip entry.body ++ more) ≡ text.now))) }
+            → (more : List ℕ) × (IsTrue holds
+            ↔ (take (length text.now) (drop skip entry.body ++ more) ≡ text.now))) }
         ensures entries_stay { (entries : List Entry) (doubt : List Entry)
             → Means (D.state self.old.disk.now) self.old.journal entries doubt
             → Means (D.state self.new.disk.now) self.new.journal entries doubt }
         ensures disk_stays { Looks (D.state self.old.disk.now) (D.state self.new.disk.now) }
         ensures calls { (D.state self.new.disk.now).calls
             ≤ (D.state self.old.disk.now).calls + 1 + div_ceil (length text.now) piece_size }
-        ensures cause { OnErr result (DiskFailed (D.state self.old.disk.now) (D.state self.new.disk.now)) }
+        ensures cause { OnErr result (DiskFailed (D.state self.old.disk.now)
+            (D.state self.new.disk.now)) }
     {
         entry_is_one();
         self.journal.holds(self.disk, place, text)

@@ -24,7 +24,8 @@ fn symbols_for<'a, Y: Symbols>(
     entry: &Module<'_>,
     symbols: &'a Y,
 ) -> Result<Option<&'a SymFile<'a>>, NoMemory>
-    ensures { IfOk result (λ found. option_copied found ≡ symbols_for (Y.symbols symbols.now) (module_entry entry.now)) }
+    ensures { IfOk result (λ found. option_copied found
+        ≡ symbols_for (Y.symbols symbols.now) (module_entry entry.now)) }
 {
     let id = debug_id(alloc, entry)?;
     if id.as_str().is_empty() || !symbols.may_have(id.as_str()) {
@@ -43,7 +44,8 @@ pub(crate) fn load<'a, Y: Symbols>(
     entries: &'a [Module<'a>],
     symbols: &'a Y,
 ) -> Result<Vec<Loaded<'a>>, NoMemory>
-    ensures { IfOk result (λ loaded. map loaded_entry loaded.items ≡ map (loaded_with (Y.symbols symbols.now)) (map module_entry entries.now)) }
+    ensures { IfOk result (λ loaded. map loaded_entry loaded.items
+        ≡ map (loaded_with (Y.symbols symbols.now)) (map module_entry entries.now)) }
 {
     let mut loaded = Vec::with_capacity(alloc, entries.len())?;
     for entry in entries {

@@ -46,7 +46,8 @@ impl<'a> Process<'a> {
         architecture: Architecture,
         symbols: &'a Y,
     ) -> Result<Process<'a>, NoMemory>
-        ensures { IfOk result (λ process. process ≡ spec.process_of (Y.symbols symbols.now) dump.now architecture) }
+        ensures { IfOk result (λ process. process
+            ≡ spec.process_of (Y.symbols symbols.now) dump.now architecture) }
     {
         let words = dump.words(alloc, architecture.machine().width.bytes())?;
         let table = dump.module_table(alloc)?;

@@ -35,7 +35,9 @@ fn in_module<'p>(
     index: usize,
     loaded: &Loaded<'p>,
 ) -> BorrowedFrame<'p>
-    ensures { (all : List LoadedEntry) → slice_get all index ≡ Some (loaded_entry loaded.now) → frame_copy all result ≡ spec.in_module instruction address trust (loaded_entry loaded.now) }
+    ensures { (all : List LoadedEntry) → slice_get all index ≡ Some (loaded_entry loaded.now)
+        → frame_copy all result ≡ spec.in_module instruction address trust
+        (loaded_entry loaded.now) }
 {
     let offset = address.saturating_sub(loaded.entry.base);
     let module = Some(index);
@@ -66,7 +68,8 @@ fn in_module<'p>(
 
 /// A frame in no module.
 fn in_no_module<'p>(instruction: u64, address: u64, trust: Trust) -> BorrowedFrame<'p>
-    ensures { (all : List LoadedEntry) → frame_copy all result ≡ spec.in_no_module instruction address trust }
+    ensures { (all : List LoadedEntry)
+        → frame_copy all result ≡ spec.in_no_module instruction address trust }
 {
     BorrowedFrame {
         instruction,
@@ -86,7 +89,8 @@ fn frame_at<'p>(
     address: u64,
     trust: Trust,
 ) -> BorrowedFrame<'p>
-    ensures { frame_copy process.now.loaded result ≡ spec.frame_at process.now instruction address trust }
+    ensures { frame_copy process.now.loaded result
+        ≡ spec.frame_at process.now instruction address trust }
 {
     let Some(index) = process.index_at(address) else {
         return in_no_module(instruction, address, trust);
@@ -151,7 +155,9 @@ impl<'a> Process<'a> {
         alloc: Global,
         values: &[Option<u64>; PLACES],
     ) -> Result<Vec<BorrowedFrame<'_>>, NoMemory>
-        ensures { IfOk result (λ frames. map (frame_copy self.now.loaded) frames.items ≡ spec.frames_from self.now spec.most_frames true (record { values = values.now; trust = Context })) }
+        ensures { IfOk result (λ frames. map (frame_copy self.now.loaded) frames.items
+            ≡ spec.frames_from self.now spec.most_frames true
+            (record { values = values.now; trust = Context })) }
     {
         let mut frames = Vec::new(alloc);
         let mut here = Caller {

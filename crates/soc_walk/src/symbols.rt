@@ -17,5 +17,6 @@ pub trait Symbols {
     /// Whether a debug file with this id may have a symbol file. It is asked before the debug file's
     /// name is made, and false only where none with this id has one.
     fn may_have(&self, debug_id: &str) -> bool
-        ensures { IsFalse result → (debug_file : List ℕ) → symbols self.now debug_file debug_id.now ≡ None };
+        ensures { IsFalse result → (debug_file : List ℕ)
+            → symbols self.now debug_file debug_id.now ≡ None };
 }

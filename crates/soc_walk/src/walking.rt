@@ -61,7 +61,8 @@ pub fn walk<Y: Symbols>(
     thread: usize,
     symbols: &Y,
 ) -> Result<Items<Frame>, NoMemory>
-    ensures { IfOk result (λ frames. frames ≡ spec.frames_of (Y.symbols symbols.now) dump.now thread) }
+    ensures { IfOk result (λ frames. frames
+        ≡ spec.frames_of (Y.symbols symbols.now) dump.now thread) }
 {
     let Some(start) = start_of(dump, thread) else {
         return Ok(Items::new(alloc));

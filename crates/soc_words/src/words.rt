@@ -129,7 +129,8 @@ impl Words {
     pub fn read(alloc: Global, words: &[String]) -> Result<Words, WordsError>
         ensures ok { IfOk result (λ said. spec.words_of (map string_bytes words.now) ≡ Some said) }
         ensures ranges { IfOk result spec.LieInRanges }
-        ensures not_ours { result ≡ Err WordsError.NotOurs → spec.words_of (map string_bytes words.now) ≡ None }
+        ensures not_ours { result ≡ Err WordsError.NotOurs
+            → spec.words_of (map string_bytes words.now) ≡ None }
         ensures few { IfOk result (λ said. said.count ≤ 65536) }
     {
         let Some((name, rest)) = words.split_first() else {
@@ -144,9 +145,11 @@ impl Words {
 
 /// What the words behind a command say.
 fn read_options(alloc: Global, task: Task, words: &[String]) -> Result<Words, WordsError>
-    ensures ok { IfOk result (λ said. spec.words_for (map string_bytes words.now) task ≡ Some said) }
+    ensures ok { IfOk result (λ said. spec.words_for (map string_bytes words.now) task
+        ≡ Some said) }
     ensures ranges { IfOk result spec.LieInRanges }
-    ensures not_ours { result ≡ Err WordsError.NotOurs → spec.words_for (map string_bytes words.now) task ≡ None }
+    ensures not_ours { result ≡ Err WordsError.NotOurs
+        → spec.words_for (map string_bytes words.now) task ≡ None }
     ensures few { IfOk result (λ said. said.count ≤ 65536) }
 {
     let mut command = bare_command(alloc, task.name());
@@ -188,9 +191,11 @@ fn option(alloc: Global, name: &str) -> Arg<'_>
 
 /// What the values of the options say.
 fn read_matches(alloc: Global, task: Task, matches: &ArgMatches<'_>) -> Result<Words, WordsError>
-    ensures ok { IfOk result (λ said. spec.words_in task (rows_of (found_of matches.now)) ≡ Some said) }
+    ensures ok { IfOk result (λ said. spec.words_in task (rows_of (found_of matches.now))
+        ≡ Some said) }
     ensures ranges { IfOk result spec.LieInRanges }
-    ensures not_ours { result ≡ Err WordsError.NotOurs → spec.words_in task (rows_of (found_of matches.now)) ≡ None }
+    ensures not_ours { result ≡ Err WordsError.NotOurs
+        → spec.words_in task (rows_of (found_of matches.now)) ≡ None }
     ensures few { IfOk result (λ said. said.count ≤ 65536) }
 {
     let Some(numbers) = numbers_of(matches) else {
@@ -219,7 +224,8 @@ struct Numbers {
 
 /// The numbers, where each has its form and range.
 fn numbers_of(matches: &ArgMatches<'_>) -> Option<Numbers>
-    ensures ranges { IfSome result (λ n. spec.AreInRanges n.seed n.count n.collectors n.processors) }
+    ensures ranges { IfSome result
+        (λ n. spec.AreInRanges n.seed n.count n.collectors n.processors) }
     ensures value { result ≡ spec.numbers_in (rows_of (found_of matches.now)) }
 {
     Some(Numbers {
@@ -234,7 +240,9 @@ fn numbers_of(matches: &ArgMatches<'_>) -> Option<Numbers>
 fn number(matches: &ArgMatches<'_>, name: &str, least: u64, most: u64, default: u64) -> Option<u64>
     requires low { least ≤ default }
     requires high { default ≤ most }
-    ensures value { result ≡ spec.number_in (record { name = name.now; least = least; most = most; default = default }) (rows_of (found_of matches.now)) }
+    ensures value { result ≡ spec.number_in
+        (record { name = name.now; least = least; most = most; default = default })
+        (rows_of (found_of matches.now)) }
     ensures range { IfSome result (spec.IsWithin least most) }
 {
     match matches.get_str(name) {
@@ -271,7 +279,9 @@ fn text(
     name: &str,
     default: &str,
 ) -> Result<Text, NoMemory>
-    ensures { IfOk result (λ text. text ≡ spec.text_in (record { name = name.now; default = default.now }) (rows_of (found_of matches.now))) }
+    ensures { IfOk result (λ text. text
+        ≡ spec.text_in (record { name = name.now; default = default.now })
+        (rows_of (found_of matches.now))) }
 {
     Text::of(alloc, matches.get_str(name).unwrap_or(default))
 }

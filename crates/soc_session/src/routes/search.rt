@@ -28,7 +28,8 @@ pub(super) fn reports(
     caller: Caller,
     form: ReplyForm,
 ) -> Result<Plan, NoMemory>
-    ensures { IfOk result (λ plan. plan_text plan ≡ search_by (query_of caller (query_pairs head.now.query)) form) }
+    ensures { IfOk result (λ plan. plan_text plan
+        ≡ search_by (query_of caller (query_pairs head.now.query)) form) }
 {
     let pairs = query_in(alloc, head)?;
     match Query::read(alloc, &pairs, caller) {
@@ -39,7 +40,8 @@ pub(super) fn reports(
 
 /// `/api/SuperSearchFields/`: the fields that the caller may see. No desk is asked.
 pub(super) fn fields(alloc: Global, caller: &Caller) -> Result<Plan, NoMemory>
-    ensures { IfOk result (λ plan. plan_text plan ≡ says (good Kind.Json (fields_json caller.now))) }
+    ensures { IfOk result (λ plan. plan_text plan
+        ≡ says (good Kind.Json (fields_json caller.now))) }
 {
     Ok(Plan::Says(good(Kind::Json, fields_json(alloc, caller)?)))
 }
@@ -51,7 +53,8 @@ pub(super) fn tops(
     caller: Caller,
     form: ReplyForm,
 ) -> Result<Plan, NoMemory>
-    ensures { IfOk result (λ plan. plan_text plan ≡ tops_by (tops_query_of caller (query_pairs head.now.query)) form) }
+    ensures { IfOk result (λ plan. plan_text plan
+        ≡ tops_by (tops_query_of caller (query_pairs head.now.query)) form) }
 {
     let pairs = query_in(alloc, head)?;
     match TopsQuery::read(alloc, &pairs, caller) {

@@ -62,7 +62,8 @@ pub(super) fn plan<C: Clock, W: Draws>(
     draws: &mut W,
 ) -> Result<Plan, NoMemory>
     requires fits { FitsCrash (submission_text said) }
-    ensures { (message : Message) → HoldsSubmission message (submission_text said) → Draws (PlansSubmission rules.now message)
+    ensures { (message : Message) → HoldsSubmission message (submission_text said)
+        → Draws (PlansSubmission rules.now message)
         (outlook (C.told clock.old) (W.told draws.old))
         (outlook (C.told clock.new) (W.told draws.new)) result }
 {
@@ -79,7 +80,8 @@ fn decide(
 ) -> Result<Plan, NoMemory>
     requires fits { FitsCrash (submission_text said) }
     requires range { IsMoment drawing.moment }
-    ensures { IfOk result (λ plan. plan_text plan ≡ plan_of rules.now (drawn_of drawing) (submission_text said) said.sent_id) }
+    ensures { IfOk result (λ plan. plan_text plan
+        ≡ plan_of rules.now (drawn_of drawing) (submission_text said) said.sent_id) }
 {
     if let Some(id) = said.sent_id {
         return keep(alloc, id, "from_crash_id", drawing, said);
@@ -121,7 +123,8 @@ fn keep(
     requires short { length rule.now ≤ 40 }
     requires fits { FitsCrash (submission_text said) }
     requires range { IsMoment drawing.moment }
-    ensures { IfOk result (λ plan. plan_text plan ≡ keeps (crash_with id rule.now (drawn_of drawing) (submission_text said))) }
+    ensures { IfOk result (λ plan. plan_text plan
+        ≡ keeps (crash_with id rule.now (drawn_of drawing) (submission_text said))) }
 {
     let raw = RawCrash {
         id,

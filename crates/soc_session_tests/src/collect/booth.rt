@@ -62,7 +62,9 @@ impl KeepingDesk for Booth {
 
 // That the caller lacks the permission, or else that memory wants.
 fn refusal(caller: &Caller, permission: Permission) -> Reply
-    ensures { result ≡ Reply.Refused (if holds caller.now.permissions permission then Refusal.NoMemory else Refusal.NoPermission permission) }
+    ensures { result ≡ Reply.Refused
+        (if holds caller.now.permissions permission then Refusal.NoMemory else Refusal.NoPermission
+        permission) }
 {
     if caller.permissions.has(permission) {
         return Reply::Refused(Refusal::NoMemory);

@@ -74,7 +74,8 @@ impl<'a, R: Clock> Drop for SocketConn<'a, R> {
 impl<'a, R: Clock> Tells for SocketConn<'a, R> {
     ghost use Rattle.soc_edge.specs.Told.{untold};
 
-    ghost told = { λ conn. record untold { read_faults = conn.read_faults.count; write_faults = conn.write_faults.count } };
+    ghost told = { λ conn. record untold
+        { read_faults = conn.read_faults.count; write_faults = conn.write_faults.count } };
 }
 
 impl<'a, R: Clock> Source for SocketConn<'a, R> {

@@ -44,7 +44,13 @@ impl<'a, R: Net<Listener = TcpListener, Stream = TcpStream> + Clock + Eprint + S
 
     type Conn = SocketConn<'a, R>;
 
-    ghost told = { λ l. record { handed = l.handed; ended = l.has_ended; left = None; faults = l.faults.count } };
+    ghost told = { λ l. record {
+      handed = l.handed;
+      ended = l.has_ended;
+      left = None;
+      faults =
+          l.faults.count;
+    } };
 
     fn accept(&mut self) -> Result<Option<SocketConn<'a, R>>, Failed> {
         if self.has_ended || self.handed == u64::MAX {
