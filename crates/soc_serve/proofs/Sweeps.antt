@@ -1,5 +1,5 @@
 -- What the steps of the last sweep do to a desk's state.
-use Rattle.std.proofs.Common.{◌≡◌, ℕ, true, false, List, [], ◌∷◌, ◌++◌, map, Option, None, Some, Result, Ok, Err, refl, sym, ap, ◌∙◌, inl, inr, ⊎_elim, append_assoc, arith}
+use Rattle.std.proofs.Common.{◌≡◌, ◌⊎◌, ℕ, true, false, List, [], ◌∷◌, ◌++◌, map, Result, Ok, Err, refl, sym, ap, ◌∙◌, inl, inr, ⊎_elim, append_assoc, append-nil, arith, ◌≤◌}
 use Rattle.std.proofs.lemmas.List.{map-append}
 use Rattle.soc_base.proofs.Folk.{none_is_not_some}
 use Rattle.soc_edge.specs.Disk.{DiskTold, DiskFailed, GoesOn}
@@ -21,8 +21,9 @@ use Rattle.soc_desk.proofs.Drained.{drains_all}
 use Rattle.soc_book.specs.Keeping.{KeepsReports}
 use Rattle.soc_book.specs.inner.Does.{Does}
 use Rattle.soc_serve.specs.declared.sweep.SweepFault.{SweepFault}
-use Rattle.soc_serve.specs.Sweep.{EndsSweep, FailsSweep, KeepsAll, Processes}
-use Rattle.soc_serve.specs.inner.Sweeping.{EndsDrain, EndsKeep, drained, kept}
+use Rattle.soc_serve.specs.declared.sweep.SweepFault.TheVariants as S
+use Rattle.soc_serve.specs.Sweep.{EndsSweep, FailsKeeping, FailsLate, FailsProcessing, FailsSweep, KeepsAll, Processes}
+use Rattle.soc_serve.specs.inner.Sweeping.{EndsBoth, EndsDrain, EndsKeep, FailsStep, drained, kept}
 
 -- a caller who may have crashes processed
 abbrev pub operator : Caller
@@ -50,8 +51,11 @@ none_of log (first ∷ more) piece Adds (inr adds) never = never (log ++ first �
 pub ends_keep : (basis : Basis) (before : State) (disk : DiskTold) (reply : Reply) (after : State) (disk' : DiskTold)
     → KeepsReports basis before disk reply after disk' → EndsKeep basis before disk (kept reply) after disk'
 ends_keep basis before disk (R.Kept count) after disk' keeps = (count, record { piece = keeps.piece; behind = keeps.behind; grows = keeps.grows; step = keeps.step })
-ends_keep basis before disk (R.Refused F.NoMemory) after disk' keeps = record { piece = keeps.piece; behind = keeps.behind; cause = λ is. cc }
-ends_keep basis before disk (R.Refused F.StoreFault) after disk' keeps = record { piece = keeps.piece; behind = keeps.behind; cause = λ is. inl (keeps.fault tt) }
+ends_keep basis before disk (R.Refused F.NoMemory) after disk' keeps = (record { piece = keeps.piece; behind = keeps.behind; cause = λ is. cc }, λ is. cc)
+ends_keep basis before disk (R.Refused F.StoreFault) after disk' keeps = (
+  record { piece = keeps.piece; behind = keeps.behind; cause = λ is. inl (keeps.fault tt) },
+  λ is. (before, record { piece = keeps.piece; behind = keeps.behind; grows = keeps.grows; step = keeps.step }),
+)
 ends_keep basis before disk reply after disk' keeps = absurd (none_of _ _ _ (Reports basis _ _) keeps.grows (λ log own (reports : Reports basis _ _ log own). reports.ends))
 
 done_events : (basis : Basis) (ids : List (List ℕ)) → events basis (map done ids) ≡ map E.Done ids
@@ -69,34 +73,79 @@ nothing_due basis before count after processes =
 
 -- ---- the whole
 
-pub later_fault : (disk middle disk' : DiskTold) → GoesOn disk middle → DiskFailed middle disk' → DiskFailed disk disk'
-later_fault disk middle disk' on (inl rose) = let kept = on.faults_never_fall in inl (omega (arith, kept, rose))
-later_fault disk middle disk' on (inr last) = inr last
+-- a fault of some calls is one of all of them
+wider_fault : (disk from to disk' : DiskTold) → disk.faults ≤ from.faults → to.faults ≤ disk'.faults → DiskFailed from to → DiskFailed disk disk'
+wider_fault disk from to disk' first last (inl rose) = inl (omega (arith, first, last, rose))
+wider_fault disk from to disk' first last (inr stands) = inr (omega (arith, last, stands))
 
--- a step that failed behind others
-pub fails_behind : (basis : Basis) (before between after : State) (disk middle disk' : DiskTold) (fault : SweepFault) → GoesOn disk middle
-    → (piece : List Change) → between.log ≡ before.log ++ piece → FailsSweep basis between middle fault after disk' → FailsSweep basis before disk fault after disk'
-fails_behind basis before between after disk middle disk' fault on piece behind fails = record {
-  piece = piece ++ fails.piece;
-  behind = fails.behind ∙ (ap (λ l. l ++ fails.piece) behind ∙ append_assoc before.log piece fails.piece);
-  cause = λ is. ⊎_elim (λ rose. inl (later_fault disk middle disk' on rose)) (λ untold. inr untold) (fails.cause is);
+pub later_fault : (disk middle disk' : DiskTold) → GoesOn disk middle → DiskFailed middle disk' → DiskFailed disk disk'
+later_fault disk middle disk' on failed = wider_fault disk middle disk' disk' on.faults_never_fall (omega arith) failed
+
+behind_both : (log middle after piece more : List Change) → middle ≡ log ++ piece → after ≡ middle ++ more → after ≡ log ++ (piece ++ more)
+behind_both log middle after piece more first last = last ∙ (ap (λ l. l ++ more) first ∙ append_assoc log piece more)
+
+-- a step that failed, behind others and before others
+fails_within : (basis : Basis) (before from to after : State) (disk middle last disk' : DiskTold) (fault : SweepFault) (piece more : List Change)
+    → disk.faults ≤ middle.faults → from.log ≡ before.log ++ piece → FailsStep basis from middle fault to last → last.faults ≤ disk'.faults → after.log ≡ to.log ++ more
+    → FailsStep basis before disk fault after disk'
+fails_within basis before from to after disk middle last disk' fault piece more on behind fails on_to later = record {
+  piece = (piece ++ fails.piece) ++ more;
+  behind = behind_both before.log to.log after.log (piece ++ fails.piece) more (behind_both before.log from.log to.log piece fails.piece behind fails.behind) later;
+  cause = λ is. ⊎_elim (λ rose. inl (wider_fault disk middle last disk' on on_to rose)) (λ untold. inr untold) (fails.cause is);
 }
 
+pub fails_behind : (basis : Basis) (before from after : State) (disk middle disk' : DiskTold) (fault : SweepFault) (piece : List Change)
+    → GoesOn disk middle → from.log ≡ before.log ++ piece → FailsStep basis from middle fault after disk' → FailsStep basis before disk fault after disk'
+fails_behind basis before from after disk middle disk' fault piece on behind fails =
+    fails_within basis before from after after disk middle disk' disk' fault piece [] on.faults_never_fall behind fails (omega arith) (sym (append-nil after.log))
+
+-- whatever a drain answered, it only added to the log
+pub drain_behind : (basis : Basis) (before : State) (disk : DiskTold) (result : Result (Unit {0}) SweepFault) (after : State) (disk' : DiskTold)
+    → EndsDrain basis before disk result after disk' → (piece : List Change) × (after.log ≡ before.log ++ piece)
+drain_behind basis before disk (Ok over) after disk' ends = (ends.1.piece, ends.1.behind)
+drain_behind basis before disk (Err fault) after disk' ends = (ends.piece, ends.behind)
+
+pub ends_both : (basis : Basis) (before first after : State) (disk middle disk' : DiskTold) (result : Result (Unit {0}) SweepFault) (count : ℕ)
+    → EndsDrain basis before disk result first middle → GoesOn middle disk' → KeepsAll basis first count after
+    → EndsBoth basis before disk result after disk'
+ends_both basis before first after disk middle disk' (Ok over) count ends on keeps = (first, ends.0, count, ends.1, keeps)
+ends_both basis before first after disk middle disk' (Err fault) count ends on keeps = (
+  fails_within basis before before first after disk disk middle disk' fault [] keeps.piece (omega arith) (sym (append-nil before.log)) ends on.faults_never_fall keeps.behind,
+  λ is. inr (first, count, keeps),
+)
+
+-- the first step failed, or the second did
+pub first_failed : (basis : Basis) (before after : State) (disk disk' : DiskTold) (fault : SweepFault) → FailsStep basis before disk fault after disk'
+    → (fault ≡ S.Disk → FailsKeeping basis after ⊎ (FailsProcessing basis after ⊎ FailsLate basis after)) → FailsSweep basis before disk fault after disk'
+first_failed basis before after disk disk' fault fails stage = record { piece = fails.piece; behind = fails.behind; cause = fails.cause; stage = stage }
+
+pub second_failed : (basis : Basis) (before opened after : State) (disk middle disk' : DiskTold) (fault : SweepFault) (early : ℕ) → GoesOn disk middle
+    → KeepsAll basis before early opened → EndsBoth basis opened middle (Err fault) after disk' → FailsSweep basis before disk fault after disk'
+second_failed basis before opened after disk middle disk' fault early on keeps ends =
+    first_failed basis before after disk disk' fault (fails_behind basis before opened after disk middle disk' fault keeps.piece on keeps.behind ends.0)
+    (λ is. ⊎_elim (λ kept. inl kept) (λ processed. inr (inl processed)) (ends.1 is))
+
 -- the last step, whatever it ended with
-pub ends_sweep : (basis : Basis) (before first kept after : State) (disk middle disk' : DiskTold) (result : Result (Unit {0}) SweepFault) (processed count : ℕ)
-    → Processes basis before processed first → KeepsAll basis first count kept → GoesOn disk middle → EndsDrain basis kept middle result after disk'
+pub ends_sweep : (basis : Basis) (before opened kept after : State) (disk middle disk' : DiskTold) (result : Result (Unit {0}) SweepFault) (early : ℕ)
+    → KeepsAll basis before early opened → EndsBoth basis opened disk (Ok tt) kept middle → GoesOn disk middle → EndsDrain basis kept middle result after disk'
     → EndsSweep basis before disk result after disk'
-ends_sweep basis before first kept after disk middle disk' (Ok over) processed count processes keeps on ends = record {
-  processed = processed;
-  first = first;
-  processes = processes;
-  count = count;
+ends_sweep basis before opened kept after disk middle disk' (Ok over) early early_keeps both on ends = record {
+  early = early;
+  opened = opened;
+  keeps_early = early_keeps;
+  processed = both.1;
+  first = both.0;
+  processes = both.3;
+  count = both.2;
   kept = kept;
-  keeps = keeps;
+  keeps = both.4;
   late = ends.0;
   processes_late = ends.1;
   nothing_due = nothing_due basis kept ends.0 after ends.1;
 }
-ends_sweep basis before first kept after disk middle disk' (Err fault) processed count processes keeps on ends =
-    fails_behind basis before kept after disk middle disk' fault on (processes.piece ++ keeps.piece)
-    (keeps.behind ∙ (ap (λ l. l ++ keeps.piece) processes.behind ∙ append_assoc before.log processes.piece keeps.piece)) ends
+ends_sweep basis before opened kept after disk middle disk' (Err fault) early early_keeps both on ends =
+    let first = behind_both before.log opened.log both.0.log early_keeps.piece both.3.piece early_keeps.behind both.3.behind in
+    let second = behind_both before.log both.0.log kept.log (early_keeps.piece ++ both.3.piece) both.4.piece first both.4.behind in
+    first_failed basis before after disk disk' fault
+    (fails_behind basis before kept after disk middle disk' fault ((early_keeps.piece ++ both.3.piece) ++ both.4.piece) on second ends)
+    (λ is. inr (inr (opened, both.0, kept, both.1, both.2, ends.piece, both.3, both.4, ends.behind)))

@@ -1,8 +1,10 @@
--- The last sweep over a desk whose log a journal keeps: what is due is processed, reports are kept for later runs, and what
--- has become due meanwhile is processed too. This project's profile.
+-- The last sweep over a desk whose log a journal keeps: the reports that are made are kept for later runs, what is due is
+-- processed and its reports are kept too, and what has become due meanwhile is processed. This project's profile.
 use Rattle.std.specs.Prelude.{◌≡◌, ◌⊎◌, ℕ, false, IsTrue, List, [], ◌++◌, Result, Ok, Err}
 use Rattle.soc_edge.specs.Disk.{DiskTold, DiskFailed}
 use Rattle.soc_ledger.specs.Due.{due_ids}
+use Rattle.soc_desk.specs.declared.desk.Refusal.TheVariants.{StoreFault}
+use Rattle.soc_desk.specs.declared.desk.Reply.{Reply}
 use Rattle.soc_desk.specs.declared.desk.Reply.TheVariants as R
 use Rattle.soc_desk.specs.Basis.{Basis}
 use Rattle.soc_desk.specs.Desk.{DrainsAll}
@@ -20,18 +22,25 @@ pub record Processes (basis : Basis) (before : State) (count : ℕ) (after : Sta
   pub drains : Drains (events basis before.log) (R.Drained count) (events basis piece)
   pub step : IsTrue basis.is_told → DrainsAll before (due_ids (events basis before.log)) (R.Drained count) after
 
--- so many reports were kept for later runs
-pub record KeepsAll (basis : Basis) (before : State) (count : ℕ) (after : State) : Type 0 where
+-- reports are kept for later runs, with this answer
+pub record KeepsWith (basis : Basis) (before : State) (reply : Reply) (after : State) : Type 0 where
   pub piece : List Change
   pub behind : after.log ≡ before.log ++ piece
-  pub grows : KeepGrows basis (R.Kept count) (events basis before.log) (doubted basis before) (events basis piece) (doubted basis after)
-  pub step : IsTrue basis.is_told → StepKeep basis before (R.Kept count) after
+  pub grows : KeepGrows basis reply (events basis before.log) (doubted basis before) (events basis piece) (doubted basis after)
+  pub step : IsTrue basis.is_told → StepKeep basis before reply after
+
+-- so many reports were kept
+abbrev pub KeepsAll : Basis → State → ℕ → State → Type 0
+KeepsAll basis before count after = KeepsWith basis before (R.Kept count) after
 
 -- the sweep is done: nothing is due
 pub record Sweeps (basis : Basis) (before after : State) : Type 0 where
+  pub early : ℕ
+  pub opened : State
+  pub keeps_early : KeepsAll basis before early opened
   pub processed : ℕ
   pub first : State
-  pub processes : Processes basis before processed first
+  pub processes : Processes basis opened processed first
   pub count : ℕ
   pub kept : State
   pub keeps : KeepsAll basis first count kept
@@ -39,12 +48,26 @@ pub record Sweeps (basis : Basis) (before after : State) : Type 0 where
   pub processes_late : Processes basis kept late after
   pub nothing_due : due_ids (events basis after.log) ≡ []
 
+-- reports could not be kept
+abbrev pub FailsKeeping : Basis → State → Type 0
+FailsKeeping basis after = (between : State) × KeepsWith basis between (R.Refused StoreFault) after
+
+-- not all that was due was processed, and all reports that are made are kept
+abbrev pub FailsProcessing : Basis → State → Type 0
+FailsProcessing basis after = (between : State) × (count : ℕ) × KeepsAll basis between count after
+
+-- what was due first was processed and its reports kept, and not all that became due meanwhile was processed
+abbrev pub FailsLate : Basis → State → Type 0
+FailsLate basis after = (opened first kept : State) × (processed count : ℕ) × (piece : List Change)
+    × Processes basis opened processed first × KeepsAll basis first count kept × (after.log ≡ kept.log ++ piece)
+
 -- The sweep failed. The disk is blamed only where it failed, or where it tells nothing and gave back other bytes than it was
--- given.
+-- given. A crash that can't be read costs no other crash its report.
 pub record FailsSweep (basis : Basis) (before : State) (disk : DiskTold) (fault : SweepFault) (after : State) (disk' : DiskTold) : Type 0 where
   pub piece : List Change
   pub behind : after.log ≡ before.log ++ piece
   pub cause : fault ≡ F.Disk → DiskFailed disk disk' ⊎ (basis.is_told ≡ false)
+  pub stage : fault ≡ F.Disk → FailsKeeping basis after ⊎ (FailsProcessing basis after ⊎ FailsLate basis after)
 
 abbrev pub EndsSweep : Basis → State → DiskTold → Result (Unit {0}) SweepFault → State → DiskTold → Type 0
 EndsSweep basis before disk (Ok done) after disk' = Sweeps basis before after

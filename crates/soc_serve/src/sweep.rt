@@ -5,7 +5,7 @@ ghost use Rattle.soc_desk.specs.Basis.{Basis};
 ghost use Rattle.soc_desk.specs.State.{State};
 ghost use Rattle.soc_book.specs.inner.Stands.{Stands};
 ghost use Rattle.soc_serve.specs.Sweep.{EndsSweep};
-ghost use Rattle.soc_serve.specs.inner.Sweeping.{EndsDrain, EndsKeep, drained, kept};
+ghost use Rattle.soc_serve.specs.inner.Sweeping.{EndsBoth, EndsDrain, EndsKeep, drained, kept};
 
 use soc_book::Book;
 use soc_desk::{Refusal, Reply};
@@ -21,7 +21,8 @@ pub enum SweepFault {
     NoMemory,
 }
 
-/// Processes what is due, keeps the reports for later runs, and processes what has become due meanwhile.
+/// Keeps the reports that are made, processes what is due and keeps its reports, and processes what has become due
+/// meanwhile.
 pub(crate) fn sweep<D: Disk, R: Reporter>(book: &mut Book<'_, D, R>) -> Result<(), SweepFault>
     ensures same_disk { book.new.vault.disk.ghost_name ≡ book.old.vault.disk.ghost_name }
     ensures ends { (basis : Basis) (state : State) → basis.row_of ≡ R.row_of book.old.reporter.now
@@ -34,9 +35,29 @@ pub(crate) fn sweep<D: Disk, R: Reporter>(book: &mut Book<'_, D, R>) -> Result<(
         (D.state book.new.vault.disk.now)
         × GoesOn (D.state book.old.vault.disk.now) (D.state book.new.vault.disk.now) }
 {
-    drain(book)?;
     keep(book)?;
+    process_and_keep(book)?;
     drain(book)
+}
+
+/// Processes what is due, and keeps the reports also where a crash could not be read.
+fn process_and_keep<D: Disk, R: Reporter>(book: &mut Book<'_, D, R>) -> Result<(), SweepFault>
+    ensures same_disk { book.new.vault.disk.ghost_name ≡ book.old.vault.disk.ghost_name }
+    ensures limits { book.new.limits ≡ book.old.limits }
+    ensures reporter { book.new.reporter.now ≡ book.old.reporter.now }
+    ensures ends { (basis : Basis) (state : State) → basis.row_of ≡ R.row_of book.old.reporter.now
+        → basis.digest ≡ R.digest_of book.old.reporter.now
+        → Stands basis book.old.limits book.old.ledger book.old.store book.old.doubt
+        book.old.vault.journal (D.state book.old.vault.disk.now) state
+        → (after : State) × Stands basis book.new.limits book.new.ledger book.new.store
+        book.new.doubt book.new.vault.journal (D.state book.new.vault.disk.now) after
+        × EndsBoth basis state (D.state book.old.vault.disk.now) result after
+        (D.state book.new.vault.disk.now)
+        × GoesOn (D.state book.old.vault.disk.now) (D.state book.new.vault.disk.now) }
+{
+    let processed = drain(book);
+    keep(book)?;
+    processed
 }
 
 /// Processes what is due.

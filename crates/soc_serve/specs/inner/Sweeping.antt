@@ -1,14 +1,15 @@
 -- The steps of the last sweep.
-use Rattle.std.specs.Prelude.{ℕ, Result, Ok, Err}
-use Rattle.soc_edge.specs.Disk.{DiskTold}
+use Rattle.std.specs.Prelude.{◌≡◌, ◌⊎◌, ℕ, false, List, ◌++◌, Result, Ok, Err}
+use Rattle.soc_edge.specs.Disk.{DiskTold, DiskFailed}
 use Rattle.soc_desk.specs.Basis.{Basis}
+use Rattle.soc_desk.specs.Log.{Change}
 use Rattle.soc_desk.specs.State.{State}
 use Rattle.soc_desk.specs.declared.desk.Reply.{Reply}
 use Rattle.soc_desk.specs.declared.desk.Reply.TheVariants as R
 use Rattle.soc_desk.specs.declared.desk.Refusal.TheVariants as F
 use Rattle.soc_serve.specs.declared.sweep.SweepFault.{SweepFault}
 use Rattle.soc_serve.specs.declared.sweep.SweepFault.TheVariants as S
-use Rattle.soc_serve.specs.Sweep.{FailsSweep, KeepsAll, Processes}
+use Rattle.soc_serve.specs.Sweep.{FailsKeeping, FailsProcessing, KeepsAll, Processes}
 
 -- what the answer to a drain, and to the keeping of reports, says of the sweep
 abbrev pub drained : Reply → Result (Unit {0}) SweepFault
@@ -21,10 +22,23 @@ kept (R.Kept count) = Ok tt
 kept (R.Refused F.NoMemory) = Err S.NoMemory
 kept _ = Err S.Disk
 
+-- a step that failed
+pub record FailsStep (basis : Basis) (before : State) (disk : DiskTold) (fault : SweepFault) (after : State) (disk' : DiskTold) : Type 0 where
+  pub piece : List Change
+  pub behind : after.log ≡ before.log ++ piece
+  pub cause : fault ≡ S.Disk → DiskFailed disk disk' ⊎ (basis.is_told ≡ false)
+
 abbrev pub EndsDrain : Basis → State → DiskTold → Result (Unit {0}) SweepFault → State → DiskTold → Type 0
 EndsDrain basis before disk (Ok done) after disk' = (count : ℕ) × Processes basis before count after
-EndsDrain basis before disk (Err fault) after disk' = FailsSweep basis before disk fault after disk'
+EndsDrain basis before disk (Err fault) after disk' = FailsStep basis before disk fault after disk'
 
 abbrev pub EndsKeep : Basis → State → DiskTold → Result (Unit {0}) SweepFault → State → DiskTold → Type 0
 EndsKeep basis before disk (Ok done) after disk' = (count : ℕ) × KeepsAll basis before count after
-EndsKeep basis before disk (Err fault) after disk' = FailsSweep basis before disk fault after disk'
+EndsKeep basis before disk (Err fault) after disk' = FailsStep basis before disk fault after disk' × (fault ≡ S.Disk → FailsKeeping basis after)
+
+-- what is due is processed, and then reports are kept
+abbrev pub EndsBoth : Basis → State → DiskTold → Result (Unit {0}) SweepFault → State → DiskTold → Type 0
+EndsBoth basis before disk (Ok done) after disk' =
+    (first : State) × (processed count : ℕ) × Processes basis before processed first × KeepsAll basis first count after
+EndsBoth basis before disk (Err fault) after disk' = FailsStep basis before disk fault after disk'
+    × (fault ≡ S.Disk → FailsKeeping basis after ⊎ FailsProcessing basis after)
