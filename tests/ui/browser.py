@@ -6,6 +6,7 @@ import os
 import select
 import subprocess
 import time
+import urllib.parse
 
 PATIENCE = 120
 
@@ -62,6 +63,7 @@ class Browser:
         target = self.call("Target.createTarget", url="about:blank")["targetId"]
         session = self.call("Target.attachToTarget", targetId=target, flatten=True)["sessionId"]
         page = Page(self, session)
+        page.origin = "http://" + urllib.parse.urlsplit(address).netloc.rpartition("@")[2]
         self.pages[session] = page
         for domain in ("Page", "Runtime", "Log", "Network"):
             page.call(domain + ".enable")
@@ -80,7 +82,7 @@ class Browser:
 class Page:
     def __init__(self, browser, session):
         self.browser, self.session = browser, session
-        self.requests, self.lines, self.dialogs = [], [], 0
+        self.origin, self.requests, self.lines, self.dialogs = None, [], [], 0
 
     def call(self, method, **words):
         return self.browser.call(method, self.session, **words)
