@@ -1,0 +1,10 @@
+mod Carried
+mod Growth
+mod Journaled
+mod Later
+mod Places
+mod Reports
+mod Rows
+mod Settling
+mod Whole
+mod Withdrawn

@@ -1,0 +1,4 @@
+pub mod Laws
+pub mod Lives
+pub mod Runs
+mod Histories
