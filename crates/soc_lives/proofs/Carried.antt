@@ -1,18 +1,17 @@
 -- Stops of runs end lives.
 use Rattle.std.proofs.Common.{◌≡◌, ◌⊎◌, inl, inr, ℕ, Bool, true, IsTrue, List, [], ◌∷◌, ◌++◌, map, Option, Some, None, sym, ap, subst, ◌∙◌, refl}
-use Rattle.soc_edge.specs.Disk.{DiskTold, GoesOn}
+use Rattle.soc_edge.specs.Disk.{DiskFailed, DiskTold, GoesOn, LeavesOnly}
 use Rattle.soc_journal.specs.Entries.{Entry}
 use Rattle.soc_journal.specs.Text.{JournalText}
 use Rattle.soc_vault.specs.Openings.{AreEntriesOf}
-use Rattle.soc_desk.specs.declared.desk.Command.{Command}
-use Rattle.soc_desk.specs.declared.desk.Receipt.{Receipt}
-use Rattle.soc_desk.specs.Asks.{Asks}
 use Rattle.soc_desk.specs.Basis.{Basis}
-use Rattle.soc_desk.specs.Log.{Change, IsLegal, Kept}
+use Rattle.soc_desk.specs.Batches.{AllFail, AreStored, Group, alone, together}
+use Rattle.soc_desk.specs.Keeps.{KeepAllows}
+use Rattle.soc_desk.specs.Log.{Change, IsLegal, Kept, keep}
 use Rattle.soc_desk.specs.Opens.{OpensWith, as_told, log_of, told}
 use Rattle.soc_desk.specs.State.{Allowed, State, entries_of, settled}
-use Rattle.soc_lives.specs.Lives.{Follow, IsFound, Leaves, LeavesInside, Life, Lives, Transition, asking, last_state}
-use Rattle.soc_lives.specs.Runs.{AreCarried, AsksAreCarried, EndsLife, IsCarried, OpensLife, StopsEndLives}
+use Rattle.soc_lives.specs.Lives.{Action, asking, storing, failing, keeping, Follow, IsFound, Leaves, LeavesInside, Life, Lives, Transition, last_state}
+use Rattle.soc_lives.specs.Runs.{AreCarried, EndsLife, GroupsAreCarried, IsActionOf, IsCarried, KeepingIsCarried, OpensLife, StopsEndLives}
 
 -- behind some of the transitions from this state, a life ends with this image
 record Ends (basis : Basis) (before : State) (transitions : List Transition) (image : List ℕ) : Type 0 where
@@ -75,11 +74,43 @@ opens_life basis found entries log is_told are opens = (
   record { events_legal = opens.are.legal.events_legal; sound = opens.are.legal.sound; told = λ is. opens.are.legal.told refl },
 )
 
-pub asks_are_carried : (disk disk' last : DiskTold) → AsksAreCarried disk disk' last
-asks_are_carried disk disk' last basis before after command receipt is_told asks goes_on = record {
-  is = (asks.step is_told, asks.legal);
-  survives = λ image now. by image (goes_on.nothing_else disk.moment image asks.goes_on.later now);
-} where
-  by : (image : List ℕ) → disk'.since disk.moment image ⊎ last.since disk'.moment image → (Allowed before image ⊎ Allowed after image) ⊎ last.since disk'.moment image
-  by image (inl meanwhile) = inl ((asks.survives is_told).each image meanwhile)
-  by image (inr later) = inr later
+-- ---- what is done over a disk
+
+module _ (disk disk' last : DiskTold) where
+  -- a stop since the beginning is one until the answer, or one since then
+  meanwhile : GoesOn disk disk' → GoesOn disk' last → (image : List ℕ) → last.since disk.moment image → disk'.since disk.moment image ⊎ last.since disk'.moment image
+  meanwhile goes_on goes_further image now = goes_further.nothing_else disk.moment image goes_on.later now
+
+  leaves_first : (P : List ℕ → Type 0) → GoesOn disk disk' → LeavesOnly disk disk' P → GoesOn disk' last → (image : List ℕ) → last.since disk.moment image → P image ⊎ last.since disk'.moment image
+  leaves_first P goes_on leaves goes_further image now = by (meanwhile goes_on goes_further image now) where
+    by : disk'.since disk.moment image ⊎ last.since disk'.moment image → P image ⊎ last.since disk'.moment image
+    by (inl then) = inl (leaves.each image then)
+    by (inr later) = inr later
+
+  pub groups_are_carried : GroupsAreCarried disk disk' last
+  groups_are_carried basis before (alone command receipt) after is_told asks goes_further = (
+    asking command receipt.reply,
+    refl,
+    record { is = (asks.step is_told, asks.legal); survives = leaves_first (λ image. Allowed before image ⊎ Allowed after image) asks.goes_on (asks.survives is_told) goes_further },
+  )
+  groups_are_carried basis before (together raws receipts) after is_told stores goes_further = by stores.ends where
+    survives : (image : List ℕ) → last.since disk.moment image → (Allowed before image ⊎ Allowed after image) ⊎ last.since disk'.moment image
+    survives = leaves_first (λ image. Allowed before image ⊎ Allowed after image) stores.goes_on (stores.survives is_told) goes_further
+
+    by : ((after ≡ settled (stores.log ++ map keep stores.changes)) × AreStored raws receipts)
+        ⊎ ((after ≡ record { log = stores.log; doubt = stores.changes }) × AllFail raws receipts × DiskFailed disk disk')
+        → (action : Action) × IsActionOf (together raws receipts) action × IsCarried basis last.since before disk.moment (record { action = action; after = after }) disk'.moment
+    by (inl ends) = (
+      storing raws,
+      inl refl,
+      record { is = (record { log = stores.log; settles = stores.settles; changes = stores.changes; accepts = stores.accepts; after_is = ends.0 }, stores.legal); survives = survives },
+    )
+    by (inr ends) = (
+      failing raws,
+      inr refl,
+      record { is = (record { log = stores.log; settles = stores.settles; changes = stores.changes; accepts = stores.accepts; after_is = ends.0 }, stores.legal); survives = survives },
+    )
+
+  pub keeping_is_carried : KeepingIsCarried disk disk' last
+  keeping_is_carried basis before reply after step legal goes_on leaves goes_further =
+      record { is = (step, legal); survives = leaves_first (KeepAllows before after) goes_on leaves goes_further }

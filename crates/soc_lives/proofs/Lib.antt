@@ -3,6 +3,7 @@ mod Growth
 mod Journaled
 mod Later
 mod Places
+mod Repeats
 mod Reports
 mod Rows
 mod Settling

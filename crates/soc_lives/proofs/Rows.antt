@@ -53,7 +53,7 @@ mapped_further : {X : Type 0} (f : Crash → X) (o o' : Option Crash) (x : X) �
 mapped_further f None o' x further is = cc
 mapped_further f (Some raw) o' x further is = ap (option_map f) (further raw refl) ∙ is
 
-front_raw : (log after : List Change) → IsFrontOf log after → (id : List ℕ) (raw : Crash) → raw_of log id ≡ Some raw → raw_of after id ≡ Some raw
+pub front_raw : (log after : List Change) → IsFrontOf log after → (id : List ℕ) (raw : Crash) → raw_of log id ≡ Some raw → raw_of after id ≡ Some raw
 front_raw log after (piece, is) id raw has =
     ap (λ (cs : List Accepted). raw_among cs id) (ap accepted_of is ∙ filter_map-append accepted_in log piece) ∙ raw_further (accepted_of log) (accepted_of piece) id raw has
 
@@ -340,12 +340,12 @@ all_drained found (life ∷ lives) all = (follow_drained life.basis (opened life
 
 -- ---- crashes
 
-raw_later : (log : List Change) (id : List ℕ) (raw : Crash) → raw_of log id ≡ Some raw → (next : Life) → BeginsWith (kept_of log) next.opening → raw_of (log_of next.opening) id ≡ Some raw
+pub raw_later : (log : List Change) (id : List ℕ) (raw : Crash) → raw_of log id ≡ Some raw → (next : Life) → BeginsWith (kept_of log) next.opening → raw_of (log_of next.opening) id ≡ Some raw
 raw_later log id raw has next (more, is) =
     front_raw (log_of (kept_of log)) (log_of next.opening) (log_of more, ap log_of is ∙ map-append keep (kept_of log) more) id raw
     (ap (λ (cs : List Accepted). raw_among cs id) (accepted_kept log) ∙ has)
 
-crash_later : (found : List ℕ) (life : Life) (later : List Life) → AllLive found (life ∷ later)
+pub crash_later : (found : List ℕ) (life : Life) (later : List Life) → AllLive found (life ∷ later)
     → InEachState (λ state. (id : List ℕ) → IfSome (raw_of state.log id) (λ raw. AllByRecursion (λ next. raw_of (log_of next.opening) id ≡ Some raw) later)) life
 crash_later found life later all =
     in_each_state _ found life all.0 (λ state legal front id. by state.log id (kept_later found life later all state.log front) (raw_of state.log id) refl) where

@@ -4,7 +4,8 @@ use Rattle.std.specs.Prelude.{◌≡◌, ◌≢◌, ◌⊎◌, ℕ, ◌≤◌, B
 use Rattle.std.specs.List.{AllByRecursion, list_any}
 use Rattle.std.specs.Option.{option_map, option_map_or}
 use Rattle.soc_raw.specs.RawCrash.{crash_of}
-use Rattle.soc_raw.specs.Record.{Crash}
+use Rattle.soc_raw.specs.Record.{Crash, content_text}
+use Rattle.soc_raw.specs.declared.raw_crash.RawCrash.{RawCrash}
 use Rattle.soc_schema.specs.declared.caller.Caller.{Caller}
 use Rattle.soc_schema.specs.declared.value.Cell.{Cell}
 use Rattle.soc_ledger.specs.Due.{due_ids, is_due}
@@ -88,7 +89,8 @@ pub record HasPlace (later : List Life) (transition : Transition) : Type 0 where
   pub there : AllByRecursion (λ next. StandAt front (acknowledged_by transition.action) next.opening) later
 
 abbrev pub AcknowledgedStays : Type 0
-AcknowledgedStays = (found : List ℕ) (life : Life) (later : List Life) → AllLive found (life ∷ later) → AtEach (HasPlace later) life
+AcknowledgedStays = (found : List ℕ) (life : Life) (later : List Life) → AllLive found (life ∷ later)
+    → AtEach (HasPlace later) life
 
 -- ---- repeats
 
@@ -116,13 +118,21 @@ pub record LeavesDoubt (before after : State) : Type 0 where
 abbrev pub SettleOnce : State → List Transition → Type 0
 SettleOnce before [] = ⊤
 SettleOnce before (transition ∷ transitions) =
-    (LeavesDoubt before transition.after ⊎ SettlesDoubt before transition.action transition.after) × SettleOnce transition.after transitions
+    (LeavesDoubt before transition.after ⊎ SettlesDoubt before transition.action transition.after)
+    × SettleOnce transition.after transitions
+
+-- a submission that is answered as repeated has the content of the crash that each later life opens with
+abbrev pub IsRepeated : List Life → Transition → Type 0
+IsRepeated later transition = (raw : RawCrash) (id : List ℕ) → transition.action ≡ asking (C.Submit raw) (R.Repeated id)
+    → (held : Crash) × (content_text held ≡ content_text (crash_of raw)) × AllByRecursion (λ next. raw_of (log_of next.opening) raw.id ≡ Some held) later
 
 -- whatever is asked, lost and repeated: no id is accepted twice, in doubt or not, and each doubt is settled once at most
 pub record RepeatsActOnce : Type 0 where
   pub accepts : (found : List ℕ) (lives : List Life) → AllLive found lives
       → AllByRecursion (InEachState (λ state. (id : List ℕ) → accept_count (state.log ++ map keep state.doubt) id ≤ 1)) lives
-  pub settles : (found : List ℕ) (lives : List Life) → AllLive found lives → AllByRecursion (λ life. SettleOnce (opened life) life.transitions) lives
+  pub settles : (found : List ℕ) (lives : List Life) → AllLive found lives
+      → AllByRecursion (λ life. SettleOnce (opened life) life.transitions) lives
+  pub repeated : (found : List ℕ) (life : Life) (later : List Life) → AllLive found (life ∷ later) → AtEach (IsRepeated later) life
 
 -- ---- rows
 
@@ -149,17 +159,20 @@ HasTrueRows basis state =
 abbrev pub AreDrained : Basis → State → List Transition → Type 0
 AreDrained basis before [] = ⊤
 AreDrained basis before (transition ∷ transitions) =
-    ((caller : Caller) (count : ℕ) → transition.action ≡ asking (C.Drain caller) (R.Drained count) → IsDrained basis before.log transition.after.log)
+    ((caller : Caller) (count : ℕ) → transition.action ≡ asking (C.Drain caller) (R.Drained count)
+    → IsDrained basis before.log transition.after.log)
     × AreDrained basis transition.after transitions
 
 pub record RowsAreOfCrashes : Type 0 where
-  pub rows : (rows : List ℕ → Crash → List Cell) (found : List ℕ) (lives : List Life) → AllLive found lives → GoByDigests rows lives
-      → BeginsUnreported lives → AllByRecursion (λ life. InEachState (HasTrueRows life.basis) life) lives
+  pub rows : (rows : List ℕ → Crash → List Cell) (found : List ℕ) (lives : List Life)
+      → AllLive found lives → GoByDigests rows lives → BeginsUnreported lives
+      → AllByRecursion (λ life. InEachState (HasTrueRows life.basis) life) lives
   pub drained : (found : List ℕ) (lives : List Life) → AllLive found lives
       → AllByRecursion (λ life. AreDrained life.basis (opened life) life.transitions) lives
   -- the crash of an id is the same in every later life
   pub crashes : (found : List ℕ) (life : Life) (later : List Life) → AllLive found (life ∷ later)
-      → InEachState (λ state. (id : List ℕ) → IfSome (raw_of state.log id) (λ raw. AllByRecursion (λ next. raw_of (log_of next.opening) id ≡ Some raw) later)) life
+      → InEachState (λ state. (id : List ℕ)
+      → IfSome (raw_of state.log id) (λ raw. AllByRecursion (λ next. raw_of (log_of next.opening) id ≡ Some raw) later)) life
 
 -- ---- kept reports
 
@@ -191,7 +204,8 @@ pub record StayReports (basis : Basis) (later : List Life) (count : ℕ) (after 
 
 abbrev pub KeptReportsStay : Type 0
 KeptReportsStay = (found : List ℕ) (life : Life) (later : List Life) → AllLive found (life ∷ later)
-    → AtEach (λ transition. (count : ℕ) → transition.action ≡ keeping (R.Kept count) → StayReports life.basis later count transition.after) life
+    → AtEach (λ transition. (count : ℕ) → transition.action ≡ keeping (R.Kept count)
+    → StayReports life.basis later count transition.after) life
 
 -- ---- withdrawals
 

@@ -29,7 +29,8 @@ abbrev pub all_doubted : List Change → List Kept → State
 all_doubted log changes = record { log = log; doubt = changes }
 
 -- the doubt is settled, the crashes are new to the settled log, and their acceptances come to this
-pub record Writes (basis : Basis) (before : State) (raws : List RawCrash) (comes : List Change → List Kept → State) (after : State) : Type 0 where
+pub record Writes (basis : Basis) (before : State) (raws : List RawCrash)
+    (comes : List Change → List Kept → State) (after : State) : Type 0 where
   pub log : List Change
   pub settles : Settles before.log before.doubt log
   pub changes : List Kept
@@ -48,12 +49,14 @@ pub record Transition : Type 0 where
   pub after : State
 
 abbrev pub IsTransition : Basis → State → Transition → Type 0
-IsTransition basis before transition = Does basis before transition.action transition.after × IsLegalState basis transition.after
+IsTransition basis before transition =
+    Does basis before transition.action transition.after × IsLegalState basis transition.after
 
 -- each action begins with the state that the one before it left
 abbrev pub Follow : Basis → State → List Transition → Type 0
 Follow basis before [] = ⊤
-Follow basis before (transition ∷ transitions) = IsTransition basis before transition × Follow basis transition.after transitions
+Follow basis before (transition ∷ transitions) =
+    IsTransition basis before transition × Follow basis transition.after transitions
 
 abbrev pub last_state : State → List Transition → State
 last_state before [] = before

@@ -1,30 +1,34 @@
 -- Of which runs each stop ends a life: those whose every answer says what a stop since then may leave.
 use Rattle.std.specs.Prelude.{◌≡◌, ◌⊎◌, ℕ, IsTrue, List, [], ◌∷◌, ◌++◌, map}
-use Rattle.soc_edge.specs.Disk.{DiskTold, GoesOn}
-use Rattle.soc_vault.specs.Openings.{AreEntriesOf}
+use Rattle.soc_edge.specs.Disk.{DiskTold, GoesOn, LeavesOnly}
 use Rattle.soc_journal.specs.Entries.{Entry}
-use Rattle.soc_desk.specs.declared.desk.Command.{Command}
-use Rattle.soc_desk.specs.declared.desk.Receipt.{Receipt}
-use Rattle.soc_desk.specs.Asks.{Asks}
+use Rattle.soc_vault.specs.Openings.{AreEntriesOf}
+use Rattle.soc_desk.specs.declared.desk.Reply.{Reply}
 use Rattle.soc_desk.specs.Basis.{Basis}
+use Rattle.soc_desk.specs.Batches.{AsksGroup, Group, alone, together}
+use Rattle.soc_desk.specs.Keeps.{KeepAllows, StepKeep}
 use Rattle.soc_desk.specs.Log.{Change, IsLegal, Kept}
 use Rattle.soc_desk.specs.Opens.{OpensWith, log_of}
-use Rattle.soc_desk.specs.State.{State, Allowed, settled}
-use Rattle.soc_lives.specs.Lives.{IsFound, IsTransition, LeavesInside, Life, Lives, Transition, asking}
+use Rattle.soc_desk.specs.State.{State, Allowed, IsLegalState, settled}
+use Rattle.soc_lives.specs.Lives.{Action, asking, storing, failing, keeping, IsFound, IsTransition, LeavesInside, Life, Lives, Transition}
 
 -- `left` has, for each moment, what a stop since then might have left by now. The action began at one moment and was
 -- answered at another.
-pub record IsCarried (basis : Basis) (left : ℕ → List ℕ → Type 0) (before : State) (begun : ℕ) (transition : Transition) (answered : ℕ) : Type 0 where
+pub record IsCarried (basis : Basis) (left : ℕ → List ℕ → Type 0) (before : State) (begun : ℕ)
+    (transition : Transition) (answered : ℕ) : Type 0 where
   pub is : IsTransition basis before transition
-  pub survives : (image : List ℕ) → left begun image → LeavesInside before transition.action transition.after image ⊎ left answered image
+  pub survives : (image : List ℕ) → left begun image
+      → LeavesInside before transition.action transition.after image ⊎ left answered image
 
--- actions one behind the other, each with the moment of its answer; a stop since the last one leaves what the last state allows
+-- actions one behind the other, each with the moment of its answer; a stop since then leaves what the last state allows
 abbrev pub AreCarried : Basis → (ℕ → List ℕ → Type 0) → State → ℕ → List (Transition × ℕ) → Type 0
 AreCarried basis left before moment [] = (image : List ℕ) → left moment image → Allowed before image
-AreCarried basis left before moment (step ∷ steps) = IsCarried basis left before moment step.0 step.1 × AreCarried basis left step.0.after step.1 steps
+AreCarried basis left before moment (step ∷ steps) =
+    IsCarried basis left before moment step.0 step.1 × AreCarried basis left step.0.after step.1 steps
 
 -- a life with this opening, which ends with these bytes behind the first of these transitions
-pub record EndsLife (basis : Basis) (found : List ℕ) (opening : List Kept) (transitions : List Transition) (image : List ℕ) : Type 0 where
+pub record EndsLife (basis : Basis) (found : List ℕ) (opening : List Kept) (transitions : List Transition)
+    (image : List ℕ) : Type 0 where
   pub life : Life
   pub lives : Lives found life
   pub basis_is : life.basis ≡ basis
@@ -36,16 +40,31 @@ pub record EndsLife (basis : Basis) (found : List ℕ) (opening : List Kept) (tr
 -- Where the journal opened with these changes and each answer says what a stop since then may leave, each stop ends a life.
 abbrev pub StopsEndLives : (ℕ → List ℕ → Type 0) → Type 0
 StopsEndLives left = (basis : Basis) (found : List ℕ) (opening : List Kept) (begun : ℕ) (steps : List (Transition × ℕ))
-    → IsTrue basis.is_told → IsFound found opening → IsLegal basis (log_of opening) → AreCarried basis left (settled (log_of opening)) begun steps
+    → IsTrue basis.is_told → IsFound found opening → IsLegal basis (log_of opening)
+    → AreCarried basis left (settled (log_of opening)) begun steps
     → (image : List ℕ) → left begun image → EndsLife basis found opening (map (λ step. step.0) steps) image
 
 -- a journal that is opened over a disk with these bytes is found so
 abbrev pub OpensLife : Type 0
-OpensLife = (basis : Basis) (found : List ℕ) (entries : List Entry) (log : List Change) → IsTrue basis.is_told → AreEntriesOf found entries → OpensWith basis entries log
+OpensLife = (basis : Basis) (found : List ℕ) (entries : List Entry) (log : List Change)
+    → IsTrue basis.is_told → AreEntriesOf found entries → OpensWith basis entries log
     → (opening : List Kept) × (log ≡ log_of opening) × IsFound found opening × IsLegal basis (log_of opening)
 
--- what a desk over a disk does with a command is carried so, whatever it does later
-abbrev pub AsksAreCarried : DiskTold → DiskTold → DiskTold → Type 0
-AsksAreCarried disk disk' last = (basis : Basis) (before after : State) (command : Command) (receipt : Receipt) → IsTrue basis.is_told
-    → Asks basis before disk command receipt after disk' → GoesOn disk' last
-    → IsCarried basis last.since before disk.moment (record { action = asking command receipt.reply; after = after }) disk'.moment
+-- the action that a group of commands is
+abbrev pub IsActionOf : Group → Action → Type 0
+IsActionOf (alone command receipt) action = action ≡ asking command receipt.reply
+IsActionOf (together raws receipts) action = (action ≡ storing raws) ⊎ (action ≡ failing raws)
+
+-- what a desk over a disk does with commands is carried so, whatever it does later
+abbrev pub GroupsAreCarried : DiskTold → DiskTold → DiskTold → Type 0
+GroupsAreCarried disk disk' last = (basis : Basis) (before : State) (group : Group) (after : State) → IsTrue basis.is_told
+    → AsksGroup basis before disk group after disk' → GoesOn disk' last
+    → (action : Action) × IsActionOf group action
+    × IsCarried basis last.since before disk.moment (record { action = action; after = after }) disk'.moment
+
+-- and so is the keeping of reports
+abbrev pub KeepingIsCarried : DiskTold → DiskTold → DiskTold → Type 0
+KeepingIsCarried disk disk' last = (basis : Basis) (before : State) (reply : Reply) (after : State)
+    → StepKeep basis before reply after → IsLegalState basis after → GoesOn disk disk' → LeavesOnly disk disk' (KeepAllows before after)
+    → GoesOn disk' last
+    → IsCarried basis last.since before disk.moment (record { action = keeping reply; after = after }) disk'.moment

@@ -4,6 +4,6 @@
 mod laws;
 
 pub use laws::{
-    acknowledged_stays, keeps_changes, kept_reports_stay, repeats_act_once, rows_are_of_crashes,
-    withdrawn_stays_hidden,
+    acknowledged_stays, actions_are_carried, keeps_changes, kept_reports_stay, opens_life,
+    repeats_act_once, rows_are_of_crashes, stops_end_lives, withdrawn_stays_hidden,
 };
