@@ -1,4 +1,4 @@
-//! Tests of the desk and of what it stands on.
+//! Tests of the desk and of its ledger.
 #![tactic(auto)]
 
 #[cfg(test)]
@@ -6,18 +6,6 @@ mod book;
 #[cfg(test)]
 mod expect;
 #[cfg(test)]
-mod journal;
-#[cfg(test)]
 mod ledger;
 #[cfg(test)]
-mod query;
-#[cfg(test)]
-mod schema;
-#[cfg(test)]
-mod spoilt;
-#[cfg(test)]
-mod store;
-#[cfg(test)]
-mod tops;
-#[cfg(test)]
-mod vault;
+mod lost;

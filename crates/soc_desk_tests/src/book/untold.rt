@@ -3,17 +3,17 @@
 use super::acts::{Answer, told, with};
 use super::{FIREFOX, LIMITS, crash, disk, opened};
 use crate::expect::same;
-use crate::spoilt::{Spoilt, zeroed};
+use crate::lost::{Zeroed, disk_of_zeros};
 use soc_edge::Counted;
 use soc_schema::{Bare, Permission};
 use std::alloc::Global;
 use std::test::Fail;
 
 /// The answers to a raw read, a turn, a drain and a second submission of a crash whose record was lost.
-fn answers(alloc: Global, zeroed: &mut Counted<Spoilt>) -> Result<([Answer; 5], u32, u64), Fail> {
+fn answers(alloc: Global, disk: &mut Counted<Zeroed>) -> Result<([Answer; 5], u32, u64), Fail> {
     let raw = crash(alloc, FIREFOX)?;
     let again = crash(alloc, FIREFOX)?;
-    let mut book = opened(alloc, zeroed, &Bare, LIMITS)?;
+    let mut book = opened(alloc, disk, &Bare, LIMITS)?;
     let id = raw.id;
     let stored = book.submit(raw);
     let shown = book.raw(&with(Permission::Public), id);
@@ -34,8 +34,8 @@ fn answers(alloc: Global, zeroed: &mut Counted<Spoilt>) -> Result<([Answer; 5], 
 #[test]
 fn an_altered_crash_is_told_from_others(rt: HostRuntime) -> Result<(), Fail> {
     let alloc = rt.alloc();
-    let mut zeroed = zeroed(disk(alloc, &[])?, 9);
-    let (answers, due, front) = answers(alloc, &mut zeroed)?;
+    let mut disk = disk_of_zeros(disk(alloc, &[])?, 9);
+    let (answers, due, front) = answers(alloc, &mut disk)?;
     same(
         &rt,
         answers,
