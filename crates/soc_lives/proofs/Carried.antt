@@ -1,17 +1,17 @@
 -- Stops of runs end lives.
-use Rattle.std.proofs.Common.{◌≡◌, ◌⊎◌, inl, inr, ℕ, Bool, true, IsTrue, List, [], ◌∷◌, ◌++◌, map, Option, Some, None, sym, ap, subst, ◌∙◌, refl}
+use Rattle.std.proofs.Common.{◌≡◌, ◌⊎◌, inl, inr, ℕ, true, List, [], ◌∷◌, ◌++◌, map, Option, Some, None, sym, ap, subst, ◌∙◌, refl}
 use Rattle.soc_edge.specs.Disk.{DiskFailed, DiskTold, GoesOn, LeavesOnly}
 use Rattle.soc_journal.specs.Entries.{Entry}
 use Rattle.soc_journal.specs.Text.{JournalText}
 use Rattle.soc_vault.specs.Openings.{AreEntriesOf}
 use Rattle.soc_desk.specs.Basis.{Basis}
-use Rattle.soc_desk.specs.Batches.{AllFail, AreStored, Group, alone, together}
+use Rattle.soc_desk.specs.Batches.{AllFail, AreStored, alone, together}
 use Rattle.soc_desk.specs.Keeps.{KeepAllows}
-use Rattle.soc_desk.specs.Log.{Change, IsLegal, Kept, keep}
-use Rattle.soc_desk.specs.Opens.{OpensWith, as_told, log_of, told}
+use Rattle.soc_desk.specs.Log.{Kept, keep}
+use Rattle.soc_desk.specs.Opens.{as_told, log_of}
 use Rattle.soc_desk.specs.State.{Allowed, State, entries_of, settled}
-use Rattle.soc_lives.specs.Lives.{Action, asking, storing, failing, keeping, Follow, IsFound, Leaves, LeavesInside, Life, Lives, Transition, last_state}
-use Rattle.soc_lives.specs.Runs.{AreCarried, EndsLife, GroupsAreCarried, IsActionOf, IsCarried, KeepingIsCarried, OpensLife, StopsEndLives}
+use Rattle.soc_lives.specs.Lives.{Action, asking, storing, failing, Follow, IsFound, Leaves, LeavesInside, Transition, last_state}
+use Rattle.soc_lives.specs.Runs.{AreCarried, GroupsAreCarried, IsActionOf, IsCarried, KeepingIsCarried, OpensLife, StopsEndLives}
 
 -- behind some of the transitions from this state, a life ends with this image
 record Ends (basis : Basis) (before : State) (transitions : List Transition) (image : List ℕ) : Type 0 where

@@ -1,20 +1,19 @@
 -- What actions add to a log, and how a life goes on from a state.
-use Rattle.std.proofs.Common.{◌≡◌, ◌≢◌, ◌⊎◌, inl, inr, ℕ, IsTrue, List, [], ◌∷◌, ◌++◌, map, sym, ap, ◌∙◌, refl, append_assoc}
+use Rattle.std.proofs.Common.{◌≡◌, inl, inr, IsTrue, List, [], ◌∷◌, ◌++◌, map, sym, ap, ◌∙◌, refl, append_assoc}
 use Rattle.std.specs.List.{AllByRecursion}
-use Rattle.std.proofs.lemmas.List.{append-nil, map-append}
+use Rattle.std.proofs.lemmas.List.{append-nil}
 use Rattle.std.proofs.lemmas.List.Elements.{filter_map-append}
 use Rattle.soc_raw.specs.declared.raw_crash.RawCrash.{RawCrash}
 use Rattle.soc_desk.specs.declared.desk.Reply.{Reply}
 use Rattle.soc_desk.specs.declared.desk.Reply.TheVariants as R
 use Rattle.soc_desk.specs.declared.desk.Refusal.TheVariants as F
 use Rattle.soc_desk.specs.Basis.{Basis}
-use Rattle.soc_desk.specs.Desk.{FailsMend}
-use Rattle.soc_desk.specs.Keeps.{KeepsFirst, StepKeep, kept_with_doubt}
+use Rattle.soc_desk.specs.Keeps.{KeepsFirst, StepKeep}
 use Rattle.soc_desk.specs.Log.{Change, Kept, keep}
 use Rattle.soc_desk.specs.Opens.{log_of}
-use Rattle.soc_desk.specs.State.{IsLegalState, Settles, State, kept_in, kept_of, settled}
+use Rattle.soc_desk.specs.State.{IsLegalState, Settles, State, kept_in, kept_of}
 use Rattle.soc_desk.proofs.Steps.{steps_grow}
-use Rattle.soc_lives.specs.Lives.{Action, asking, storing, failing, keeping, Does, Follow, Life, Transition, Writes, all_doubted, all_kept, last_state, opened, ended}
+use Rattle.soc_lives.specs.Lives.{Action, asking, storing, failing, keeping, Does, Follow, Transition, Writes, all_doubted, all_kept, last_state}
 use Rattle.soc_lives.specs.Laws.{BeginsWith}
 
 -- ---- kept changes

@@ -1,8 +1,7 @@
 -- What is due by the events of a journal alone, which has neither `Done` nor stops.
-use Rattle.std.proofs.Common.{◌≡◌, ◌⊎◌, inl, inr, ℕ, Bool, true, false, not, ◌&&◌, ◌||◌, IsTrue, List, [], ◌∷◌, ◌++◌, map, reverse, Option, Some, None, sym, ap, subst, ◌∙◌, refl}
+use Rattle.std.proofs.Common.{◌≡◌, ◌⊎◌, inl, inr, ℕ, Bool, true, false, not, ◌&&◌, ◌||◌, IsTrue, List, [], ◌∷◌, ◌++◌, reverse, Option, Some, None, sym, ap, subst, ◌∙◌, refl}
 use Rattle.std.specs.Prelude.{bytes_eq, is_some, if◌then◌else◌}
 use Rattle.std.specs.List.{AllByRecursion}
-use Rattle.std.specs.Option.{option_map}
 use Rattle.std.proofs.lemmas.List.{append-nil}
 use Rattle.soc_base.proofs.Folk.{or_no_left, or_no_right}
 use Rattle.soc_ledger.specs.declared.event.Event.{Event}
@@ -14,7 +13,7 @@ use Rattle.soc_ledger.specs.Reported.{has_report, is_kept, kept_back, reported_b
 use Rattle.soc_ledger.proofs.Lists.{same_text, true_is_not_false}
 use Rattle.soc_ledger.proofs.Logs.{not_true, unknown_crash}
 use Rattle.soc_desk.specs.Basis.{Basis}
-use Rattle.soc_desk.specs.Log.{Change, accept, ask, withdraw, report, keep, done, stop, event_of, events, is_own}
+use Rattle.soc_desk.specs.Log.{Change, accept, ask, withdraw, report, keep, done, stop, events, is_own}
 use Rattle.soc_desk.specs.Opens.{log_of}
 use Rattle.soc_desk.specs.State.{kept_of}
 use Rattle.soc_desk.proofs.Logs.{reverse-cons, reverse-twice}
@@ -43,13 +42,13 @@ journaled-turned : (es : List Event) → journaled (reverse es) ≡ reverse (jou
 journaled-turned [] = refl
 journaled-turned (e ∷ es) =
     ap journaled (reverse-cons e es) ∙ (journaled-append (reverse es) (e ∷ []) ∙ (ap (λ (l : List Event). l ++ journaled (e ∷ [])) (journaled-turned es) ∙ first e)) where
-  first : (e : Event) → reverse (journaled es) ++ journaled (e ∷ []) ≡ reverse (journaled (e ∷ es))
-  first (Accepted id) = sym (reverse-cons (Accepted id) (journaled es))
-  first (Asked id) = sym (reverse-cons (Asked id) (journaled es))
-  first (Withdrawn id) = sym (reverse-cons (Withdrawn id) (journaled es))
-  first (Reported id own) = sym (reverse-cons (Reported id own) (journaled es))
-  first (Done id) = append-nil (reverse (journaled es))
-  first Stopped = append-nil (reverse (journaled es))
+      first : (e : Event) → reverse (journaled es) ++ journaled (e ∷ []) ≡ reverse (journaled (e ∷ es))
+      first (Accepted id) = sym (reverse-cons (Accepted id) (journaled es))
+      first (Asked id) = sym (reverse-cons (Asked id) (journaled es))
+      first (Withdrawn id) = sym (reverse-cons (Withdrawn id) (journaled es))
+      first (Reported id own) = sym (reverse-cons (Reported id own) (journaled es))
+      first (Done id) = append-nil (reverse (journaled es))
+      first Stopped = append-nil (reverse (journaled es))
 
 journal_events : (basis : Basis) (log : List Change) → events basis (log_of (kept_of log)) ≡ journaled (events basis log)
 journal_events basis [] = refl
@@ -153,6 +152,6 @@ due_there basis log id legal stays reported fresh =
     ap (λ (l : List Event). is_due l id) (journal_events basis log)
     ∙ (ap (λ (l : List Event). is_some (due_since_back id l)) (sym (journaled-turned (events basis log)))
     ∙ by (reported_journaled id (reverse (events basis log)) legal (all_turned _ (events basis log) (none_withdrawn id (events basis log) stays)) reported)) where
-  by : Either (due_since_back id (journaled (reverse (events basis log)))) (kept_back id (reverse (events basis log))) → is_some (due_since_back id (journaled (reverse (events basis log)))) ≡ true
-  by (inl due) = due
-  by (inr kept) = absurd (true_is_not_false (sym kept ∙ fresh))
+      by : Either (due_since_back id (journaled (reverse (events basis log)))) (kept_back id (reverse (events basis log))) → is_some (due_since_back id (journaled (reverse (events basis log)))) ≡ true
+      by (inl due) = due
+      by (inr kept) = absurd (true_is_not_false (sym kept ∙ fresh))

@@ -1,15 +1,15 @@
 -- What later lives open with.
-use Rattle.std.proofs.Common.{◌≡◌, ◌⊎◌, inl, inr, ℕ, IsTrue, List, [], ◌∷◌, ◌++◌, map, Option, Some, None, sym, ap, subst, ◌∙◌, refl, append_assoc}
+use Rattle.std.proofs.Common.{◌⊎◌, inl, inr, ℕ, IsTrue, List, [], ◌∷◌, ◌++◌, map, Option, Some, None, sym, ap, subst, ◌∙◌, refl, append_assoc}
 use Rattle.std.specs.List.{AllByRecursion}
 use Rattle.std.proofs.lemmas.List.{append-nil}
 use Rattle.soc_desk.specs.Basis.{Basis}
-use Rattle.soc_desk.specs.Keeps.{KeepAllows, StandsBetween, kept_with_doubt}
+use Rattle.soc_desk.specs.Keeps.{StandsBetween, kept_with_doubt}
 use Rattle.soc_desk.specs.Log.{Change, IsLegal, Kept, keep}
 use Rattle.soc_desk.specs.Opens.{log_of}
-use Rattle.soc_desk.specs.State.{Allowed, IsLegalState, StandsFor, State, kept_of, settled}
-use Rattle.soc_lives.specs.Lives.{Action, asking, storing, failing, keeping, AllLive, Follow, IsFound, Leaves, LeavesInside, Life, Lives, Transition, ended, last_state, opened}
+use Rattle.soc_desk.specs.State.{Allowed, IsLegalState, StandsFor, State, kept_of}
+use Rattle.soc_lives.specs.Lives.{Action, asking, storing, failing, keeping, AllLive, Follow, IsFound, Leaves, LeavesInside, Life, Lives, Transition, ended, opened}
 use Rattle.soc_lives.specs.Laws.{BeginsWith, InEachState, IsKeptBetween, IsKeptBy, IsKeptInside, IsLeft, KeepsChanges}
-use Rattle.soc_lives.proofs.Growth.{IsFrontOf, at_each, begins_further, begins_itself, does_front, front_further, front_itself, front_kept, kept_all, kept_more, last_front, last_legal}
+use Rattle.soc_lives.proofs.Growth.{IsFrontOf, at_each, begins_further, does_front, front_further, front_itself, front_kept, kept_all, kept_more, last_front, last_legal}
 use Rattle.soc_lives.proofs.Whole.{AreWhole, legal_whole, one_list}
 
 -- ---- states
@@ -150,18 +150,18 @@ pub in_each_state : (P : State → Type 0) (found : List ℕ) (life : Life) → 
 in_each_state P found life lives each = (
   each (opened life) (starts_legal found life lives) (ends_behind found life lives),
   at_each life.basis lives.is_told (λ transition. P transition.after) (ended life) (opened life) life.transitions (starts_legal found life lives) lives.goes refl
-  (λ old transition legal does legal' front. each transition.after legal' front),
+      (λ old transition legal does legal' front. each transition.after legal' front),
 )
 
 -- each state of a life has its opening in front
 pub each_state_behind : (P : State → Type 0) (found : List ℕ) (life : Life) → Lives found life → ((state : State) → IsFrontOf (log_of life.opening) state.log → P state) → InEachState P life
 each_state_behind P found life lives each =
     (each (opened life) (front_itself (log_of life.opening)), behind (opened life) life.transitions (front_itself (log_of life.opening)) (starts_legal found life lives) lives.goes) where
-  behind : (before : State) (transitions : List Transition) → IsFrontOf (log_of life.opening) before.log → IsLegalState life.basis before → Follow life.basis before transitions → AllByRecursion (λ transition. P transition.after) transitions
-  behind before [] front legal goes = tt
-  behind before (transition ∷ transitions) front legal goes =
-      let front' = front_further (log_of life.opening) before.log transition.after.log front (does_front life.basis before transition.action transition.after lives.is_told legal goes.0.0) in
-      (each transition.after front', behind transition.after transitions front' goes.0.1 goes.1)
+      behind : (before : State) (transitions : List Transition) → IsFrontOf (log_of life.opening) before.log → IsLegalState life.basis before → Follow life.basis before transitions → AllByRecursion (λ transition. P transition.after) transitions
+      behind before [] front legal goes = tt
+      behind before (transition ∷ transitions) front legal goes =
+          let front' = front_further (log_of life.opening) before.log transition.after.log front (does_front life.basis before transition.action transition.after lives.is_told legal goes.0.0) in
+          (each transition.after front', behind transition.after transitions front' goes.0.1 goes.1)
 
 pub later_lives : (found : List ℕ) (lives : List Life) → AllLive found lives → AllByRecursion (λ next. (bytes : List ℕ) × Lives bytes next) lives
 later_lives found [] all = tt

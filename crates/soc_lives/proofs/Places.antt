@@ -1,5 +1,5 @@
 -- Acknowledged changes, and how often an id is accepted.
-use Rattle.std.proofs.Common.{◌≡◌, ◌⊎◌, inl, inr, ℕ, ◌+◌, ◌≤◌, Bool, true, false, cond, IsTrue, List, [], ◌∷◌, ◌++◌, map, Option, Some, None, IfSome, sym, ap, subst, ◌∙◌, refl, append_assoc, arith}
+use Rattle.std.proofs.Common.{◌≡◌, ℕ, ◌≤◌, true, false, cond, IsTrue, List, [], ◌∷◌, ◌++◌, map, Option, Some, None, IfSome, sym, ap, subst, ◌∙◌, refl, append_assoc, arith}
 use Rattle.std.specs.Prelude.{bytes_eq, filter, length}
 use Rattle.std.specs.List.{AllByRecursion}
 use Rattle.std.specs.Option.{option_map_or}
@@ -14,12 +14,12 @@ use Rattle.soc_desk.specs.Decisions.{accepting}
 use Rattle.soc_desk.specs.Laws.{acknowledged}
 use Rattle.soc_desk.specs.Log.{Accepted, Change, IsLegal, Kept, accept, ask, withdraw, report, keep, accepted_in, accepted_of}
 use Rattle.soc_desk.specs.Opens.{log_of}
-use Rattle.soc_desk.specs.State.{IsLegalState, State, kept_of}
+use Rattle.soc_desk.specs.State.{State, kept_of}
 use Rattle.soc_desk.proofs.Lasting.{acknowledges}
 use Rattle.soc_desk.proofs.Logs.{IsApart, accepted_apart, has_id}
 use Rattle.soc_desk.proofs.Views.{all_both, all_weaker, turned_eq}
-use Rattle.soc_lives.specs.Lives.{Action, asking, storing, failing, keeping, AllLive, Does, Life, Lives, Transition, Writes, all_kept, ended, opened}
-use Rattle.soc_lives.specs.Laws.{AcknowledgedStays, AtEach, BeginsWith, HasPlace, InEachState, StandAt, accept_count, acknowledged_by}
+use Rattle.soc_lives.specs.Lives.{Action, asking, storing, failing, keeping, AllLive, Does, Life, Lives, Transition, ended, opened}
+use Rattle.soc_lives.specs.Laws.{AcknowledgedStays, BeginsWith, HasPlace, InEachState, StandAt, accept_count, acknowledged_by}
 use Rattle.soc_lives.proofs.Growth.{IsFrontOf, at_each, kept_all, kept_more}
 use Rattle.soc_lives.proofs.Later.{in_each_state, kept_later, later_lives, starts_legal}
 
@@ -66,8 +66,8 @@ part P (x ∷ xs) ys zs all = part P xs ys zs all.1
 accepted_row : (front changes more : List Kept) → accepted_of (log_of (front ++ (changes ++ more))) ≡ accepted_of (log_of front) ++ (accepted_of (log_of changes) ++ accepted_of (log_of more))
 accepted_row front changes more =
     accepted_join front (changes ++ more) ∙ ap (λ (cs : List Accepted). accepted_of (log_of front) ++ cs) (accepted_join changes more) where
-  accepted_join : (a b : List Kept) → accepted_of (log_of (a ++ b)) ≡ accepted_of (log_of a) ++ accepted_of (log_of b)
-  accepted_join a b = ap accepted_of (map-append keep a b) ∙ filter_map-append accepted_in (log_of a) (log_of b)
+      accepted_join : (a b : List Kept) → accepted_of (log_of (a ++ b)) ≡ accepted_of (log_of a) ++ accepted_of (log_of b)
+      accepted_join a b = ap accepted_of (map-append keep a b) ∙ filter_map-append accepted_in (log_of a) (log_of b)
 
 once_there : (basis : Basis) (front changes more opening : List Kept) → IsLegal basis (log_of opening) → opening ≡ front ++ (changes ++ more)
     → AllByRecursion (λ crash. accept_count (log_of opening) crash.id ≡ 1) (accepted_of (log_of changes))

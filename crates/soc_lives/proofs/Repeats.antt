@@ -1,5 +1,5 @@
 -- Repeated submissions and the crashes that they name.
-use Rattle.std.proofs.Common.{◌≡◌, ◌⊎◌, inl, inr, ℕ, Bool, true, false, IsTrue, List, [], ◌∷◌, ◌++◌, Option, Some, None, IsSomeAnd, sym, ap, subst, ◌∙◌, refl}
+use Rattle.std.proofs.Common.{◌≡◌, ◌⊎◌, inl, inr, ℕ, Bool, true, false, List, [], ◌∷◌, ◌++◌, Option, Some, None, IsSomeAnd, sym, ap, subst, ◌∙◌, refl}
 use Rattle.std.specs.Prelude.{bytes_eq, if◌then◌else◌, length, nat_le}
 use Rattle.std.specs.List.{AllByRecursion}
 use Rattle.std.specs.Option.{option_map_or}
@@ -12,16 +12,15 @@ use Rattle.soc_ledger.proofs.Lists.{same_text}
 use Rattle.soc_desk.specs.declared.desk.Command.TheVariants as C
 use Rattle.soc_desk.specs.declared.desk.Refusal.{Refusal}
 use Rattle.soc_desk.specs.declared.desk.Refusal.TheVariants as F
-use Rattle.soc_desk.specs.declared.desk.Reply.{Reply}
 use Rattle.soc_desk.specs.declared.desk.Reply.TheVariants as R
 use Rattle.soc_desk.specs.Basis.{Basis}
 use Rattle.soc_desk.specs.Decisions.{Decision, accepting, answers, appends, decide_new, decide_repeated, decide_submission}
-use Rattle.soc_desk.specs.Desk.{Decides, FailsMend, FailsRead, IfElse, Refuses, SettlesAndDecides, StepWriting}
+use Rattle.soc_desk.specs.Desk.{Decides, FailsMend, FailsRead, IfElse, Refuses, SettlesAndDecides}
 use Rattle.soc_desk.specs.Log.{Change, events, keep, raw_of}
 use Rattle.soc_desk.specs.Opens.{log_of}
 use Rattle.soc_desk.specs.State.{State, has_room, kept_of, settled}
 use Rattle.soc_desk.proofs.Views.{all_weaker}
-use Rattle.soc_lives.specs.Lives.{Action, AllLive, Does, Life, Transition, asking, ended, opened}
+use Rattle.soc_lives.specs.Lives.{Action, AllLive, Does, Life, ended, opened}
 use Rattle.soc_lives.specs.Laws.{AtEach, BeginsWith, IsRepeated}
 use Rattle.soc_lives.proofs.Growth.{at_each}
 use Rattle.soc_lives.proofs.Later.{kept_later, starts_legal}

@@ -1,5 +1,5 @@
 -- Kept reports in later lives.
-use Rattle.std.proofs.Common.{◌≡◌, ◌≢◌, ◌⊎◌, inl, inr, ℕ, Bool, true, false, not, ◌&&◌, ◌||◌, IsTrue, List, [], ◌∷◌, ◌++◌, length, map, reverse, Option, Some, None, IfSome, sym, ap, subst, ◌∙◌, refl, append_assoc}
+use Rattle.std.proofs.Common.{◌≡◌, inl, inr, ℕ, Bool, true, false, not, ◌&&◌, ◌||◌, List, [], ◌∷◌, ◌++◌, length, map, reverse, Option, Some, None, IfSome, sym, ap, subst, ◌∙◌, refl, append_assoc}
 use Rattle.std.specs.Prelude.{bytes_eq, filter, is_some, if◌then◌else◌}
 use Rattle.std.specs.List.{AllByRecursion, list_any}
 use Rattle.std.specs.Option.{option_and_then, option_map, option_map_or}
@@ -20,15 +20,15 @@ use Rattle.soc_ledger.proofs.More.{due_since-more}
 use Rattle.soc_desk.specs.declared.desk.Reply.TheVariants as R
 use Rattle.soc_desk.specs.declared.desk.Refusal.TheVariants as F
 use Rattle.soc_desk.specs.Basis.{Basis}
-use Rattle.soc_desk.specs.Keeps.{StepKeep, ids_to_keep, is_passed_over, is_to_keep, report_of, to_append, to_keep_of}
-use Rattle.soc_desk.specs.Log.{Accepted, Change, IsLegal, Kept, KeptReport, accept, ask, withdraw, report, keep, done, stop, accepted_in, accepted_of, event_of, events, is_own, row_after, row_in}
+use Rattle.soc_desk.specs.Keeps.{StepKeep, ids_to_keep, is_passed_over, is_to_keep, report_of, to_append}
+use Rattle.soc_desk.specs.Log.{Accepted, Change, Kept, KeptReport, accept, ask, withdraw, report, keep, done, stop, accepted_in, accepted_of, event_of, events, is_own, row_after, row_in}
 use Rattle.soc_desk.specs.Opens.{log_of}
-use Rattle.soc_desk.specs.State.{IsLegalState, State, kept_of, settled}
+use Rattle.soc_desk.specs.State.{IsLegalState, State, kept_of}
 use Rattle.soc_desk.proofs.Logs.{IsApart, accepted_apart, events-more, has_id, none_passes, reverse-twice, row_in-more, was_accepted-is}
 use Rattle.soc_desk.proofs.Views.{all_both, all_weaker, filter_map-all}
-use Rattle.soc_lives.specs.Lives.{Action, AllLive, Does, Life, Lives, Transition, ended, keeping, opened}
-use Rattle.soc_lives.specs.Laws.{AtEach, BeginsWith, HasReport, KeptReportsStay, OpensWithReports, StayReports, is_of}
-use Rattle.soc_lives.proofs.Growth.{IsFrontOf, at_each, kept_all, kept_more, settles_front}
+use Rattle.soc_lives.specs.Lives.{Action, AllLive, Does, Life, Lives, ended, opened}
+use Rattle.soc_lives.specs.Laws.{BeginsWith, HasReport, KeptReportsStay, OpensWithReports, StayReports, is_of}
+use Rattle.soc_lives.proofs.Growth.{IsFrontOf, at_each, kept_all, kept_more}
 use Rattle.soc_lives.proofs.Journaled.{due_there}
 use Rattle.soc_lives.proofs.Later.{kept_later, later_lives, starts_legal}
 
@@ -105,7 +105,7 @@ both_true false own b is = b
 reports : (basis : Basis) (made : KeptReport) (kept : List Kept) → is_own basis made.digest ≡ true → is_due (events basis (log_of kept)) made.id ≡ true → Has basis made.id made.row (kept ++ report made ∷ [])
 reports basis made kept own due = (
   row_next basis made.id kept (report made)
-  ∙ taken _ (Some made.row) (row_in basis (log_of kept) made.id) (counts (bytes_eq made.id made.id) (is_own basis made.digest) _ (itself made.id) own (due_turned basis made.id kept ∙ due)),
+      ∙ taken _ (Some made.row) (row_in basis (log_of kept) made.id) (counts (bytes_eq made.id made.id) (is_own basis made.digest) _ (itself made.id) own (due_turned basis made.id kept ∙ due)),
   due_next basis made.id kept (report made) ∙ ap is_some (taken (bytes_eq made.id made.id && is_own basis made.digest) None (due_since (events basis (log_of kept)) made.id) (both_true _ _ (itself made.id) own)),
 )
 
@@ -231,9 +231,9 @@ fewer p (y ∷ xs) x none =
       | true ↦ or_no (bytes_eq y x) (is_among (filter p xs) x) (or_no_left (bytes_eq y x) (is_among xs x) none) (fewer p xs x (or_no_right (bytes_eq y x) (is_among xs x) none))
       | false ↦ fewer p xs x (or_no_right (bytes_eq y x) (is_among xs x) none)
     ] where
-  or_no : (a b : Bool) → a ≡ false → b ≡ false → (a || b) ≡ false
-  or_no true b left right = left
-  or_no false b left right = right
+      or_no : (a b : Bool) → a ≡ false → b ≡ false → (a || b) ≡ false
+      or_no true b left right = left
+      or_no false b left right = right
 
 distinct : (p : List ℕ → Bool) (xs : List (List ℕ)) → AreDistinct xs → AreDistinct (filter p xs)
 distinct p [] apart = tt
@@ -329,18 +329,18 @@ module _ (basis : Basis) (log : List Change) (made : List KeptReport) (is : to_a
       let due = subst (λ (es : List Event). AllByRecursion (λ id. (is_due es id ≡ true) × (was_accepted (events basis log) id ≡ true)) (ids_to_keep basis log)) (events_alike basis next.basis same (kept_of log)) (due_kept basis log legal (is_some basis.digest)) in
       let have = all_have basis next.basis same (events basis log) (ids_to_keep basis log) log (kept_of log) made is (distinct_kept basis log legal (is_some basis.digest)) due in
       record { more = more; behind = behind; has = all_weaker _ _ made one have } where
-    apart : IsApart (accepted_of (log_of (all ++ more)))
-    apart = subst (λ (k : List Kept). IsApart (accepted_of (log_of k))) behind (accepted_apart next.basis (log_of next.opening) lives.legal.events_legal)
+        apart : IsApart (accepted_of (log_of (all ++ more)))
+        apart = subst (λ (k : List Kept). IsApart (accepted_of (log_of k))) behind (accepted_apart next.basis (log_of next.opening) lives.legal.events_legal)
 
-    known : (id : List ℕ) → was_accepted (events basis log) id ≡ true → list_any (has_id id) (accepted_of (log_of all)) ≡ true
-    known id accepted =
-        ap (list_any (has_id id)) (ap accepted_of (map-append keep (kept_of log) (wraps made)) ∙ filter_map-append accepted_in (log_of (kept_of log)) (log_of (wraps made)))
-        ∙ (list_any-append (has_id id) (accepted_of (log_of (kept_of log))) (accepted_of (log_of (wraps made)))
-        ∙ ap (λ b. b || list_any (has_id id) (accepted_of (log_of (wraps made)))) (ap (list_any (has_id id)) (accepted_kept log) ∙ (sym (was_accepted-is basis log id) ∙ accepted)))
+        known : (id : List ℕ) → was_accepted (events basis log) id ≡ true → list_any (has_id id) (accepted_of (log_of all)) ≡ true
+        known id accepted =
+            ap (list_any (has_id id)) (ap accepted_of (map-append keep (kept_of log) (wraps made)) ∙ filter_map-append accepted_in (log_of (kept_of log)) (log_of (wraps made)))
+            ∙ (list_any-append (has_id id) (accepted_of (log_of (kept_of log))) (accepted_of (log_of (wraps made)))
+            ∙ ap (λ b. b || list_any (has_id id) (accepted_of (log_of (wraps made)))) (ap (list_any (has_id id)) (accepted_kept log) ∙ (sym (was_accepted-is basis log id) ∙ accepted)))
 
-    one : (report_ : KeptReport) → Has next.basis report_.id report_.row all × (was_accepted (events basis log) report_.id ≡ true) → list_any (is_of report_.id) more ≡ false → HasReport next.basis next.opening report_
-    one report_ (has, accepted) other =
-        subst (Has next.basis report_.id report_.row) (sym behind) (has_all next.basis report_.id report_.row all more has other (none_behind report_.id all more apart (known report_.id accepted)))
+        one : (report_ : KeptReport) → Has next.basis report_.id report_.row all × (was_accepted (events basis log) report_.id ≡ true) → list_any (is_of report_.id) more ≡ false → HasReport next.basis next.opening report_
+        one report_ (has, accepted) other =
+            subst (Has next.basis report_.id report_.row) (sym behind) (has_all next.basis report_.id report_.row all more has other (none_behind report_.id all more apart (known report_.id accepted)))
 
 stay_reports : (found : List ℕ) (life : Life) (later : List Life) → AllLive found (life ∷ later) → (count : ℕ) (before after : State) → StepKeep life.basis before (R.Kept count) after → IsLegalState life.basis after → IsFrontOf after.log (ended life).log
     → StayReports life.basis later count after

@@ -1,6 +1,6 @@
 -- Rows are those of their crashes, in every life.
-use Rattle.std.proofs.Common.{◌≡◌, ◌≢◌, ◌⊎◌, inl, inr, ℕ, Bool, true, false, ◌&&◌, IsTrue, List, [], ◌∷◌, ◌++◌, map, reverse, Option, Some, None, IfSome, MatchOption, sym, ap, subst, ◌∙◌, refl, append_assoc}
-use Rattle.std.specs.Prelude.{bytes_eq, if◌then◌else◌, length, ⊤}
+use Rattle.std.proofs.Common.{◌≡◌, ◌⊎◌, inl, inr, ℕ, Bool, true, false, ◌&&◌, IsTrue, List, [], ◌∷◌, ◌++◌, map, reverse, Option, Some, None, IfSome, MatchOption, sym, ap, subst, ◌∙◌, refl, append_assoc}
+use Rattle.std.specs.Prelude.{bytes_eq, if◌then◌else◌, ⊤}
 use Rattle.std.specs.List.{AllByRecursion, find}
 use Rattle.std.specs.Option.{option_and_then, option_map, option_map_or, option_or}
 use Rattle.std.proofs.lemmas.List.{append-nil, map-append}
@@ -20,11 +20,11 @@ use Rattle.soc_desk.specs.declared.desk.Reply.TheVariants as R
 use Rattle.soc_desk.specs.Basis.{Basis}
 use Rattle.soc_desk.specs.Decisions.{lacked}
 use Rattle.soc_desk.specs.Desk.{DrainsAll, Refuses, Step}
-use Rattle.soc_desk.specs.Keeps.{KeepsFirst, StepKeep, ids_to_keep, is_passed_over, kept_with_doubt, report_of, to_append}
+use Rattle.soc_desk.specs.Keeps.{KeepsFirst, ids_to_keep, is_passed_over, kept_with_doubt, report_of, to_append}
 use Rattle.soc_desk.specs.Laws.{IsDrained}
 use Rattle.soc_desk.specs.Log.{Accepted, Change, Kept, KeptReport, accept, ask, withdraw, report, keep, done, stop, accepted_in, accepted_of, events, is_own, raw_of, row_back, row_in}
 use Rattle.soc_desk.specs.Opens.{log_of}
-use Rattle.soc_desk.specs.State.{IsLegalState, Settles, State, kept_in, kept_of, settled}
+use Rattle.soc_desk.specs.State.{Settles, State, kept_in, kept_of}
 use Rattle.soc_desk.proofs.Drained.{drains_all}
 use Rattle.soc_desk.proofs.Logs.{has_id, reverse-cons, reverse-twice}
 use Rattle.soc_desk.proofs.Views.{all_weaker, filter_map-all}
@@ -107,7 +107,7 @@ module _ (rows : List ℕ → Crash → List Cell) where
   each_true crashes more (withdraw id ∷ kept) all = (tt, each_true crashes more kept all)
   each_true crashes more (report made ∷ kept) all = (
     mapped_further (rows made.digest) (raw_among crashes made.id) _ made.row
-    (λ raw has. raw_further (crashes ++ accepted_of (log_of kept)) more made.id raw (raw_further crashes (accepted_of (log_of kept)) made.id raw has)) all.0,
+        (λ raw has. raw_further (crashes ++ accepted_of (log_of kept)) more made.id raw (raw_further crashes (accepted_of (log_of kept)) made.id raw has)) all.0,
     each_true crashes more kept all.1,
   )
 
@@ -134,12 +134,12 @@ module _ (rows : List ℕ → Crash → List Cell) where
             | true ↦ λ is. counted is
             | false ↦ λ is. rest
           ] refl where
-        counted : (bytes_eq made.id id && (is_own basis made.digest && due)) ≡ true → option_map basis.row_of (raw_of whole id) ≡ Some made.row
-        counted is =
-            let parts = and_parts (bytes_eq made.id id) (is_own basis made.digest && due) is in
-            let own = and_parts (is_own basis made.digest) due parts.1 in
-            ap (λ f. option_map f (raw_of whole id)) (sym (rows_by basis.digest made.digest by own.0))
-            ∙ (ap (λ (i : List ℕ). option_map (rows made.digest) (raw_among (accepted_of whole) i)) (sym (same_text made.id id parts.0)) ∙ of)
+            counted : (bytes_eq made.id id && (is_own basis made.digest && due)) ≡ true → option_map basis.row_of (raw_of whole id) ≡ Some made.row
+            counted is =
+                let parts = and_parts (bytes_eq made.id id) (is_own basis made.digest && due) is in
+                let own = and_parts (is_own basis made.digest) due parts.1 in
+                ap (λ f. option_map f (raw_of whole id)) (sym (rows_by basis.digest made.digest by own.0))
+                ∙ (ap (λ (i : List ℕ). option_map (rows made.digest) (raw_among (accepted_of whole) i)) (sym (same_text made.id id parts.0)) ∙ of)
 
       older_front : (change : Change) (older : List Change) → IsFrontOf (reverse (change ∷ older)) whole → IsFrontOf (reverse older) whole
       older_front change older (piece, is) =
@@ -349,10 +349,10 @@ pub crash_later : (found : List ℕ) (life : Life) (later : List Life) → AllLi
     → InEachState (λ state. (id : List ℕ) → IfSome (raw_of state.log id) (λ raw. AllByRecursion (λ next. raw_of (log_of next.opening) id ≡ Some raw) later)) life
 crash_later found life later all =
     in_each_state _ found life all.0 (λ state legal front id. by state.log id (kept_later found life later all state.log front) (raw_of state.log id) refl) where
-  by : (log : List Change) (id : List ℕ) → AllByRecursion (λ next. BeginsWith (kept_of log) next.opening) later → (o : Option Crash) → raw_of log id ≡ o
-      → IfSome o (λ raw. AllByRecursion (λ next. raw_of (log_of next.opening) id ≡ Some raw) later)
-  by log id begins None is = tt
-  by log id begins (Some raw) is = all_weaker _ _ later (raw_later log id raw is) begins
+      by : (log : List Change) (id : List ℕ) → AllByRecursion (λ next. BeginsWith (kept_of log) next.opening) later → (o : Option Crash) → raw_of log id ≡ o
+          → IfSome o (λ raw. AllByRecursion (λ next. raw_of (log_of next.opening) id ≡ Some raw) later)
+      by log id begins None is = tt
+      by log id begins (Some raw) is = all_weaker _ _ later (raw_later log id raw is) begins
 
 pub rows_are_of_crashes : RowsAreOfCrashes
 rows_are_of_crashes = record { rows = all_true; drained = all_drained; crashes = crash_later }

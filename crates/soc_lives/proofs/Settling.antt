@@ -1,5 +1,5 @@
 -- Each doubt is settled once at most.
-use Rattle.std.proofs.Common.{◌≡◌, ◌≢◌, ◌⊎◌, inl, inr, ℕ, Bool, true, false, IsTrue, List, [], ◌∷◌, ◌++◌, map, Option, Some, None, IfSome, IsSomeAnd, MatchOption, sym, ap, subst, ◌∙◌, refl}
+use Rattle.std.proofs.Common.{◌≡◌, ◌⊎◌, inl, inr, ℕ, Bool, true, false, IsTrue, List, [], ◌∷◌, ◌++◌, map, Option, Some, None, IfSome, IsSomeAnd, MatchOption, sym, ap, subst, ◌∙◌, refl}
 use Rattle.std.specs.Prelude.{if◌then◌else◌, bytes_eq, length, nat_le, take, ◌||◌, ⊤}
 use Rattle.std.specs.List.{AllByRecursion}
 use Rattle.std.specs.Option.{option_map_or}
@@ -14,7 +14,6 @@ use Rattle.soc_ledger.specs.Events.{accepted_ids, has_stop, is_held, was_withdra
 use Rattle.soc_ledger.specs.Reported.{has_report}
 use Rattle.soc_desk.specs.declared.desk.Command.{Command}
 use Rattle.soc_desk.specs.declared.desk.Command.TheVariants as C
-use Rattle.soc_desk.specs.declared.desk.Refusal.{Refusal}
 use Rattle.soc_desk.specs.declared.desk.Refusal.TheVariants as F
 use Rattle.soc_desk.specs.declared.desk.Reply.{Reply}
 use Rattle.soc_desk.specs.declared.desk.Reply.TheVariants as R
@@ -22,7 +21,7 @@ use Rattle.soc_desk.specs.Basis.{Basis}
 use Rattle.soc_desk.specs.Batches.{AcceptNew}
 use Rattle.soc_desk.specs.Decisions.{Decision, accepting, answers, appends, decide, decide_new, decide_priority, decide_repeated, decide_submission, lacked}
 use Rattle.soc_desk.specs.Desk.{Decides, DrainsAll, Fails, FailsMend, FailsRead, IfElse, IsFetched, Refuses, SettlesAndDecides, Step, StepFetch, StepFinish, StepReading, StepSearching, StepStop, StepWriting, TurnsFirst, with_done}
-use Rattle.soc_desk.specs.Keeps.{KeepsFirst, StepKeep}
+use Rattle.soc_desk.specs.Keeps.{KeepsFirst}
 use Rattle.soc_desk.specs.Log.{Change, Kept, ask, withdraw, done, keep, stop, events, raw_of}
 use Rattle.soc_desk.specs.Reads.{read_reply}
 use Rattle.soc_desk.specs.State.{Settles, State, has_room, kept_of, settled}
@@ -56,9 +55,9 @@ either_plain false x y first second = second
 submission_plain : (basis : Basis) (log : List Change) (crash : Crash) → IsPlain (decide_submission basis log crash)
 submission_plain basis log crash =
     either_plain (was_withdrawn (events basis log) crash.id) _ (option_map_or (decide_repeated crash) (raw_of log crash.id) (decide_new basis log crash)) tt (by (raw_of log crash.id)) where
-  by : (held : Option Crash) → IsPlain (option_map_or (decide_repeated crash) held (decide_new basis log crash))
-  by None = either_plain (nat_le basis.crashes (length (accepted_ids (events basis log)))) _ _ tt tt
-  by (Some raw) = either_plain (bytes_eq (content_text raw) (content_text crash)) _ _ tt tt
+      by : (held : Option Crash) → IsPlain (option_map_or (decide_repeated crash) held (decide_new basis log crash))
+      by None = either_plain (nat_le basis.crashes (length (accepted_ids (events basis log)))) _ _ tt tt
+      by (Some raw) = either_plain (bytes_eq (content_text raw) (content_text crash)) _ _ tt tt
 
 decided_plain : (basis : Basis) (log : List Change) (command : Command) → IfSome (decide basis log command) IsPlain
 decided_plain basis log (C.Submit raw) = submission_plain basis log (crash_of raw)

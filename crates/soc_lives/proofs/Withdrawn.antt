@@ -1,7 +1,6 @@
 -- Withdrawn crashes in later lives.
-use Rattle.std.proofs.Common.{◌≡◌, ℕ, Bool, true, ◌||◌, IsTrue, List, [], ◌∷◌, ◌++◌, map, sym, ap, subst, ◌∙◌, refl}
+use Rattle.std.proofs.Common.{◌≡◌, ℕ, true, ◌||◌, List, [], ◌∷◌, sym, ap, ◌∙◌, refl}
 use Rattle.std.specs.Prelude.{bytes_eq}
-use Rattle.std.specs.List.{AllByRecursion}
 use Rattle.std.proofs.lemmas.List.{map-append}
 use Rattle.std.proofs.lemmas.List.Elements.{filter_map-append}
 use Rattle.std.proofs.lemmas.List.Folds.{list_any-append}
@@ -9,12 +8,12 @@ use Rattle.soc_schema.specs.declared.caller.Caller.{Caller}
 use Rattle.soc_ledger.specs.Events.{is_among, was_withdrawn, withdrawn_ids, withdrawn_in}
 use Rattle.soc_desk.specs.Basis.{Basis}
 use Rattle.soc_desk.specs.Laws.{IsAbsent}
-use Rattle.soc_desk.specs.Log.{Change, Kept, accept, ask, withdraw, report, keep, done, stop, event_of, events}
+use Rattle.soc_desk.specs.Log.{Change, accept, ask, withdraw, report, keep, done, stop, event_of, events}
 use Rattle.soc_desk.specs.Opens.{log_of}
 use Rattle.soc_desk.specs.State.{State, kept_of}
 use Rattle.soc_desk.proofs.Unseen.{hides}
 use Rattle.soc_desk.proofs.Views.{all_both, all_weaker}
-use Rattle.soc_lives.specs.Lives.{AllLive, Life, Lives, ended}
+use Rattle.soc_lives.specs.Lives.{Life, Lives}
 use Rattle.soc_lives.specs.Laws.{BeginsWith, InEachState, WithdrawnStaysHidden}
 use Rattle.soc_lives.proofs.Growth.{IsFrontOf}
 use Rattle.soc_lives.proofs.Later.{each_state_behind, in_each_state, kept_later, later_lives}

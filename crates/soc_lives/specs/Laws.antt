@@ -1,6 +1,6 @@
 -- What holds of all lives that follow one another on one disk. A law that names a life and the later ones holds of every life
 -- of a list: those behind it follow one another on the bytes that it left.
-use Rattle.std.specs.Prelude.{◌≡◌, ◌≢◌, ◌⊎◌, ℕ, ◌≤◌, Bool, false, IsTrue, List, [], ◌∷◌, ◌++◌, length, map, filter, Option, None, Some, IfSome, IsSomeAnd, bytes_eq, ⊤}
+use Rattle.std.specs.Prelude.{◌≡◌, ◌⊎◌, ℕ, ◌≤◌, Bool, false, IsTrue, List, [], ◌∷◌, ◌++◌, length, map, filter, Option, None, Some, IfSome, bytes_eq, ⊤}
 use Rattle.std.specs.List.{AllByRecursion, list_any}
 use Rattle.std.specs.Option.{option_map, option_map_or}
 use Rattle.soc_raw.specs.RawCrash.{crash_of}
@@ -8,7 +8,7 @@ use Rattle.soc_raw.specs.Record.{Crash, content_text}
 use Rattle.soc_raw.specs.declared.raw_crash.RawCrash.{RawCrash}
 use Rattle.soc_schema.specs.declared.caller.Caller.{Caller}
 use Rattle.soc_schema.specs.declared.value.Cell.{Cell}
-use Rattle.soc_ledger.specs.Due.{due_ids, is_due}
+use Rattle.soc_ledger.specs.Due.{is_due}
 use Rattle.soc_ledger.specs.Events.{was_withdrawn}
 use Rattle.soc_desk.specs.declared.desk.Command.TheVariants as C
 use Rattle.soc_desk.specs.declared.desk.Reply.TheVariants as R
@@ -26,7 +26,7 @@ use Rattle.soc_lives.specs.Lives.{Action, asking, storing, failing, keeping, Tra
 abbrev pub InEachState : (State → Type 0) → Life → Type 0
 InEachState P life = P (opened life) × AllByRecursion (λ transition. P transition.after) life.transitions
 
--- at this transition of a life, wherever it stands
+-- at each transition of a life
 abbrev pub AtEach : (Transition → Type 0) → Life → Type 0
 AtEach P life = AllByRecursion P life.transitions
 
@@ -101,7 +101,7 @@ FailsToWrite (failing raws) = ⊤
 FailsToWrite (keeping (R.Refused F.StoreFault)) = ⊤
 FailsToWrite _ = ⊥
 
--- A doubt is settled, and then it is gone: what is in doubt afterwards is nothing, or what this action itself failed to write.
+-- The doubt is settled, and then it is gone: something is in doubt afterwards only where this action's own write failed.
 pub record SettlesDoubt (before : State) (action : Action) (after : State) : Type 0 where
   pub log : List Change
   pub settles : Settles before.log before.doubt log
@@ -109,7 +109,7 @@ pub record SettlesDoubt (before : State) (action : Action) (after : State) : Typ
   pub after_log : after.log ≡ log ++ own
   pub gone : (after.doubt ≡ []) ⊎ FailsToWrite action
 
--- or it isn't settled, and stays with no kept change behind it
+-- the doubt isn't settled, and stays, and nothing is kept behind it
 pub record LeavesDoubt (before after : State) : Type 0 where
   pub same : after.doubt ≡ before.doubt
   pub nothing_kept : kept_of after.log ≡ kept_of before.log

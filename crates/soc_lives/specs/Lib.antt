@@ -1,4 +1,4 @@
+mod Examples
 pub mod Laws
 pub mod Lives
 pub mod Runs
-mod Histories

@@ -1,6 +1,6 @@
--- Worked lives: a doubt that the next life finds kept, one that it finds dropped, and a submission that is repeated over
--- three lives and withdrawn.
-use Rattle.std.specs.Prelude.{◌≡◌, ℕ, List, [], ◌∷◌, ◌++◌, codes, replicate, Some, None, true, refl}
+-- Worked lives: a doubt that the next life finds kept, one that it finds dropped, a submission that is repeated over three
+-- lives and withdrawn, and a report that is kept.
+use Rattle.std.specs.Prelude.{ℕ, List, [], ◌∷◌, ◌++◌, codes, replicate, Some, None, true, refl}
 use Rattle.std.proofs.Common.{inl, inr, lit<, lit≤}
 use Rattle.std.specs.List.Sorted.{IsStrictlySortedBy}
 use Rattle.soc_raw.specs.CrashId.{is_id}
@@ -8,17 +8,18 @@ use Rattle.soc_raw.specs.Record.{Crash, IsCrash, content_text, head_text, record
 use Rattle.soc_raw.specs.declared.raw_crash.RawCrash.{RawCrash}
 use Rattle.soc_schema.specs.declared.caller.Caller.{Caller}
 use Rattle.soc_schema.specs.declared.caller.Products.TheVariants.{All}
-use Rattle.soc_schema.specs.Reports.{bare_row}
+use Rattle.soc_schema.specs.Fields.{field_entry, field_table, kind_of}
+use Rattle.soc_schema.specs.Reports.{bare_row, bare_row-tells}
+use Rattle.soc_schema.specs.RowText.{HasText, row_text}
 use Rattle.soc_journal.specs.Entries.{closed_gate, entries_text, entry_text, header, second_version}
 use Rattle.soc_desk.specs.declared.desk.Command.TheVariants as C
 use Rattle.soc_desk.specs.declared.desk.Reply.TheVariants as R
 use Rattle.soc_desk.specs.declared.desk.Refusal.TheVariants as F
 use Rattle.soc_desk.specs.Basis.{Basis}
-use Rattle.soc_desk.specs.Desk.{Step}
-use Rattle.soc_desk.specs.Log.{Change, Kept, accept, ask, withdraw, keep, IsLegal, IsSound}
+use Rattle.soc_desk.specs.Log.{Kept, KeptReport, accept, ask, withdraw, report, keep, done, IsLegal, IsSound}
 use Rattle.soc_desk.specs.Opens.{log_of}
-use Rattle.soc_desk.specs.State.{State, settled, IsLegalState, StandsFor, entries_of}
-use Rattle.soc_lives.specs.Lives.{AllLive, IsTransition, Life, Transition, asking}
+use Rattle.soc_desk.specs.State.{State, settled, StandsFor, entries_of}
+use Rattle.soc_lives.specs.Lives.{AllLive, IsTransition, Life, Transition, asking, keeping}
 
 abbrev id : List ℕ
 id = codes "de1bb258-cbbf-4589-a673-34f800160918"
@@ -201,4 +202,75 @@ asked_three_times = (
     record { is_told = refl; is_found = inr one; legal = one_legal; goes = (repeated, (withdrawn, tt)); ends = inl gone },
     (record { is_told = refl; is_found = inr gone; legal = gone_legal; goes = (refused, tt); ends = inl gone }, tt),
   ),
+)
+
+-- ---- a kept report
+
+-- the first life drains and keeps the report, and the second one finds it, with nothing due
+abbrev made : KeptReport
+made = record { id = id; digest = replicate 32 1; row = bare_row crash }
+
+has_text : HasText made.row (row_text made.row)
+unfolding lib.Utf8.encode kind_of field_entry field_table
+has_text = record { is_row = (lit≤ tt, record { in_table = lit< tt; of_kind = refl }, tt); values = (((id, (refl, refl)), lit< tt), tt); whole = refl }
+
+abbrev reported : List Kept
+reported = accepted ∷ report made ∷ []
+
+abbrev drained : State
+drained = settled (log_of (accepted ∷ []) ++ done id ∷ [])
+
+sound_report : IsSound (log_of (accepted ∷ [])) (keep (report made))
+sound_report = (refl, refl, bare_row-tells crash, has_text)
+
+drained_legal : IsLegal basis drained.log
+drained_legal = record { events_legal = (refl, (refl, tt)); sound = (tt, (sound, tt)); told = λ told. (refl, tt) }
+
+sound_behind : IsSound drained.log (keep (report made))
+sound_behind = (refl, refl, bare_row-tells crash, has_text)
+
+kept_legal : IsLegal basis (drained.log ++ keep (report made) ∷ [])
+kept_legal = record { events_legal = (refl, (refl, (refl, tt))); sound = (sound_behind, (tt, (sound, tt))); told = λ told. (refl, tt) }
+
+reported_legal : IsLegal basis (log_of reported)
+reported_legal = record { events_legal = (refl, (refl, tt)); sound = (sound_report, (sound, tt)); told = λ told. (refl, tt) }
+
+reports : StandsFor (journal reported) reported
+unfolding record_of head_text content_text
+reports = record {
+  gate = closed_gate;
+  rest = [];
+  begins = record { whole = refl; legal = (record { known = refl; short = lit≤ tt }, (record { known = refl; short = lit≤ tt }, tt)) };
+  closed = λ is. cc;
+}
+
+abbrev drains : Transition
+drains = record { action = asking (C.Drain operator) (R.Drained 1); after = drained }
+
+did_drain : IsTransition basis (settled (log_of (accepted ∷ []))) drains
+did_drain = ((refl, refl), record { log = drained_legal; doubt = drained_legal })
+
+abbrev keeps : Transition
+keeps = record { action = keeping (R.Kept 1); after = settled (drained.log ++ keep (report made) ∷ []) }
+
+did_keep : IsTransition basis drained keeps
+unfolding entry_text record_of head_text content_text
+did_keep = (inr (record { log = drained.log; settles = refl; keeps = (refl, refl) }), record { log = kept_legal; doubt = kept_legal })
+
+abbrev idles : Transition
+idles = record { action = asking (C.Drain operator) (R.Drained 0); after = settled (log_of reported) }
+
+did_idle : IsTransition basis (settled (log_of reported)) idles
+did_idle = ((refl, refl), record { log = reported_legal; doubt = reported_legal })
+
+abbrev keeps_it : Life
+keeps_it = record { basis = basis; opening = []; transitions = submits ∷ drains ∷ keeps ∷ []; cut = None; image = journal reported }
+
+abbrev has_it : Life
+has_it = record { basis = basis; opening = reported; transitions = idles ∷ []; cut = None; image = journal reported }
+
+report_found : AllLive [] (keeps_it ∷ has_it ∷ [])
+report_found = (
+  record { is_told = refl; is_found = inl (refl, refl); legal = none_legal; goes = (submitted, (did_drain, (did_keep, tt))); ends = inl reports },
+  (record { is_told = refl; is_found = inr reports; legal = reported_legal; goes = (did_idle, tt); ends = inl reports }, tt),
 )
