@@ -10,6 +10,7 @@ pub mod Kinds
 pub mod Log
 pub mod Opens
 pub mod Reads
+pub mod Runs
 pub mod State
 pub mod View
 mod Examples

@@ -20,7 +20,8 @@ use Rattle.soc_desk.specs.Log.{Change, Kept}
 use Rattle.soc_desk.specs.State.{State, Allowed, StandsFor, kept_in, kept_of}
 use Rattle.soc_session.specs.Desk.{Asking, Exchange, StepsDesk}
 use Rattle.soc_session.specs.Session.{Response, met, refused, RunsDesk}
-use Rattle.soc_replay.specs.Runs.{Answers, DeskAt, RoseBy, store_fault, store_faults}
+use Rattle.soc_desk.specs.Runs.{Answers, DeskAt}
+use Rattle.soc_replay.specs.Blames.{RoseBy, store_fault, store_faults}
 
 -- ---- the disk's count of faults
 

@@ -25,7 +25,8 @@ use Rattle.soc_book.specs.Openings.{IsBasisOf, OpensBook}
 use Rattle.soc_replay.proofs.RunLemmas.{IsOver, Outlives, Reaches, goes_on, keeping_has, reaches}
 use Rattle.soc_session.specs.declared.ending.SessionEnd.{SessionEnd}
 use Rattle.soc_session.specs.declared.ending.SessionEnd.TheVariants.{Ended, Closed, Stopped, Refused, ReadFault, WriteFault, TooLong, NoMemory}
-use Rattle.soc_replay.specs.Runs.{DeskAt, RoseBy, store_faults}
+use Rattle.soc_desk.specs.Runs.{DeskAt}
+use Rattle.soc_replay.specs.Blames.{RoseBy, store_faults}
 use Rattle.soc_session.specs.declared.rules.Rules.{Rules}
 use Rattle.soc_session.specs.Desk.{Asking, StepsDesk}
 use Rattle.soc_session.specs.Session.{Around, Response, met, refused, RunsDesk, Serves, around}

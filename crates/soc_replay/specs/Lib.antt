@@ -1,3 +1,4 @@
+pub mod Blames
 pub mod Check
 pub mod Documents
 pub mod Ends
@@ -5,7 +6,6 @@ pub mod Files
 pub mod Opening
 pub mod Refusals
 pub mod Replay
-pub mod Runs
 pub mod Serving
 pub mod Settings
 pub mod Setup

@@ -16,7 +16,8 @@ use Rattle.soc_desk.specs.Log.{Change, events}
 use Rattle.soc_desk.specs.State.{State, doubted, Allowed, IsLegalState, settled}
 use Rattle.soc_session.specs.declared.ending.SessionEnd.{SessionEnd}
 use Rattle.soc_session.specs.declared.ending.SessionEnd.TheVariants.{Ended, Closed, Stopped, Refused, ReadFault, WriteFault, TooLong, NoMemory}
-use Rattle.soc_replay.specs.Runs.{Answers, DeskAt, RoseBy, store_faults}
+use Rattle.soc_desk.specs.Runs.{Answers, DeskAt}
+use Rattle.soc_replay.specs.Blames.{RoseBy, store_faults}
 use Rattle.soc_session.specs.Session.{Serves, around}
 use Rattle.soc_replay.specs.declared.ending.Keeping.{Keeping}
 use Rattle.soc_replay.specs.declared.ending.Keeping.TheVariants as K

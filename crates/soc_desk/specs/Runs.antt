@@ -1,14 +1,10 @@
--- What a desk goes through in a session over a journal: its log, and what stops of the machine may leave. This project's
--- profile.
-use Rattle.std.specs.Prelude.{◌≡◌, ◌⊎◌, ℕ, ◌+◌, ◌<◌, ◌≤◌, ◌^◌, false, IsTrue, List, [], ◌∷◌, length}
-use Rattle.std.specs.Option.{option_map_or}
-use Rattle.soc_edge.specs.Faults.{last_count, Rose}
+-- What a desk over a journal goes through: its log, its disk's own clock and faults, and what stops of the machine may leave.
+-- This project's profile.
+use Rattle.std.specs.Prelude.{◌≡◌, ◌⊎◌, ℕ, ◌≤◌, ◌<◌, ◌^◌, false, IsTrue, List, length}
+use Rattle.soc_edge.specs.Faults.{Rose}
 use Rattle.soc_ledger.specs.Events.{has_stop}
 use Rattle.soc_desk.specs.declared.desk.Command.{Command}
 use Rattle.soc_desk.specs.declared.desk.Receipt.{Receipt}
-use Rattle.soc_desk.specs.declared.desk.Reply.{Reply}
-use Rattle.soc_desk.specs.declared.desk.Reply.TheVariants as R
-use Rattle.soc_desk.specs.declared.desk.Refusal.TheVariants as F
 use Rattle.soc_desk.specs.Asks.{Gains, IsAltered, IsStoreFault}
 use Rattle.soc_desk.specs.Basis.{Basis}
 use Rattle.soc_desk.specs.Desk.{Step}
@@ -16,7 +12,6 @@ use Rattle.soc_desk.specs.Kinds.{IsReplyTo}
 use Rattle.soc_desk.specs.Laws.{HasAll}
 use Rattle.soc_desk.specs.Log.{events}
 use Rattle.soc_desk.specs.State.{State, IsLegalState, Allowed, kept_of}
-use Rattle.soc_session.specs.Session.{Response, met, refused}
 
 -- a desk between two commands: its state, the moment of the disk's own clock, and how many of the disk's calls have failed
 pub record DeskAt : Type 0 where
@@ -45,19 +40,3 @@ pub record Answers (basis : Basis) (left : ℕ → List ℕ → Type 0) (before 
       → (Allowed before.state image ⊎ Allowed after.state image) ⊎ left after.moment image
   -- a stop since the answer leaves all that was kept by then
   pub outlives : IsTrue basis.is_told → (image : List ℕ) → left after.moment image → HasAll (kept_of after.state.log) image
-
--- ---- faults of the disk
-
-abbrev pub store_fault : Reply → ℕ
-store_fault (R.Refused F.StoreFault) = 1
-store_fault _ = 0
-
--- how many of these responses blame the disk
-abbrev pub store_faults : List Response → ℕ
-store_faults [] = 0
-store_faults (met exchange ∷ responses) = option_map_or (λ asking. store_fault asking.receipt.reply) exchange.asked 0 + store_faults responses
-store_faults (refused error ∷ responses) = store_faults responses
-
--- the count rose by this number at least, or stands at its last value
-abbrev pub RoseBy : ℕ → ℕ → ℕ → Type 0
-RoseBy number before after = (before + number ≤ after) ⊎ (last_count ≤ after)
