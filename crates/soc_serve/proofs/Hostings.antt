@@ -43,7 +43,6 @@ closes : (before after : Surroundings) (middle : DiskTold) (end : HostEnd) (basi
 closes before after middle (H.Before end) basis closed swept on ends = absurd ends
 closes before after middle (H.Swept fault) basis closed swept on ends = (
   record {
-    piece = ends.0.piece;
     behind = ends.0.behind;
     cause = λ is. ⊎_elim (λ rose. inl (later_fault before.disk middle after.disk on rose)) (λ untold. inr untold) (ends.0.cause is);
     stage = ends.0.stage;
@@ -151,7 +150,7 @@ module _ (row_of row_of' : Crash → List Cell) (digest digest' : Option (List �
 pub unswept : (told : Told) (disk : DiskTold) (early late : Outlook) → IsDisk disk → (basis : Basis) (state : State)
     → ClosesBook (surroundings told disk early) (surroundings told disk late) (H.Swept S.NoMemory) basis state state
 unswept told disk early late is basis state =
-    record { ends = (record { piece = []; behind = sym (append-nil state.log); cause = λ is. cc; stage = λ is. cc }, refl); goes_on = GoesOn-none disk is }
+    record { ends = (record { behind = ([], sym (append-nil state.log)); cause = λ is. cc; stage = λ is. cc }, refl); goes_on = GoesOn-none disk is }
 
 -- the disk that was lent ends as this one
 pub served_on : {D : Type 0} (state : D → DiskTold) (final here : D) → final ≡ here

@@ -22,7 +22,7 @@ use Rattle.soc_book.specs.Keeping.{KeepsReports}
 use Rattle.soc_book.specs.inner.Does.{Does}
 use Rattle.soc_serve.specs.declared.sweep.SweepFault.{SweepFault}
 use Rattle.soc_serve.specs.declared.sweep.SweepFault.TheVariants as S
-use Rattle.soc_serve.specs.Sweep.{EndsSweep, FailsKeeping, FailsLate, FailsProcessing, FailsSweep, KeepsAll, Processes}
+use Rattle.soc_serve.specs.Sweep.{EndsSweep, FailsKeeping, FailsLate, FailsProcessing, FailsSweep, IsBehind, KeepsAll, KeepsTwice, Processes}
 use Rattle.soc_serve.specs.inner.Sweeping.{EndsBoth, EndsDrain, EndsKeep, FailsStep, drained, kept}
 
 -- a caller who may have crashes processed
@@ -36,9 +36,9 @@ pub ends_drain : (basis : Basis) (before : State) (disk : DiskTold) (reply : Rep
     → Does basis before disk (C.Drain operator) reply after disk' → EndsDrain basis before disk (drained reply) after disk'
 ends_drain basis before disk (R.Drained count) after disk' does =
     (count, record { piece = does.gains.piece; behind = does.gains.behind; drains = does.gains.grows.0; step = does.step })
-ends_drain basis before disk (R.Refused F.NoMemory) after disk' does = record { piece = does.gains.piece; behind = does.gains.behind; cause = λ is. cc }
-ends_drain basis before disk (R.Refused F.StoreFault) after disk' does = record { piece = does.gains.piece; behind = does.gains.behind; cause = λ is. inl (does.fault tt) }
-ends_drain basis before disk (R.Refused (F.Altered id)) after disk' does = record { piece = does.gains.piece; behind = does.gains.behind; cause = λ is. inr (does.altered tt) }
+ends_drain basis before disk (R.Refused F.NoMemory) after disk' does = record { behind = (does.gains.piece, does.gains.behind); cause = λ is. cc }
+ends_drain basis before disk (R.Refused F.StoreFault) after disk' does = record { behind = (does.gains.piece, does.gains.behind); cause = λ is. inl (does.fault tt) }
+ends_drain basis before disk (R.Refused (F.Altered id)) after disk' does = record { behind = (does.gains.piece, does.gains.behind); cause = λ is. inr (does.altered tt) }
 ends_drain basis before disk (R.Refused (F.NoPermission name)) after disk' does = absurd (none_is_not_some does.kind)
 ends_drain basis before disk reply after disk' does = absurd does.kind.1
 
@@ -51,10 +51,10 @@ none_of log (first ∷ more) piece Adds (inr adds) never = never (log ++ first �
 pub ends_keep : (basis : Basis) (before : State) (disk : DiskTold) (reply : Reply) (after : State) (disk' : DiskTold)
     → KeepsReports basis before disk reply after disk' → EndsKeep basis before disk (kept reply) after disk'
 ends_keep basis before disk (R.Kept count) after disk' keeps = (count, record { piece = keeps.piece; behind = keeps.behind; grows = keeps.grows; step = keeps.step })
-ends_keep basis before disk (R.Refused F.NoMemory) after disk' keeps = (record { piece = keeps.piece; behind = keeps.behind; cause = λ is. cc }, λ is. cc)
+ends_keep basis before disk (R.Refused F.NoMemory) after disk' keeps = (record { behind = (keeps.piece, keeps.behind); cause = λ is. cc }, λ is. cc)
 ends_keep basis before disk (R.Refused F.StoreFault) after disk' keeps = (
-  record { piece = keeps.piece; behind = keeps.behind; cause = λ is. inl (keeps.fault tt) },
-  λ is. (before, record { piece = keeps.piece; behind = keeps.behind; grows = keeps.grows; step = keeps.step }),
+  record { behind = (keeps.piece, keeps.behind); cause = λ is. inl (keeps.fault tt) },
+  λ is. (before, ([], sym (append-nil before.log)), record { piece = keeps.piece; behind = keeps.behind; grows = keeps.grows; step = keeps.step }),
 )
 ends_keep basis before disk reply after disk' keeps = absurd (none_of _ _ _ (Reports basis _ _) keeps.grows (λ log own (reports : Reports basis _ _ log own). reports.ends))
 
@@ -84,68 +84,96 @@ later_fault disk middle disk' on failed = wider_fault disk middle disk' disk' on
 behind_both : (log middle after piece more : List Change) → middle ≡ log ++ piece → after ≡ middle ++ more → after ≡ log ++ (piece ++ more)
 behind_both log middle after piece more first last = last ∙ (ap (λ l. l ++ more) first ∙ append_assoc log piece more)
 
+still : (state : State) → IsBehind state state
+still state = ([], sym (append-nil state.log))
+
+behind_again : (before middle after : State) → IsBehind before middle → IsBehind middle after → IsBehind before after
+behind_again before middle after first last =
+    (first.0 ++ last.0, behind_both before.log middle.log after.log first.0 last.0 first.1 last.1)
+
+pub keeping_behind : (basis : Basis) (before middle after : State) → IsBehind before middle
+    → FailsKeeping basis middle after → FailsKeeping basis before after
+keeping_behind basis before middle after behind fails = (fails.0, behind_again before middle fails.0 behind fails.1, fails.2)
+
+processing_behind : (basis : Basis) (before middle after : State) → IsBehind before middle
+    → FailsProcessing basis middle after → FailsProcessing basis before after
+processing_behind basis before middle after behind fails =
+    (fails.0, fails.1, behind_again before middle fails.0 behind fails.2, fails.3)
+
+twice_behind : (basis : Basis) (before after : State) → KeepsTwice basis before after → IsBehind before after
+twice_behind basis before after keeps =
+    behind_again before keeps.first after
+    (behind_again before keeps.opened keeps.first (keeps.keeps_early.piece, keeps.keeps_early.behind) (keeps.processes.piece, keeps.processes.behind))
+    (keeps.keeps_made.piece, keeps.keeps_made.behind)
+
 -- a step that failed, behind others and before others
-fails_within : (basis : Basis) (before from to after : State) (disk middle last disk' : DiskTold) (fault : SweepFault) (piece more : List Change)
-    → disk.faults ≤ middle.faults → from.log ≡ before.log ++ piece → FailsStep basis from middle fault to last → last.faults ≤ disk'.faults → after.log ≡ to.log ++ more
+fails_within : (basis : Basis) (before from to after : State) (disk middle last disk' : DiskTold) (fault : SweepFault)
+    → disk.faults ≤ middle.faults → IsBehind before from → FailsStep basis from middle fault to last → last.faults ≤ disk'.faults → IsBehind to after
     → FailsStep basis before disk fault after disk'
-fails_within basis before from to after disk middle last disk' fault piece more on behind fails on_to later = record {
-  piece = (piece ++ fails.piece) ++ more;
-  behind = behind_both before.log to.log after.log (piece ++ fails.piece) more (behind_both before.log from.log to.log piece fails.piece behind fails.behind) later;
+fails_within basis before from to after disk middle last disk' fault on behind fails on_to later = record {
+  behind = behind_again before to after (behind_again before from to behind fails.behind) later;
   cause = λ is. ⊎_elim (λ rose. inl (wider_fault disk middle last disk' on on_to rose)) (λ untold. inr untold) (fails.cause is);
 }
 
-pub fails_behind : (basis : Basis) (before from after : State) (disk middle disk' : DiskTold) (fault : SweepFault) (piece : List Change)
-    → GoesOn disk middle → from.log ≡ before.log ++ piece → FailsStep basis from middle fault after disk' → FailsStep basis before disk fault after disk'
-fails_behind basis before from after disk middle disk' fault piece on behind fails =
-    fails_within basis before from after after disk middle disk' disk' fault piece [] on.faults_never_fall behind fails (omega arith) (sym (append-nil after.log))
+pub fails_behind : (basis : Basis) (before from after : State) (disk middle disk' : DiskTold) (fault : SweepFault)
+    → GoesOn disk middle → IsBehind before from → FailsStep basis from middle fault after disk' → FailsStep basis before disk fault after disk'
+fails_behind basis before from after disk middle disk' fault on behind fails =
+    fails_within basis before from after after disk middle disk' disk' fault on.faults_never_fall behind fails (omega arith) (still after)
 
 -- whatever a drain answered, it only added to the log
 pub drain_behind : (basis : Basis) (before : State) (disk : DiskTold) (result : Result (Unit {0}) SweepFault) (after : State) (disk' : DiskTold)
-    → EndsDrain basis before disk result after disk' → (piece : List Change) × (after.log ≡ before.log ++ piece)
+    → EndsDrain basis before disk result after disk' → IsBehind before after
 drain_behind basis before disk (Ok over) after disk' ends = (ends.1.piece, ends.1.behind)
-drain_behind basis before disk (Err fault) after disk' ends = (ends.piece, ends.behind)
+drain_behind basis before disk (Err fault) after disk' ends = ends.behind
 
 pub ends_both : (basis : Basis) (before first after : State) (disk middle disk' : DiskTold) (result : Result (Unit {0}) SweepFault) (count : ℕ)
     → EndsDrain basis before disk result first middle → GoesOn middle disk' → KeepsAll basis first count after
     → EndsBoth basis before disk result after disk'
 ends_both basis before first after disk middle disk' (Ok over) count ends on keeps = (first, ends.0, count, ends.1, keeps)
 ends_both basis before first after disk middle disk' (Err fault) count ends on keeps = (
-  fails_within basis before before first after disk disk middle disk' fault [] keeps.piece (omega arith) (sym (append-nil before.log)) ends on.faults_never_fall keeps.behind,
-  λ is. inr (first, count, keeps),
+  fails_within basis before before first after disk disk middle disk' fault (omega arith) (still before) ends on.faults_never_fall (keeps.piece, keeps.behind),
+  λ is. inr (first, count, ends.behind, keeps),
 )
 
 -- the first step failed, or the second did
 pub first_failed : (basis : Basis) (before after : State) (disk disk' : DiskTold) (fault : SweepFault) → FailsStep basis before disk fault after disk'
-    → (fault ≡ S.Disk → FailsKeeping basis after ⊎ (FailsProcessing basis after ⊎ FailsLate basis after)) → FailsSweep basis before disk fault after disk'
-first_failed basis before after disk disk' fault fails stage = record { piece = fails.piece; behind = fails.behind; cause = fails.cause; stage = stage }
+    → (fault ≡ S.Disk → FailsKeeping basis before after ⊎ (FailsProcessing basis before after ⊎ FailsLate basis before after)) → FailsSweep basis before disk fault after disk'
+first_failed basis before after disk disk' fault fails stage = record { behind = fails.behind; cause = fails.cause; stage = stage }
 
 pub second_failed : (basis : Basis) (before opened after : State) (disk middle disk' : DiskTold) (fault : SweepFault) (early : ℕ) → GoesOn disk middle
     → KeepsAll basis before early opened → EndsBoth basis opened middle (Err fault) after disk' → FailsSweep basis before disk fault after disk'
 second_failed basis before opened after disk middle disk' fault early on keeps ends =
-    first_failed basis before after disk disk' fault (fails_behind basis before opened after disk middle disk' fault keeps.piece on keeps.behind ends.0)
-    (λ is. ⊎_elim (λ kept. inl kept) (λ processed. inr (inl processed)) (ends.1 is))
+    let behind : IsBehind before opened = (keeps.piece, keeps.behind) in
+    first_failed basis before after disk disk' fault (fails_behind basis before opened after disk middle disk' fault on behind ends.0)
+    (λ is. ⊎_elim (λ kept. inl (keeping_behind basis before opened after behind kept))
+    (λ processed. inr (inl (processing_behind basis before opened after behind processed))) (ends.1 is))
+
+twice : (basis : Basis) (before opened kept : State) (disk middle : DiskTold) (early : ℕ)
+    → KeepsAll basis before early opened → EndsBoth basis opened disk (Ok tt) kept middle → KeepsTwice basis before kept
+twice basis before opened kept disk middle early keeps both = record {
+  early = early;
+  opened = opened;
+  keeps_early = keeps;
+  processed = both.1;
+  first = both.0;
+  processes = both.3;
+  count = both.2;
+  keeps_made = both.4;
+}
 
 -- the last step, whatever it ended with
 pub ends_sweep : (basis : Basis) (before opened kept after : State) (disk middle disk' : DiskTold) (result : Result (Unit {0}) SweepFault) (early : ℕ)
     → KeepsAll basis before early opened → EndsBoth basis opened disk (Ok tt) kept middle → GoesOn disk middle → EndsDrain basis kept middle result after disk'
     → EndsSweep basis before disk result after disk'
 ends_sweep basis before opened kept after disk middle disk' (Ok over) early early_keeps both on ends = record {
-  early = early;
-  opened = opened;
-  keeps_early = early_keeps;
-  processed = both.1;
-  first = both.0;
-  processes = both.3;
-  count = both.2;
   kept = kept;
-  keeps = both.4;
+  keeps = twice basis before opened kept disk middle early early_keeps both;
   late = ends.0;
   processes_late = ends.1;
   nothing_due = nothing_due basis kept ends.0 after ends.1;
 }
 ends_sweep basis before opened kept after disk middle disk' (Err fault) early early_keeps both on ends =
-    let first = behind_both before.log opened.log both.0.log early_keeps.piece both.3.piece early_keeps.behind both.3.behind in
-    let second = behind_both before.log both.0.log kept.log (early_keeps.piece ++ both.3.piece) both.4.piece first both.4.behind in
+    let keeps = twice basis before opened kept disk middle early early_keeps both in
     first_failed basis before after disk disk' fault
-    (fails_behind basis before kept after disk middle disk' fault ((early_keeps.piece ++ both.3.piece) ++ both.4.piece) on second ends)
-    (λ is. inr (inr (opened, both.0, kept, both.1, both.2, ends.piece, both.3, both.4, ends.behind)))
+    (fails_behind basis before kept after disk middle disk' fault on (twice_behind basis before kept keeps) ends)
+    (λ is. inr (inr (kept, keeps, ends.behind)))

@@ -33,8 +33,8 @@ pub record KeepsWith (basis : Basis) (before : State) (reply : Reply) (after : S
 abbrev pub KeepsAll : Basis → State → ℕ → State → Type 0
 KeepsAll basis before count after = KeepsWith basis before (R.Kept count) after
 
--- the sweep is done: nothing is due
-pub record Sweeps (basis : Basis) (before after : State) : Type 0 where
+-- Reports were kept, what was due was processed, and its reports were kept too.
+pub record KeepsTwice (basis : Basis) (before after : State) : Type 0 where
   pub early : ℕ
   pub opened : State
   pub keeps_early : KeepsAll basis before early opened
@@ -42,32 +42,38 @@ pub record Sweeps (basis : Basis) (before after : State) : Type 0 where
   pub first : State
   pub processes : Processes basis opened processed first
   pub count : ℕ
+  pub keeps_made : KeepsAll basis first count after
+
+-- the sweep is done: nothing is due
+pub record Sweeps (basis : Basis) (before after : State) : Type 0 where
   pub kept : State
-  pub keeps : KeepsAll basis first count kept
+  pub keeps : KeepsTwice basis before kept
   pub late : ℕ
   pub processes_late : Processes basis kept late after
   pub nothing_due : due_ids (events basis after.log) ≡ []
 
+-- a desk has only gone on
+abbrev pub IsBehind : State → State → Type 0
+IsBehind before later = (piece : List Change) × (later.log ≡ before.log ++ piece)
+
 -- reports could not be kept
-abbrev pub FailsKeeping : Basis → State → Type 0
-FailsKeeping basis after = (between : State) × KeepsWith basis between (R.Refused StoreFault) after
+abbrev pub FailsKeeping : Basis → State → State → Type 0
+FailsKeeping basis before after = (between : State) × IsBehind before between × KeepsWith basis between (R.Refused StoreFault) after
 
 -- not all that was due was processed, and all reports that are made are kept
-abbrev pub FailsProcessing : Basis → State → Type 0
-FailsProcessing basis after = (between : State) × (count : ℕ) × KeepsAll basis between count after
+abbrev pub FailsProcessing : Basis → State → State → Type 0
+FailsProcessing basis before after = (between : State) × (count : ℕ) × IsBehind before between × KeepsAll basis between count after
 
 -- what was due first was processed and its reports kept, and not all that became due meanwhile was processed
-abbrev pub FailsLate : Basis → State → Type 0
-FailsLate basis after = (opened first kept : State) × (processed count : ℕ) × (piece : List Change)
-    × Processes basis opened processed first × KeepsAll basis first count kept × (after.log ≡ kept.log ++ piece)
+abbrev pub FailsLate : Basis → State → State → Type 0
+FailsLate basis before after = (kept : State) × KeepsTwice basis before kept × IsBehind kept after
 
 -- The sweep failed. The disk is blamed only where it failed, or where it tells nothing and gave back other bytes than it was
 -- given. A crash that can't be read costs no other crash its report.
 pub record FailsSweep (basis : Basis) (before : State) (disk : DiskTold) (fault : SweepFault) (after : State) (disk' : DiskTold) : Type 0 where
-  pub piece : List Change
-  pub behind : after.log ≡ before.log ++ piece
+  pub behind : IsBehind before after
   pub cause : fault ≡ F.Disk → DiskFailed disk disk' ⊎ (basis.is_told ≡ false)
-  pub stage : fault ≡ F.Disk → FailsKeeping basis after ⊎ (FailsProcessing basis after ⊎ FailsLate basis after)
+  pub stage : fault ≡ F.Disk → FailsKeeping basis before after ⊎ (FailsProcessing basis before after ⊎ FailsLate basis before after)
 
 abbrev pub EndsSweep : Basis → State → DiskTold → Result (Unit {0}) SweepFault → State → DiskTold → Type 0
 EndsSweep basis before disk (Ok done) after disk' = Sweeps basis before after

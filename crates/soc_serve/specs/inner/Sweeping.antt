@@ -1,15 +1,14 @@
 -- The steps of the last sweep.
-use Rattle.std.specs.Prelude.{◌≡◌, ◌⊎◌, ℕ, false, List, ◌++◌, Result, Ok, Err}
+use Rattle.std.specs.Prelude.{◌≡◌, ◌⊎◌, ℕ, false, Result, Ok, Err}
 use Rattle.soc_edge.specs.Disk.{DiskTold, DiskFailed}
 use Rattle.soc_desk.specs.Basis.{Basis}
-use Rattle.soc_desk.specs.Log.{Change}
 use Rattle.soc_desk.specs.State.{State}
 use Rattle.soc_desk.specs.declared.desk.Reply.{Reply}
 use Rattle.soc_desk.specs.declared.desk.Reply.TheVariants as R
 use Rattle.soc_desk.specs.declared.desk.Refusal.TheVariants as F
 use Rattle.soc_serve.specs.declared.sweep.SweepFault.{SweepFault}
 use Rattle.soc_serve.specs.declared.sweep.SweepFault.TheVariants as S
-use Rattle.soc_serve.specs.Sweep.{FailsKeeping, FailsProcessing, KeepsAll, Processes}
+use Rattle.soc_serve.specs.Sweep.{FailsKeeping, FailsProcessing, IsBehind, KeepsAll, Processes}
 
 -- what the answer to a drain, and to the keeping of reports, says of the sweep
 abbrev pub drained : Reply → Result (Unit {0}) SweepFault
@@ -24,8 +23,7 @@ kept _ = Err S.Disk
 
 -- a step that failed
 pub record FailsStep (basis : Basis) (before : State) (disk : DiskTold) (fault : SweepFault) (after : State) (disk' : DiskTold) : Type 0 where
-  pub piece : List Change
-  pub behind : after.log ≡ before.log ++ piece
+  pub behind : IsBehind before after
   pub cause : fault ≡ S.Disk → DiskFailed disk disk' ⊎ (basis.is_told ≡ false)
 
 abbrev pub EndsDrain : Basis → State → DiskTold → Result (Unit {0}) SweepFault → State → DiskTold → Type 0
@@ -34,11 +32,11 @@ EndsDrain basis before disk (Err fault) after disk' = FailsStep basis before dis
 
 abbrev pub EndsKeep : Basis → State → DiskTold → Result (Unit {0}) SweepFault → State → DiskTold → Type 0
 EndsKeep basis before disk (Ok done) after disk' = (count : ℕ) × KeepsAll basis before count after
-EndsKeep basis before disk (Err fault) after disk' = FailsStep basis before disk fault after disk' × (fault ≡ S.Disk → FailsKeeping basis after)
+EndsKeep basis before disk (Err fault) after disk' = FailsStep basis before disk fault after disk' × (fault ≡ S.Disk → FailsKeeping basis before after)
 
 -- what is due is processed, and then reports are kept
 abbrev pub EndsBoth : Basis → State → DiskTold → Result (Unit {0}) SweepFault → State → DiskTold → Type 0
 EndsBoth basis before disk (Ok done) after disk' =
     (first : State) × (processed count : ℕ) × Processes basis before processed first × KeepsAll basis first count after
 EndsBoth basis before disk (Err fault) after disk' = FailsStep basis before disk fault after disk'
-    × (fault ≡ S.Disk → FailsKeeping basis after ⊎ FailsProcessing basis after)
+    × (fault ≡ S.Disk → FailsKeeping basis before after ⊎ FailsProcessing basis before after)

@@ -1,7 +1,7 @@
 use Rattle.std.proofs.lemmas.Result.{err_from_is_err_and}
 use Rattle.std.proofs.Common.{sym, ap, ◌∙◌, inl}
 use Rattle.soc_edge.proofs.Disks.{GoesOn-append}
-use Rattle.soc_serve.proofs.Sweeps.{drain_behind, ends_both, fails_behind}
+use Rattle.soc_serve.proofs.Sweeps.{drain_behind, ends_both, fails_behind, keeping_behind}
 use Rattle.soc_serve.proofs.sweep.process_and_keep.Goals as goal
 
 pub returns-in_err-keep-clause-ends : goal.returns-in_err-keep-clause-ends
@@ -10,7 +10,7 @@ returns-in_err-keep-clause-ends g c basis state rows digest stands =
     let kept = c.in_err-keep.ensures.ends basis first.0 (rows ∙ sym (ap g.R.Reporter.row_of c.drain-processed.ensures.reporter)) (digest ∙ sym (ap g.R.Reporter.digest_of c.drain-processed.ensures.reporter)) first.1 in
     let behind = drain_behind basis state _ _ first.0 _ first.2 in
     let p = err_from_is_err_and c.from_residual.result c.from_residual.ensures.1 in
-    (kept.0, kept.1, rw (p.1, p.2) (fails_behind basis state first.0 kept.0 _ _ _ _ behind.0 first.3 behind.1 kept.2.0, λ is. inl (kept.2.1 is)), GoesOn-append _ _ _ first.3 kept.3)
+    (kept.0, kept.1, rw (p.1, p.2) (fails_behind basis state first.0 kept.0 _ _ _ _ first.3 behind kept.2.0, λ is. inl (keeping_behind basis state first.0 kept.0 behind (kept.2.1 is))), GoesOn-append _ _ _ first.3 kept.3)
 
 pub returns-clause-ends : goal.returns-clause-ends
 returns-clause-ends g c basis state rows digest stands =
