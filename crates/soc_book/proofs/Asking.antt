@@ -33,15 +33,15 @@ use Rattle.soc_book.proofs.Changes.{legal-next}
 use Rattle.soc_book.proofs.Deciding.{answered, decided_as, written_decides}
 use Rattle.soc_book.proofs.Readings.{unseen_gone}
 use Rattle.soc_book.proofs.Sights.{held_now, seen_in, unseen_in}
-use Rattle.soc_book.proofs.Standing.{images_allowed}
+use Rattle.soc_book.proofs.Standing.{allowed_in}
 
-module _ (basis : Basis) (limits : Limits) (ledger : LedgerState) (rows : List (ℕ × List Cell)) (pending : Option Pending) (journal : JournalState) (disk : DiskTold) (log : List Change)
+module _ {basis : Basis} {limits : Limits} {ledger : LedgerState} {rows : List (ℕ × List Cell)} {pending : Option Pending} {journal : JournalState} {disk : DiskTold} {log : List Change}
     (stands : Stands basis limits ledger rows pending journal disk (settled log)) where
   abbrev now : List Event
   now = events basis log
 
   pub allowed : IsTrue basis.is_told → (image : List ℕ) → disk.images image → Allowed (settled log) image
-  allowed is_told image left = images_allowed basis journal disk log [] (stands.told is_told) image left
+  allowed is_told image left = allowed_in stands is_told image left
 
   pub held_log : (id : List ℕ) (number : ℕ) → IsHeldAs ledger id number → is_held now id ≡ true
   held_log id number held = held_now basis log ledger rows stands.legal.log stands.holds id true held.held
@@ -53,7 +53,7 @@ module _ (basis : Basis) (limits : Limits) (ledger : LedgerState) (rows : List (
   pub withdraw_legal : (id : List ℕ) (number : ℕ) → IsHeldAs ledger id number → IsLegal basis (log ++ keep (withdraw id) ∷ [])
   withdraw_legal id number held = legal-next basis log (keep (withdraw id)) stands.legal.log (held_log id number held) tt (λ is_told. tt)
 
-module _ (basis : Basis) (limits : Limits) (ledger : LedgerState) (rows : List (ℕ × List Cell)) (pending : Option Pending) (journal : JournalState) (disk : DiskTold) (log : List Change)
+module _ {basis : Basis} {limits : Limits} {ledger : LedgerState} {rows : List (ℕ × List Cell)} {pending : Option Pending} {journal : JournalState} {disk : DiskTold} {log : List Change}
     (stands : Stands basis limits ledger rows pending journal disk (settled log)) (caller : Caller) (id : List ℕ) where
   abbrev before : List Event
   before = events basis log
@@ -72,21 +72,13 @@ module _ (basis : Basis) (limits : Limits) (ledger : LedgerState) (rows : List (
   module _ (sound : IsDisk disk) (command : Command) (decision : Decision) (is : decide basis log command ≡ Some (if_seen basis log caller id decision)) (kind : IsReplyTo command (R.Refused F.NoCrash))
       (adds : IsGone caller id before → Adds basis command (R.Refused F.NoCrash) [] before []) where
     not_seen : Sees ledger caller id (Err F.NoCrash) → IsDecided basis log disk command (R.Refused F.NoCrash) (settled log) disk
-    not_seen unseen = answered basis log disk disk command (R.Refused F.NoCrash) (Looks-none disk sound) (allowed basis limits ledger rows pending journal disk log stands) kind tt (λ never. absurd never) (adds (subst (IsGone caller id) stands.holds.events_are (unseen_gone ledger caller id unseen)))
+    not_seen unseen = answered basis log disk disk command (R.Refused F.NoCrash) (Looks-none disk sound) (allowed stands) kind tt (λ never. absurd never) (adds (subst (IsGone caller id) stands.holds.events_are (unseen_gone ledger caller id unseen)))
         (λ is_told. decided_as basis log disk disk command (answers (R.Refused F.NoCrash)) (R.Refused F.NoCrash) (settled log) (is ∙ ap (λ (d : Decision). Some d) (unseen_decides decision unseen is_told)) (refl, refl))
 
     pub refuses : (refusal : Refusal) → Sees ledger caller id (Err refusal)
         → (after : State) × Stands basis limits ledger rows pending journal disk after × IsDecided basis log disk command (R.Refused refusal) after disk
     refuses F.NoCrash unseen = (settled log, stands, not_seen unseen)
-    refuses F.StoreFault never = absurd never
-    refuses F.JournalFull never = absurd never
-    refuses (F.OtherContent other) never = absurd never
-    refuses F.NotProcessed never = absurd never
-    refuses F.TooManyCrashes never = absurd never
-    refuses (F.NoPermission name) never = absurd never
-    refuses (F.Altered other) never = absurd never
-    refuses (F.Withdrawn other) never = absurd never
-    refuses F.NoMemory never = absurd never
+    refuses _ never = absurd never
 
   pub priority_refused : IsDisk disk → (refusal : Refusal) → Sees ledger caller id (Err refusal)
       → (after : State) × Stands basis limits ledger rows pending journal disk after × IsDecided basis log disk (C.Priority caller id) (R.Refused refusal) after disk
@@ -116,7 +108,7 @@ module _ (basis : Basis) (limits : Limits) (ledger : LedgerState) (rows : List (
     pub priority_passes : IsDisk disk → true ≡ (is_due ledger.log (id_of ledger number) || has_report ledger.log (id_of ledger number)) → IsDecided basis log disk (C.Priority caller id) (R.Asked false false) (settled log) disk
     priority_passes sound done =
         let was : (is_due before id || has_report before id) ≡ true = ap (λ b. b || has_report before id) due_now ∙ (ap (λ b. is_due ledger.log id || b) reported_now ∙ tested true done) in
-        answered basis log disk disk (C.Priority caller id) (R.Asked false false) (Looks-none disk sound) (allowed basis limits ledger rows pending journal disk log stands) (refl, refl) tt (λ never. absurd never) (held_log basis limits ledger rows pending journal disk log stands id number held, was, refl, refl)
+        answered basis log disk disk (C.Priority caller id) (R.Asked false false) (Looks-none disk sound) (allowed stands) (refl, refl) tt (λ never. absurd never) (held_log stands id number held, was, refl, refl)
         (λ is_told. decided_as basis log disk disk (C.Priority caller id) (answers (R.Asked false false)) (R.Asked false false) (settled log)
         (ap (λ (d : Decision). Some d) (seen_decides (decide_priority basis log id) number held shown_it is_told ∙ ap (λ b. if b then answers (R.Asked false false) else appends (ask id) (R.Asked true true)) was)) (refl, refl))
 
@@ -131,9 +123,9 @@ module _ (basis : Basis) (limits : Limits) (ledger : LedgerState) (rows : List (
           full_kind = (refl, tt);
           plain = tt;
           no_fault = λ fault. fault;
-          adds = (held_log basis limits ledger rows pending journal disk log stands id number held, ap not not_yet, refl, refl);
-          fault_adds = ((held_log basis limits ledger rows pending journal disk log stands id number held, ap not not_yet, refl), refl);
-          full_adds = ((held_log basis limits ledger rows pending journal disk log stands id number held, ap not not_yet, refl), refl);
+          adds = (held_log stands id number held, ap not not_yet, refl, refl);
+          fault_adds = ((held_log stands id number held, ap not not_yet, refl), refl);
+          full_adds = ((held_log stands id number held, ap not not_yet, refl), refl);
         }) (λ is_told. refl)
         (λ is_told. ap (λ (d : Decision). Some d) (seen_decides (decide_priority basis log id) number held shown_it is_told ∙ ap (λ b. if b then answers (R.Asked false false) else appends (ask id) (R.Asked true true)) not_yet))
         reply after wrote
@@ -146,9 +138,9 @@ module _ (basis : Basis) (limits : Limits) (ledger : LedgerState) (rows : List (
       full_kind = (permitted, tt);
       plain = tt;
       no_fault = λ fault. fault;
-      adds = (held_log basis limits ledger rows pending journal disk log stands id number held, refl, refl);
-      fault_adds = ((held_log basis limits ledger rows pending journal disk log stands id number held, refl), refl);
-      full_adds = ((held_log basis limits ledger rows pending journal disk log stands id number held, refl), refl);
+      adds = (held_log stands id number held, refl, refl);
+      fault_adds = ((held_log stands id number held, refl), refl);
+      full_adds = ((held_log stands id number held, refl), refl);
     }) (λ is_told. refl) (λ is_told. ap (λ (d : Decision). Some d) (seen_decides (appends (ask id) (R.Asked true true)) number held shown_it is_told)) reply after wrote
 
     pub withdraw_writes : (disk' : DiskTold) (reply : Reply) (after : State) → lacked (C.Withdraw caller id) ≡ None → IsWritten basis log disk (withdraw id) R.Withdrawn reply after disk'
@@ -159,7 +151,7 @@ module _ (basis : Basis) (limits : Limits) (ledger : LedgerState) (rows : List (
       full_kind = (permitted, tt);
       plain = tt;
       no_fault = λ fault. fault;
-      adds = (held_log basis limits ledger rows pending journal disk log stands id number held, refl, refl);
-      fault_adds = ((held_log basis limits ledger rows pending journal disk log stands id number held, refl), refl);
-      full_adds = ((held_log basis limits ledger rows pending journal disk log stands id number held, refl), refl);
+      adds = (held_log stands id number held, refl, refl);
+      fault_adds = ((held_log stands id number held, refl), refl);
+      full_adds = ((held_log stands id number held, refl), refl);
     }) (λ is_told. refl) (λ is_told. ap (λ (d : Decision). Some d) (seen_decides (appends (withdraw id) R.Withdrawn) number held shown_it is_told)) reply after wrote

@@ -2,13 +2,17 @@
 use Rattle.std.proofs.Common.{◌≡◌, ◌≢◌, ◌⊎◌, inl, inr, ℕ, ◌<◌, ◌≤◌, Bool, true, false, IsTrue, List, [], ◌∷◌, ◌++◌, map, Option, Some, None, IsSomeAnd, MatchOption, Result, Ok, Err, sym, ap, subst, ◌∙◌, refl, arith, append_assoc}
 use Rattle.std.proofs.lemmas.List.{append-nil, map-append}
 use Rattle.soc_raw.specs.declared.raw_crash.RawCrash.{RawCrash}
+use Rattle.soc_schema.specs.declared.value.Cell.{Cell}
 use Rattle.soc_schema.specs.declared.caller.Caller.{Caller}
 use Rattle.soc_schema.specs.declared.permission.Permission.{Permission}
 use Rattle.soc_edge.specs.Disk.{DiskTold, GoesOn, Looks, DiskFailed}
 use Rattle.soc_edge.proofs.Disks.{GoesOn-append, LeavesOnly-append, LeavesOnly-weaker}
+use Rattle.soc_journal.specs.States.{JournalState}
 use Rattle.soc_ledger.specs.declared.event.Event.{Event}
+use Rattle.soc_ledger.specs.State.{LedgerState}
 use Rattle.soc_desk.specs.declared.desk.Command.{Command}
 use Rattle.soc_desk.specs.declared.desk.Command.TheVariants as C
+use Rattle.soc_desk.specs.declared.desk.Limits.{Limits}
 use Rattle.soc_desk.specs.declared.desk.Reply.{Reply}
 use Rattle.soc_desk.specs.declared.desk.Reply.TheVariants as R
 use Rattle.soc_desk.specs.declared.desk.Refusal.{Refusal}
@@ -18,12 +22,15 @@ use Rattle.soc_desk.specs.Basis.{Basis}
 use Rattle.soc_desk.specs.Decisions.{Decision, appends, decide, lacked}
 use Rattle.soc_desk.specs.Desk.{IfElse, Refuses, Appends, Decides, FailsRead, FailsMend, SettlesAndDecides, StepWriting, Step}
 use Rattle.soc_desk.specs.Grows.{BehindDoubt, Writes, Grows}
-use Rattle.soc_desk.specs.Kinds.{IsReplyTo}
+use Rattle.soc_desk.specs.Kinds.{IsOwnReply, IsReplyTo}
 use Rattle.soc_desk.specs.Log.{Change, Kept, keep, event_of, events}
 use Rattle.soc_desk.specs.State.{State, doubted, settled, Settles, kept_of, has_room, StandsFor, Allowed, Survives}
+use Rattle.soc_book.specs.declared.book.Change.{Change as Pending}
 use Rattle.soc_book.specs.inner.Does.{Adds, Does, IsDecided, IsSettledReply}
-use Rattle.soc_book.specs.inner.Pieces.{Begins, IsAppended, IsWritten, RepliesAs}
+use Rattle.soc_book.specs.inner.Pieces.{IsAppended, IsWritten, RepliesAs, Stays}
+use Rattle.soc_book.specs.inner.Stands.{Stands}
 use Rattle.soc_book.proofs.Changes.{allowed-plain, events-all, kept-all}
+use Rattle.soc_book.proofs.Standing.{allowed_in}
 
 -- ---- the commands that write
 
@@ -36,61 +43,22 @@ pub record IsWriting (basis : Basis) (command : Command) : Type 0 where
   pub journal_full : lacked command ≡ None → IsReplyTo command (R.Refused F.JournalFull)
   pub unaltered : (reply : Reply) → IsReplyTo command reply → IsAltered reply → ⊥
 
+unaltered : (command : Command) → ((id : List ℕ) → IsOwnReply command (R.Refused (F.Altered id)) → ⊥) → (reply : Reply) → IsReplyTo command reply → IsAltered reply → ⊥
+unaltered command never (R.Refused (F.Altered id)) kind is = never id kind.1
+unaltered command never (R.Refused _) kind is = is
+unaltered command never _ kind is = is
+
 pub writes_submit : (basis : Basis) (raw : RawCrash) → IsWriting basis (C.Submit raw)
-writes_submit basis raw = record {
-  step = λ before reply after step. step;
-  grows = λ log doubt reply piece after grows. grows;
-  no_memory = λ none. (none, tt);
-  store_fault = λ none. (none, tt);
-  journal_full = λ none. (none, tt);
-  unaltered = unaltered;
-} where
-  unaltered : (reply : Reply) → IsReplyTo (C.Submit raw) reply → IsAltered reply → ⊥
-  unaltered (R.Refused (F.Altered id)) kind is = absurd kind.1
-  unaltered (R.Refused _) kind is = is
-  unaltered _ kind is = is
+writes_submit basis raw = record { step = λ before reply after step. step; grows = λ log doubt reply piece after grows. grows; no_memory = λ none. (none, tt); store_fault = λ none. (none, tt); journal_full = λ none. (none, tt); unaltered = unaltered (C.Submit raw) (λ other never. never) }
 
 pub writes_priority : (basis : Basis) (caller : Caller) (id : List ℕ) → IsWriting basis (C.Priority caller id)
-writes_priority basis caller id = record {
-  step = λ before reply after step. step;
-  grows = λ log doubt reply piece after grows. grows;
-  no_memory = λ none. (none, tt);
-  store_fault = λ none. (none, tt);
-  journal_full = λ none. (none, tt);
-  unaltered = unaltered;
-} where
-  unaltered : (reply : Reply) → IsReplyTo (C.Priority caller id) reply → IsAltered reply → ⊥
-  unaltered (R.Refused (F.Altered other)) kind is = absurd kind.1
-  unaltered (R.Refused _) kind is = is
-  unaltered _ kind is = is
+writes_priority basis caller id = record { step = λ before reply after step. step; grows = λ log doubt reply piece after grows. grows; no_memory = λ none. (none, tt); store_fault = λ none. (none, tt); journal_full = λ none. (none, tt); unaltered = unaltered (C.Priority caller id) (λ other never. never) }
 
 pub writes_reprocess : (basis : Basis) (caller : Caller) (id : List ℕ) → IsWriting basis (C.Reprocess caller id)
-writes_reprocess basis caller id = record {
-  step = λ before reply after step. step;
-  grows = λ log doubt reply piece after grows. grows;
-  no_memory = λ none. (none, tt);
-  store_fault = λ none. (none, tt);
-  journal_full = λ none. (none, tt);
-  unaltered = unaltered;
-} where
-  unaltered : (reply : Reply) → IsReplyTo (C.Reprocess caller id) reply → IsAltered reply → ⊥
-  unaltered (R.Refused (F.Altered other)) kind is = absurd kind.1
-  unaltered (R.Refused _) kind is = is
-  unaltered _ kind is = is
+writes_reprocess basis caller id = record { step = λ before reply after step. step; grows = λ log doubt reply piece after grows. grows; no_memory = λ none. (none, tt); store_fault = λ none. (none, tt); journal_full = λ none. (none, tt); unaltered = unaltered (C.Reprocess caller id) (λ other never. never) }
 
 pub writes_withdraw : (basis : Basis) (caller : Caller) (id : List ℕ) → IsWriting basis (C.Withdraw caller id)
-writes_withdraw basis caller id = record {
-  step = λ before reply after step. step;
-  grows = λ log doubt reply piece after grows. grows;
-  no_memory = λ none. (none, tt);
-  store_fault = λ none. (none, tt);
-  journal_full = λ none. (none, tt);
-  unaltered = unaltered;
-} where
-  unaltered : (reply : Reply) → IsReplyTo (C.Withdraw caller id) reply → IsAltered reply → ⊥
-  unaltered (R.Refused (F.Altered other)) kind is = absurd kind.1
-  unaltered (R.Refused _) kind is = is
-  unaltered _ kind is = is
+writes_withdraw basis caller id = record { step = λ before reply after step. step; grows = λ log doubt reply piece after grows. grows; no_memory = λ none. (none, tt); store_fault = λ none. (none, tt); journal_full = λ none. (none, tt); unaltered = unaltered (C.Withdraw caller id) (λ other never. never) }
 
 -- ---- disks
 
@@ -158,10 +126,10 @@ without_doubt log (event ∷ more) piece Adding adds = inl adds
 
 -- ---- before the log decides
 
-module _ (basis : Basis) (command : Command) (writing : IsWriting basis command) (before : State) (disk disk' : DiskTold) (looks : Looks disk disk')
-    (allowed : IsTrue basis.is_told → (image : List ℕ) → disk.images image → Allowed before image) where
+module _ {basis : Basis} {command : Command} (writing : IsWriting basis command) {limits : Limits} {ledger : LedgerState} {rows : List (ℕ × List Cell)} {pending : Option Pending} {journal : JournalState} {disk : DiskTold} {before : State}
+    (stands : Stands basis limits ledger rows pending journal disk before) {disk' : DiskTold} (looks : Looks disk disk') where
   survives_same : IsTrue basis.is_told → Survives disk disk' before before
-  survives_same is_told = LeavesOnly-weaker disk disk' disk.images (λ image. Allowed before image ⊎ Allowed before image) (λ image left. inl (allowed is_told image left)) looks.any_moment
+  survives_same is_told = LeavesOnly-weaker disk disk' disk.images (λ image. Allowed before image ⊎ Allowed before image) (λ image left. inl (allowed_in stands is_told image left)) looks.any_moment
 
   -- the state stays
   early : (reply : Reply) → IsReplyTo command reply → Writes (events basis before.log) (doubted basis before) [] reply (doubted basis before) (Adds basis command reply (doubted basis before)) → (IsStoreFault reply → DiskFailed disk disk') → StepWriting basis before command reply before
@@ -198,24 +166,17 @@ module _ (basis : Basis) (command : Command) (writing : IsWriting basis command)
       (allowed_step (R.Refused F.StoreFault) before permitted (inr (inl (doubt, (refl, refl)))))
 
   -- the doubt isn't settled
-  pub doesnt_begin : (Now : State → Type 0) (refusal : Refusal) → lacked command ≡ None → Begins before disk disk' (Err refusal) Now → (after : State) × Now after × Does basis before disk command (R.Refused refusal) after disk'
+  pub doesnt_begin : (Now : State → Type 0) (refusal : Refusal) → lacked command ≡ None → Stays before disk disk' refusal Now → (after : State) × Now after × Does basis before disk command (R.Refused refusal) after disk'
   doesnt_begin Now F.StoreFault permitted (doubt, failed, now) = (before, now, fails_mend permitted doubt failed)
   doesnt_begin Now F.NoMemory permitted now = (before, now, wants_memory permitted)
-  doesnt_begin Now F.JournalFull permitted never = absurd never
-  doesnt_begin Now (F.OtherContent id) permitted never = absurd never
-  doesnt_begin Now F.NoCrash permitted never = absurd never
-  doesnt_begin Now F.NotProcessed permitted never = absurd never
-  doesnt_begin Now F.TooManyCrashes permitted never = absurd never
-  doesnt_begin Now (F.NoPermission name) permitted never = absurd never
-  doesnt_begin Now (F.Altered id) permitted never = absurd never
-  doesnt_begin Now (F.Withdrawn id) permitted never = absurd never
+  doesnt_begin Now _ permitted never = absurd never
 
   -- the doubt was settled, and then the log decides
   module _ (disk'' : DiskTold) (reply : Reply) (after : State) (permitted : lacked command ≡ None) (log : List Change) (settles : Settles before.log before.doubt log)
       (decided : IsDecided basis log disk' command reply after disk'') where
     survives_both : IsTrue basis.is_told → Survives disk disk'' before after
     survives_both is_told = LeavesOnly-append disk disk' disk'' (λ image. Allowed before image ⊎ Allowed after image) looks.goes_on decided.goes_on
-        (LeavesOnly-weaker disk disk' disk.images (λ image. Allowed before image ⊎ Allowed after image) (λ image left. inl (allowed is_told image left)) looks.any_moment)
+        (LeavesOnly-weaker disk disk' disk.images (λ image. Allowed before image ⊎ Allowed after image) (λ image left. inl (allowed_in stands is_told image left)) looks.any_moment)
         (LeavesOnly-weaker disk' disk'' (λ image. Allowed (settled log) image ⊎ Allowed after image) (λ image. Allowed before image ⊎ Allowed after image)
         (λ image left. elim left [
           | inl earlier ↦ inl (allowed_settled before.log before.doubt log settles image earlier)
@@ -236,10 +197,10 @@ module _ (basis : Basis) (command : Command) (writing : IsWriting basis command)
       survives = survives_both;
     }
 
-  pub begun_does : (Now : State → Type 0) (disk'' : DiskTold) (reply : Reply) → lacked command ≡ None → Begins before disk disk' (Ok tt) Now
+  pub begun_does : (Now : State → Type 0) {disk'' : DiskTold} {reply : Reply} → lacked command ≡ None → (log : List Change) × Settles before.log before.doubt log × Now (settled log)
       → (Later : State → Type 0) → ((log : List Change) → Now (settled log) → (after : State) × Later after × IsDecided basis log disk' command reply after disk'')
       → (after : State) × Later after × Does basis before disk command reply after disk''
-  begun_does Now disk'' reply permitted (log, settles, now) Later decides =
+  begun_does Now {disk'' = disk''} {reply = reply} permitted (log, settles, now) Later decides =
       let d = decides log now in
       (d.0, d.1, does_behind disk'' reply d.0 permitted log settles d.2)
 
@@ -328,14 +289,7 @@ module _ (basis : Basis) (log : List Change) (disk disk' : DiskTold) (command : 
       decides = λ is_told. decides_to false reply after is_told (did.ends.1 is_told) (said, did.ends.0);
       survives = did.survives;
     }
-    appended (Err (F.OtherContent id)) reply after did said = absurd did.ends
-    appended (Err F.NoCrash) reply after did said = absurd did.ends
-    appended (Err F.NotProcessed) reply after did said = absurd did.ends
-    appended (Err F.TooManyCrashes) reply after did said = absurd did.ends
-    appended (Err (F.NoPermission name)) reply after did said = absurd did.ends
-    appended (Err (F.Altered id)) reply after did said = absurd did.ends
-    appended (Err (F.Withdrawn id)) reply after did said = absurd did.ends
-    appended (Err F.NoMemory) reply after did said = absurd did.ends
+    appended (Err _) reply after did said = absurd did.ends
 
     pub written_decides : (reply : Reply) (after : State) → IsWritten basis log disk change written reply after disk' → IsDecided basis log disk command reply after disk'
     written_decides reply after wrote = appended wrote.result reply after wrote.appended wrote.replies

@@ -35,7 +35,7 @@ use Rattle.soc_book.proofs.Keepings.{and_left, distinct_here, entry_is, id_there
 use Rattle.soc_book.proofs.Pushing.{pushed_reports}
 use Rattle.soc_book.proofs.Rests.{ids_differ, rest_reported, rest_skips, rest_takes, wanted_same}
 use Rattle.soc_book.proofs.Quiets.{held_room}
-use Rattle.soc_book.proofs.Standing.{images_allowed, reports-crashes}
+use Rattle.soc_book.proofs.Standing.{allowed_in, reports-crashes}
 
 -- nothing yet
 none_gathered : (basis : Basis) (log : List Change) (ledger : LedgerState) (number : ℕ) → IsLegal basis log → HasGathered basis log ledger number number [] [] []
@@ -302,14 +302,10 @@ pub reports_roomy : (basis : Basis) (log : List Change) (ledger ledger' : Ledger
 reports_roomy basis log ledger ledger' numbers reports same are =
     subst (λ (l : LedgerState). AreReports basis log l numbers reports) (sym same) (roomy_reports basis log ledger ledger'.room numbers reports are)
 
-pub batch_fits : (ledger ledger' : LedgerState) (numbers : List ℕ) → ledger' ≡ record ledger { room = ledger'.room } → most_reports + 1 ≤ ledger'.room → length numbers ≤ most_reports → AreHeld ledger numbers → FitReports ledger' numbers
-batch_fits ledger ledger' numbers same large few held =
-    (omega (arith, large), few, subst (λ (l : LedgerState). AreHeld l numbers) (sym same) (held_room ledger ledger'.room numbers held))
-
-module _ (basis : Basis) (limits : Limits) (ledger : LedgerState) (rows : List (ℕ × List Cell)) (pending : Option Pending) (journal : JournalState) (disk : DiskTold) (log : List Change)
+module _ {basis : Basis} {limits : Limits} {ledger : LedgerState} {rows : List (ℕ × List Cell)} {pending : Option Pending} {journal : JournalState} {disk : DiskTold} {log : List Change}
     (stands : Stands basis limits ledger rows pending journal disk (settled log)) (sound : IsDisk disk) (reports : List Kept) where
   quiet : IsTrue basis.is_told → Survives disk disk (settled log) (settled log)
-  quiet is_told = record { each = λ image left. inl (images_allowed basis journal disk log [] (stands.told is_told) image (sound.only_now image left)) }
+  quiet is_told = record { each = λ image left. inl (allowed_in stands is_told image (sound.only_now image left)) }
 
   pub batch_empty : reports ≡ [] → KeepsBatch basis log disk reports (Ok 0) (settled log) disk
   batch_empty none = record {

@@ -43,7 +43,7 @@ use Rattle.soc_book.specs.declared.book.Change.{Change as Pending}
 use Rattle.soc_book.specs.Keeping.{KeepsReports}
 use Rattle.soc_book.specs.inner.Books.{IsRowFor}
 use Rattle.soc_book.specs.inner.Keepings.{HasGathered, IsEntryOfRow, IsMost, KeepsAll, KeepsBatch, KeptSoFar, LeavesSome, MakesEntry, MayMakeEntry, is_wanted, keep_reply, own_report, rest_ids, with_all}
-use Rattle.soc_book.specs.inner.Pieces.{Begins, product_at}
+use Rattle.soc_book.specs.inner.Pieces.{Stays, product_at}
 use Rattle.soc_book.specs.inner.Stands.{Holds, IsFiled, Stands}
 use Rattle.soc_book.proofs.Changes.{IsSoundCrash, allowed-plain, events-all, kept-all, legal-next, sound_crashes}
 use Rattle.soc_book.proofs.Deciding.{failed_later, mapped_some, without_doubt}
@@ -51,7 +51,7 @@ use Rattle.soc_book.proofs.Filing.{all_got, filed_at, found_at, got, id_of-got}
 use Rattle.soc_book.proofs.Kept.{held_id}
 use Rattle.soc_book.proofs.Pushing.{ids}
 use Rattle.soc_book.proofs.Rests.{rest_all, rest_none}
-use Rattle.soc_book.proofs.Standing.{images_allowed}
+use Rattle.soc_book.proofs.Standing.{allowed_in}
 use Rattle.soc_book.proofs.Tellings.{rows_tell}
 
 -- ---- how long a body may be
@@ -495,9 +495,8 @@ module _ (basis : Basis) (ledger : LedgerState) (rows : List (ℕ × List Cell))
   pub distinct_here : AreDistinct (accepted_ids (events basis log))
   distinct_here = distinct_ids (events basis log) legal.events_legal
 
-pub begins_keeping : (basis : Basis) (limits : Limits) (ledger : LedgerState) (rows : List (ℕ × List Cell)) (pending : Option Pending) (journal : JournalState) (disk : DiskTold) (log : List Change)
-    → Stands basis limits ledger rows pending journal disk (settled log) → IsDisk disk → KeptSoFar basis log 0 0 log disk disk
-begins_keeping basis limits ledger rows pending journal disk log stands sound = none_yet basis log disk sound (λ is_told. images_allowed basis journal disk log [] (stands.told is_told))
+pub begins_keeping : {basis : Basis} {limits : Limits} {ledger : LedgerState} {rows : List (ℕ × List Cell)} {pending : Option Pending} {journal : JournalState} {disk : DiskTold} {log : List Change} → Stands basis limits ledger rows pending journal disk (settled log) → IsDisk disk → KeptSoFar basis log 0 0 log disk disk
+begins_keeping {basis = basis} {disk = disk} {log = log} stands sound = none_yet basis log disk sound (allowed_in stands)
 
 -- ---- with a doubt before
 
@@ -590,11 +589,7 @@ mend_failed basis state disk disk' looks some failed legal allowed = record {
   allowed = λ is_told image left. allowed is_told image (looks.images image left);
 }
 
-pub allowed_in : (basis : Basis) (limits : Limits) (ledger : LedgerState) (rows : List (ℕ × List Cell)) (pending : Option Pending) (journal : JournalState) (disk : DiskTold) (state : State) → Stands basis limits ledger rows pending journal disk state
-    → IsTrue basis.is_told → (image : List ℕ) → disk.images image → Allowed state image
-allowed_in basis limits ledger rows pending journal disk state stands is_told = images_allowed basis journal disk state.log state.doubt (stands.told is_told)
-
 pub mend_fails : (basis : Basis) (state : State) (disk disk' : DiskTold) (Now : State → Type 0) → ((after : State) → Now after → IsLegalState basis after) → (refusal : Refusal) → Looks disk disk'
-    → (IsTrue basis.is_told → (image : List ℕ) → disk.images image → Allowed state image) → refusal ≡ F.StoreFault → Begins state disk disk' (Err refusal) Now → (after : State) × Now after × KeepsReports basis state disk (R.Refused refusal) after disk'
+    → (IsTrue basis.is_told → (image : List ℕ) → disk.images image → Allowed state image) → refusal ≡ F.StoreFault → Stays state disk disk' refusal Now → (after : State) × Now after × KeepsReports basis state disk (R.Refused refusal) after disk'
 mend_fails basis state disk disk' Now legal F.StoreFault looks allowed fault begins = (state, begins.2, mend_failed basis state disk disk' looks begins.0 begins.1 (legal state begins.2) allowed)
 mend_fails basis state disk disk' Now legal _ looks allowed fault begins = absurd (cc)

@@ -1,7 +1,6 @@
 pub mod Asking
 pub mod Changes
 pub mod Deciding
-pub mod Dispatch
 pub mod Filing
 pub mod Gatherings
 pub mod Keepings
@@ -21,6 +20,7 @@ pub mod Reports
 pub mod Rests
 pub mod Rows
 pub mod Searches
+pub mod Settings
 pub mod Sights
 pub mod Standing
 pub mod Submissions

@@ -76,7 +76,7 @@ pub record TellsOf (log : List Change) (ledger : LedgerState) (id : List ℕ) (n
   pub raw_is : raw_of log id ≡ Some raw
   pub product : product_at ledger number ≡ product_of raw
 
-module _ (basis : Basis) (limits : Limits) (ledger : LedgerState) (rows : List (ℕ × List Cell)) (pending : Option Pending) (journal : JournalState) (disk : DiskTold) (state : State)
+module _ {basis : Basis} {limits : Limits} {ledger : LedgerState} {rows : List (ℕ × List Cell)} {pending : Option Pending} {journal : JournalState} {disk : DiskTold} {state : State}
     (stands : Stands basis limits ledger rows pending journal disk state) where
   pub held_is : (id : List ℕ) (held : Bool) → is_held ledger.log id ≡ held → is_held (events basis state.log) id ≡ held
   held_is id held is = ap (λ l. is_held l id) (sym stands.holds.events_are) ∙ is

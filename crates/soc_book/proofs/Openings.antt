@@ -14,8 +14,7 @@ use Rattle.soc_desk.specs.declared.desk.Limits.{Limits}
 use Rattle.soc_desk.specs.Basis.{Basis}
 use Rattle.soc_desk.specs.Log.{Change}
 use Rattle.soc_desk.specs.Opens.{RefusesEntry, as_told, log_of}
-use Rattle.soc_desk.specs.State.{settled, entries_of, kept_of}
-use Rattle.soc_book.specs.declared.book.Change.{Change as Pending}
+use Rattle.soc_desk.specs.State.{State, settled, entries_of, kept_of}
 use Rattle.soc_book.specs.declared.opening.Recovery.{Recovery}
 use Rattle.soc_book.specs.Openings.{IsBasisOf, OpensBook, StopsAtEntry}
 use Rattle.soc_book.specs.inner.Recoveries.{Recovers, Rows}
@@ -65,18 +64,23 @@ some_told : {P : List ℕ → Type 0} (content : Option (List ℕ)) (R : Type 0)
 some_told None R some told then = absurd (true_is_not_false (sym some))
 some_told (Some bytes) R some told then = then bytes told
 
--- the same of equal tables
-pub moved : {X : Type 0} (state : X → DiskTold) (before : DiskTold) (basis : Basis) (limits limits' : Limits) (ledger ledger' : LedgerState) (rows rows' : Rows) (pending : Option Pending) (journal journal' : JournalState) (x y : X)
-    → limits' ≡ limits → ledger' ≡ ledger → rows' ≡ rows → pending ≡ None → journal' ≡ journal → y ≡ x
-    → OpensBook basis before (state x) (Stands basis limits ledger rows None journal (state x)) → OpensBook basis before (state y) (Stands basis limits' ledger' rows' pending journal' (state y))
-moved {X = X} state before basis limits limits' ledger ledger' rows rows' pending journal journal' x y same_limits same_ledger same_rows none same_journal same opens =
-    let At : Limits → LedgerState → Rows → Option Pending → JournalState → X → Type 0 = λ l a r p j z. OpensBook basis before (state z) (Stands basis l a r p j (state z)) in
-    subst (λ (l : Limits). At l ledger' rows' pending journal' y) (sym same_limits)
-    (subst (λ (a : LedgerState). At limits a rows' pending journal' y) (sym same_ledger)
-    (subst (λ (r : Rows). At limits ledger r pending journal' y) (sym same_rows)
-    (subst (λ (p : Option Pending). At limits ledger rows p journal' y) (sym none)
-    (subst (λ (j : JournalState). At limits ledger rows None j y) (sym same_journal)
-    (subst (λ (z : X). At limits ledger rows None journal z) (sym same) opens)))))
+-- the same tables over an equal journal and disk
+pub stands_over : {X : Type 0} (told : X → DiskTold) {basis : Basis} {limits : Limits} {ledger : LedgerState} {rows : Rows} {journal journal' : JournalState} {x y : X} {state : State} → journal' ≡ journal → y ≡ x
+    → Stands basis limits ledger rows None journal (told x) state → Stands basis limits ledger rows None journal' (told y) state
+stands_over told {basis = basis} {limits = limits} {ledger = ledger} {rows = rows} {journal' = journal'} {x = x} {state = state} same_journal same stands =
+    subst (λ z. Stands basis limits ledger rows None journal' (told z) state) (sym same) (subst (λ (j : JournalState). Stands basis limits ledger rows None j (told x) state) (sym same_journal) stands)
+
+-- what opens a book, of a book over what was read
+pub opens_over : {X : Type 0} (told : X → DiskTold) {before : DiskTold} {basis : Basis} {x y : X} {IsRead IsNow : State → Type 0} → y ≡ x → ((state : State) → IsRead state → IsNow state)
+    → OpensBook basis before (told x) IsRead → OpensBook basis before (told y) IsNow
+opens_over told {before = before} {basis = basis} {IsNow = IsNow} same stands opens = subst (λ z. OpensBook basis before (told z) IsNow) (sym same) (record {
+  entries = opens.entries;
+  log = opens.log;
+  found = opens.found;
+  opens = opens.opens;
+  now = stands (settled opens.log) opens.now;
+  stands = opens.stands;
+})
 
 module _ (own : Option (List ℕ)) (ledger : LedgerState) (rows : Rows) (limits : Limits) (row_of : Crash → List Cell) (digest : Option (List ℕ)) (before after : DiskTold) (journal : JournalState)
     (limit : ℕ) (limit_is : limit ≡ limits.journal_bytes) (small : limit < 2 ^ 64) (opens : Opens (λ start entries. Recovers own ledger rows start entries) limit before after journal) (same_own : own ≡ digest)

@@ -140,12 +140,6 @@ module _ (basis : Basis) (log : List Change) (change : Change) (quiet : IsQuiet 
   pub held_same : (id : List ℕ) → is_held (events basis next) id ≡ is_held (events basis log) id
   held_same id = ap (λ l. is_held l id) (events-more basis log change) ∙ held_plain (events basis log) (event_of basis change) id (quiet.event_accepts basis) (quiet.event_withdraws basis)
 
-  was_same : (id : List ℕ) → was_accepted (events basis next) id ≡ was_accepted (events basis log) id
-  was_same id = was_accepted-is basis next id ∙ (ap (list_any (has_id id)) accepted_same ∙ sym (was_accepted-is basis log id))
-
-  pub raw_same : (id : List ℕ) → raw_of next id ≡ raw_of log id
-  raw_same id = ap (λ l. option_and_then (λ c. c.raw) (find (has_id id) l)) accepted_same
-
   idle_same : (id : List ℕ) → is_due (events basis log) id ≡ false → is_due (events basis next) id ≡ false
   idle_same id idle =
       ap (λ l. is_due l id) (events-more basis log change)
@@ -218,7 +212,7 @@ module _ (basis : Basis) (log later : List Change) (idle : (id : List ℕ) → i
 
 -- ---- the tables
 
-module _ (basis : Basis) (limits : Limits) (ledger : LedgerState) (rows : List (ℕ × List Cell)) (pending : Option Pending) (journal : JournalState) (disk : DiskTold) (state : State)
+module _ {basis : Basis} {limits : Limits} {ledger : LedgerState} {rows : List (ℕ × List Cell)} {pending : Option Pending} {journal : JournalState} {disk : DiskTold} {state : State}
     (stands : Stands basis limits ledger rows pending journal disk state) (change : Change) (quiet : IsQuiet change) where
   abbrev behind : State
   behind = record state { log = state.log ++ change ∷ [] }
@@ -260,9 +254,9 @@ module _ (basis : Basis) (limits : Limits) (ledger : LedgerState) (rows : List (
       }
 
 -- other room for events is no other state
-pub stands_room : (basis : Basis) (limits : Limits) (ledger : LedgerState) (rows : List (ℕ × List Cell)) (pending : Option Pending) (journal : JournalState) (disk : DiskTold) (state : State) (room : ℕ)
+pub stands_room : {basis : Basis} {limits : Limits} {ledger : LedgerState} {rows : List (ℕ × List Cell)} {pending : Option Pending} {journal : JournalState} {disk : DiskTold} {state : State} (room : ℕ)
     → Stands basis limits ledger rows pending journal disk state → Stands basis limits (record ledger { room = room }) rows pending journal disk state
-stands_room basis limits ledger rows pending journal disk state room stands = record {
+stands_room {basis = basis} {ledger = ledger} {pending = pending} {state = state} room stands = record {
   legal = stands.legal;
   holds = record {
     events_are = stands.holds.events_are;
@@ -276,6 +270,11 @@ stands_room basis limits ledger rows pending journal disk state room stands = re
   short = stands.short;
   told = stands.told;
 }
+
+pub stands_roomy : {basis : Basis} {limits : Limits} {ledger : LedgerState} {rows : List (ℕ × List Cell)} {pending : Option Pending} {journal : JournalState} {disk : DiskTold} {state : State} {roomy : LedgerState} {room : ℕ} → roomy ≡ record ledger { room = room }
+    → Stands basis limits ledger rows pending journal disk state → Stands basis limits roomy rows pending journal disk state
+stands_roomy {basis = basis} {limits = limits} {rows = rows} {pending = pending} {journal = journal} {disk = disk} {state = state} {room = room} same stands =
+    subst (λ (l : LedgerState). Stands basis limits l rows pending journal disk state) (sym same) (stands_room room stands)
 
 -- ---- what waits still fits
 
@@ -307,10 +306,6 @@ all_fit : {A : Type 0} {P Q : A → Type 0} (o : Option A) → ((x : A) → P x 
 all_fit None weaker all = tt
 all_fit (Some x) weaker all = weaker x all
 
-pub safe_room : (ledger : LedgerState) (journal : JournalState) (pending : Option Pending) (room : ℕ) → most_reports ≤ room → IsSafe ledger journal pending → IsSafe (record ledger { room = room }) journal pending
-safe_room ledger journal pending room some safe =
-    record { unsettled = safe.unsettled; fits = all_fit pending (λ change fits. fits_room ledger room change some fits) safe.fits }
-
 pub safe_quiet : (ledger : LedgerState) (journal : JournalState) (pending : Option Pending) (event : Event) (room : ℕ) → accepts event ≡ None → withdraws event ≡ None → most_reports < room
     → IsSafe ledger journal pending → IsSafe (with_event (record ledger { room = room }) event) journal pending
 safe_quiet ledger journal pending event room no_accept no_withdrawal large safe =
@@ -321,9 +316,6 @@ pub safe_after : (ledger roomy after : LedgerState) (journal : JournalState) (pe
     → accepts event ≡ None → withdraws event ≡ None → IsSafe ledger journal pending → IsSafe after journal pending
 safe_after ledger roomy after journal pending event same large is no_accept no_withdrawal safe =
     subst (λ l. IsSafe l journal pending) (sym (is ∙ ap (λ l. with_event l event) same)) (safe_quiet ledger journal pending event roomy.room no_accept no_withdrawal (omega (arith, large)) safe)
-
-pub safe_roomy : (ledger roomy : LedgerState) (journal : JournalState) (pending : Option Pending) → roomy ≡ record ledger { room = roomy.room } → most_reports + 1 ≤ roomy.room → IsSafe ledger journal pending → IsSafe roomy journal pending
-safe_roomy ledger roomy journal pending same large safe = subst (λ l. IsSafe l journal pending) (sym same) (safe_room ledger journal pending roomy.room (omega (arith, large)) safe)
 
 -- ---- a stop
 

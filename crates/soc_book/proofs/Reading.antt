@@ -32,7 +32,7 @@ abbrev pub GivesAt : DiskTold → JournalState → ℕ → Result (List ℕ) Rea
 GivesAt disk journal place result = (entries : List Entry) (doubt : List Entry) (entry : Entry) → Means disk journal entries doubt → IsAt entries place entry
     → MatchResult result (λ body. body ≡ entry.body) (λ error. error ≢ Altered)
 
-module _ (basis : Basis) (limits : Limits) (ledger : LedgerState) (rows : List (ℕ × List Cell)) (pending : Option Pending) (journal : JournalState) (disk : DiskTold) (state : State)
+module _ {basis : Basis} {limits : Limits} {ledger : LedgerState} {rows : List (ℕ × List Cell)} {pending : Option Pending} {journal : JournalState} {disk : DiskTold} {state : State}
     (stands : Stands basis limits ledger rows pending journal disk state) (number : ℕ) (f : Filed) (there : slice_get ledger.crashes number ≡ Some f) where
   pub known_here : IsTrue basis.is_told → IsKnown (entries_of (kept_of state.log)) state.log f
   known_here is_told = known_at basis state.log ledger rows stands.legal.log stands.holds is_told number f there
@@ -62,11 +62,4 @@ module _ (basis : Basis) (limits : Limits) (ledger : LedgerState) (rows : List (
     at (Ok raw) is = (is.0 ∙ id_here, found raw is.1 is.2)
     at (Err (F.Altered other)) is = (is.0 ∙ id_here, broken is.1)
     at (Err F.NoMemory) is = tt
-    at (Err F.StoreFault) is = absurd is
-    at (Err F.JournalFull) is = absurd is
-    at (Err (F.OtherContent id)) is = absurd is
-    at (Err F.NoCrash) is = absurd is
-    at (Err F.NotProcessed) is = absurd is
-    at (Err F.TooManyCrashes) is = absurd is
-    at (Err (F.NoPermission name)) is = absurd is
-    at (Err (F.Withdrawn id)) is = absurd is
+    at (Err _) is = absurd is

@@ -102,7 +102,7 @@ unseen_gone ledger caller id sees = λ all.
 abbrev pub NoFault : Reply → Type 0
 NoFault reply = (IsStoreFault reply → ⊥) × (IsAltered reply → ⊥)
 
-module _ (basis : Basis) (limits : Limits) (ledger : LedgerState) (rows : List (ℕ × List Cell)) (pending : Option Pending) (journal : JournalState) (disk : DiskTold) (state : State)
+module _ {basis : Basis} {limits : Limits} {ledger : LedgerState} {rows : List (ℕ × List Cell)} {pending : Option Pending} {journal : JournalState} {disk : DiskTold} {state : State}
     (stands : Stands basis limits ledger rows pending journal disk state) (disk' : DiskTold) (looks : Looks disk disk') where
   pub stays : (command : Command) (reply : Reply) → IsReplyTo command reply → Grows basis (events basis state.log) (doubted basis state) command reply [] (doubted basis state) → (IsStoreFault reply → DiskFailed disk disk') → (IsAltered reply → basis.is_told ≡ false)
       → (IsTrue basis.is_told → Step basis state command reply state) → Does basis state disk command reply state disk'
@@ -113,7 +113,7 @@ module _ (basis : Basis) (limits : Limits) (ledger : LedgerState) (rows : List (
     fault = fault;
     altered = altered;
     step = step;
-    survives = λ is_told. survives_looking basis limits ledger rows pending journal disk state stands disk' state is_told looks;
+    survives = λ is_told. survives_looking stands disk' state is_told looks;
   }
 
   -- the disk tells, or it doesn't
@@ -122,7 +122,7 @@ module _ (basis : Basis) (limits : Limits) (ledger : LedgerState) (rows : List (
 
   module _ (caller : Caller) (id : List ℕ) where
     held : (number : ℕ) → IsHeldAs ledger id number → is_held (events basis state.log) id ≡ true
-    held number known = held_is basis limits ledger rows pending journal disk state stands id true known.held
+    held number known = held_is stands id true known.held
 
     -- a crash that isn't found for a caller that sees every product isn't held
     gone_for : Sees ledger caller id (Err F.NoCrash) → IsGone caller id (events basis state.log)
@@ -133,18 +133,18 @@ module _ (basis : Basis) (limits : Limits) (ledger : LedgerState) (rows : List (
     read_at number result known read = subst (λ x. IsRead basis state.log x result disk disk') known.id_is read
 
     none_of : IsTrue basis.is_told → Sees ledger caller id (Err F.NoCrash) → value_of (view_of basis state.log caller) id ≡ None
-    none_of is_told sees = unseen_view basis limits ledger rows pending journal disk state stands caller id is_told sees
+    none_of is_told sees = unseen_view stands caller id is_told sees
 
     in_view : IsTrue basis.is_told → (number : ℕ) → Sees ledger caller id (Ok number) → is_some (value_of (view_of basis state.log caller) id) ≡ true
-    in_view is_told number sees = shown_in basis limits ledger rows pending journal disk state stands caller id is_told number sees
+    in_view is_told number sees = shown_in stands caller id is_told number sees
 
     -- what the view has, where the raw crash was read
     has_read : (number : ℕ) (raw : RawCrash) → Sees ledger caller id (Ok number) → raw_of state.log id ≡ Some (crash_of raw) → IsTrue basis.is_told
         → value_of (view_of basis state.log caller) id ≡ Some (seen_of caller (crash_of raw) (row_in basis state.log id))
     has_read number raw sees is is_told =
-        let told : TellsOf state.log ledger id number = tells_of basis limits ledger rows pending journal disk state stands id number is_told sees.0 in
+        let told : TellsOf state.log ledger id number = tells_of stands id number is_told sees.0 in
         let same : told.raw ≡ crash_of raw = same_crash (sym told.raw_is ∙ is) in
-        shown_view basis limits ledger rows pending journal disk state stands caller id number sees.0 told sees.1 ∙ ap (λ crash. Some (seen_of caller crash (row_in basis state.log id))) same
+        shown_view stands caller id number sees.0 told sees.1 ∙ ap (λ crash. Some (seen_of caller crash (row_in basis state.log id))) same
       where
         same_crash : {a b : Crash} → Some a ≡ Some b → a ≡ b
         same_crash e = cc
@@ -154,15 +154,7 @@ module _ (basis : Basis) (limits : Limits) (ledger : LedgerState) (rows : List (
     pub raw_unseen : (refusal : Refusal) → Sees ledger caller id (Err refusal) → Does basis state disk (C.Raw caller id) (R.Refused refusal) state disk'
     raw_unseen F.NoCrash sees =
         stays (C.Raw caller id) (R.Refused F.NoCrash) (refl, tt) (gone_for sees, (refl, refl)) (λ never. absurd never) (λ never. absurd never) (λ is_told. inl (ap (λ o. Some (raw_reply o)) (none_of is_told sees), refl))
-    raw_unseen F.StoreFault sees = absurd sees
-    raw_unseen F.JournalFull sees = absurd sees
-    raw_unseen (F.OtherContent other) sees = absurd sees
-    raw_unseen F.NotProcessed sees = absurd sees
-    raw_unseen F.TooManyCrashes sees = absurd sees
-    raw_unseen (F.NoPermission name) sees = absurd sees
-    raw_unseen (F.Altered other) sees = absurd sees
-    raw_unseen (F.Withdrawn other) sees = absurd sees
-    raw_unseen F.NoMemory sees = absurd sees
+    raw_unseen _ sees = absurd sees
 
     pub raw_no_memory : (number : ℕ) → Sees ledger caller id (Ok number) → Does basis state disk (C.Raw caller id) (R.Refused F.NoMemory) state disk'
     raw_no_memory number sees =
@@ -174,13 +166,7 @@ module _ (basis : Basis) (limits : Limits) (ledger : LedgerState) (rows : List (
     raw_failed number (F.Altered other) sees altered =
         stays (C.Raw caller id) (R.Refused (F.Altered other)) (refl, altered.0) (held number sees.0, (refl, refl)) (λ never. absurd never) (λ _. altered.1) (λ is_told. untold altered.1 is_told)
     raw_failed number F.NoMemory sees wanted = raw_no_memory number sees
-    raw_failed number F.JournalFull sees never = absurd never
-    raw_failed number (F.OtherContent other) sees never = absurd never
-    raw_failed number F.NoCrash sees never = absurd never
-    raw_failed number F.NotProcessed sees never = absurd never
-    raw_failed number F.TooManyCrashes sees never = absurd never
-    raw_failed number (F.NoPermission name) sees never = absurd never
-    raw_failed number (F.Withdrawn other) sees never = absurd never
+    raw_failed number _ sees never = absurd never
 
     pub raw_unread : (number : ℕ) (refusal : Refusal) → Sees ledger caller id (Ok number) → IsRead basis state.log (id_of ledger number) (Err refusal) disk disk' → Does basis state disk (C.Raw caller id) (R.Refused refusal) state disk'
     raw_unread number refusal sees read = raw_failed number refusal sees (read_at number (Err refusal) sees.0 read)
@@ -198,15 +184,7 @@ module _ (basis : Basis) (limits : Limits) (ledger : LedgerState) (rows : List (
     pub processed_unseen : (refusal : Refusal) → Sees ledger caller id (Err refusal) → Does basis state disk (C.Processed caller id) (R.Refused refusal) state disk'
     processed_unseen F.NoCrash sees =
         stays (C.Processed caller id) (R.Refused F.NoCrash) (refl, tt) (gone_for sees, (refl, refl)) (λ never. absurd never) (λ never. absurd never) (λ is_told. inl (ap (λ o. Some (processed_reply o)) (none_of is_told sees), refl))
-    processed_unseen F.StoreFault sees = absurd sees
-    processed_unseen F.JournalFull sees = absurd sees
-    processed_unseen (F.OtherContent other) sees = absurd sees
-    processed_unseen F.NotProcessed sees = absurd sees
-    processed_unseen F.TooManyCrashes sees = absurd sees
-    processed_unseen (F.NoPermission name) sees = absurd sees
-    processed_unseen (F.Altered other) sees = absurd sees
-    processed_unseen (F.Withdrawn other) sees = absurd sees
-    processed_unseen F.NoMemory sees = absurd sees
+    processed_unseen _ sees = absurd sees
 
     pub processed_no_memory : (number : ℕ) → Sees ledger caller id (Ok number) → Does basis state disk (C.Processed caller id) (R.Refused F.NoMemory) state disk'
     processed_no_memory number sees =
@@ -225,7 +203,7 @@ module _ (basis : Basis) (limits : Limits) (ledger : LedgerState) (rows : List (
 
       seen_row : IsTrue basis.is_told → processed_reply (value_of (view_of basis state.log caller) id) ≡ option_map_or R.Row (option_map (granted_cells caller) (option_map (λ s. s.1) (row_at number rows))) (R.Refused F.NotProcessed)
       seen_row is_told =
-          ap processed_reply (shown_view basis limits ledger rows pending journal disk state stands caller id number sees.0 (tells_of basis limits ledger rows pending journal disk state stands id number is_told sees.0) sees.1)
+          ap processed_reply (shown_view stands caller id number sees.0 (tells_of stands id number is_told sees.0) sees.1)
           ∙ ap (λ o. option_map_or R.Row (option_map (granted_cells caller) o) (R.Refused F.NotProcessed)) (sym (row_told is_told))
 
       no_report : (o : Option (ℕ × List Cell)) → None ≡ option_map (λ s. granted_cells caller s.1) o → option_map (λ s. s.1) o ≡ None
@@ -271,15 +249,7 @@ module _ (basis : Basis) (limits : Limits) (ledger : LedgerState) (rows : List (
         dump_unseen F.NoCrash sees =
             stays (C.Dump caller id name) (R.Refused F.NoCrash) (may, tt) (tt, (refl, refl)) (λ never. absurd never) (λ never. absurd never)
             (λ is_told. permitted state (C.Dump caller id name) (R.Refused F.NoCrash) state _ may (inl (ap (λ o. Some (dump_reply name o)) (none_of is_told sees), refl)))
-        dump_unseen F.StoreFault sees = absurd sees
-        dump_unseen F.JournalFull sees = absurd sees
-        dump_unseen (F.OtherContent other) sees = absurd sees
-        dump_unseen F.NotProcessed sees = absurd sees
-        dump_unseen F.TooManyCrashes sees = absurd sees
-        dump_unseen (F.NoPermission lack) sees = absurd sees
-        dump_unseen (F.Altered other) sees = absurd sees
-        dump_unseen (F.Withdrawn other) sees = absurd sees
-        dump_unseen F.NoMemory sees = absurd sees
+        dump_unseen _ sees = absurd sees
 
         pub dump_no_memory : (number : ℕ) → Sees ledger caller id (Ok number) → Does basis state disk (C.Dump caller id name) (R.Refused F.NoMemory) state disk'
         dump_no_memory number sees =
@@ -293,13 +263,7 @@ module _ (basis : Basis) (limits : Limits) (ledger : LedgerState) (rows : List (
         dump_failed number (F.Altered other) sees altered =
             stays (C.Dump caller id name) (R.Refused (F.Altered other)) (may, altered.0) (held number sees.0, (refl, refl)) (λ never. absurd never) (λ _. altered.1) (λ is_told. untold altered.1 is_told)
         dump_failed number F.NoMemory sees wanted = dump_no_memory number sees
-        dump_failed number F.JournalFull sees never = absurd never
-        dump_failed number (F.OtherContent other) sees never = absurd never
-        dump_failed number F.NoCrash sees never = absurd never
-        dump_failed number F.NotProcessed sees never = absurd never
-        dump_failed number F.TooManyCrashes sees never = absurd never
-        dump_failed number (F.NoPermission lack) sees never = absurd never
-        dump_failed number (F.Withdrawn other) sees never = absurd never
+        dump_failed number _ sees never = absurd never
 
         pub dump_unread : (number : ℕ) (refusal : Refusal) → Sees ledger caller id (Ok number) → IsRead basis state.log (id_of ledger number) (Err refusal) disk disk' → Does basis state disk (C.Dump caller id name) (R.Refused refusal) state disk'
         dump_unread number refusal sees read = dump_failed number refusal sees (read_at number (Err refusal) sees.0 read)

@@ -17,12 +17,12 @@ use Rattle.soc_desk.specs.State.{State}
 use Rattle.soc_book.specs.declared.book.Change.{Change as Pending}
 use Rattle.soc_book.specs.inner.Does.{Does}
 use Rattle.soc_book.specs.inner.Stands.{Stands}
-use Rattle.soc_book.proofs.Standing.{images_allowed}
+use Rattle.soc_book.proofs.Standing.{allowed_in}
 
-pub asks_of : (basis : Basis) (limits : Limits) (ledger : LedgerState) (rows : List (ℕ × List Cell)) (pending : Option Pending) (journal : JournalState) (before after : State) (disk disk' : DiskTold) (command : Command) (receipt : Receipt)
+pub asks_of : {basis : Basis} {limits : Limits} {ledger : LedgerState} {rows : List (ℕ × List Cell)} {pending : Option Pending} {journal : JournalState} {before after : State} {disk disk' : DiskTold} {command : Command} (receipt : Receipt)
     → Stands basis limits ledger rows pending journal disk' after → Does basis before disk command receipt.reply after disk'
     → receipt.front ≡ length ledger.log → receipt.front < 2 ^ 60 → receipt.stopped ≡ has_stop ledger.log → Asks basis before disk command receipt after disk'
-asks_of basis limits ledger rows pending journal before after disk disk' command receipt stands does front below stopped =
+asks_of {basis = basis} {after = after} receipt stands does front below stopped =
     let count : receipt.front ≡ length after.log =
     front ∙ (ap (λ (l : List Event). length l) stands.holds.events_are ∙ length-map after.log (event_of basis)) in
     record {
@@ -37,5 +37,5 @@ asks_of basis limits ledger rows pending journal before after disk disk' command
       altered = does.altered;
       step = does.step;
       survives = does.survives;
-      allowed = λ is_told image left. images_allowed basis journal disk' after.log after.doubt (stands.told is_told) image left;
+      allowed = allowed_in stands;
     }

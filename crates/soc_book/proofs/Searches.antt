@@ -79,7 +79,7 @@ answer_kind q rows granted = (
 pub search_kind : (q : Asked) (answer : Answer) (rows : List (ℕ × List Cell)) → AreGranted q → answer ≡ answer_of q rows → IsReplyTo (C.Search q) (R.Found answer)
 search_kind q answer rows granted is = (refl, subst (IsAnswer q) (sym is) (answer_kind q rows granted))
 
-module _ (basis : Basis) (limits : Limits) (ledger : LedgerState) (rows : List (ℕ × List Cell)) (pending : Option Pending) (journal : JournalState) (disk : DiskTold) (state : State)
+module _ {basis : Basis} {limits : Limits} {ledger : LedgerState} {rows : List (ℕ × List Cell)} {pending : Option Pending} {journal : JournalState} {disk : DiskTold} {state : State}
     (stands : Stands basis limits ledger rows pending journal disk state) (disk' : DiskTold) (looks : Looks disk disk') where
   -- the store's rows are those of the log's crashes, in order
   store_listed : IsTrue basis.is_told → map (λ s. s.1) rows ≡ filter_map (shown_row basis state.log) (ids_of (accepted_of state.log))
@@ -95,16 +95,12 @@ module _ (basis : Basis) (limits : Limits) (ledger : LedgerState) (rows : List (
 
   -- ---- searches
 
-  pub search_no_memory : (q : Asked) → Does basis state disk (C.Search q) (R.Refused F.NoMemory) state disk'
-  search_no_memory q =
-      stays basis limits ledger rows pending journal disk state stands disk' looks (C.Search q) (R.Refused F.NoMemory) (refl, tt) (refl, refl) (λ never. absurd never) (λ never. absurd never) (λ is_told. inr (refl, refl))
-
   pub found : (q : Asked) (answer : Answer) → RowsTell basis → AreGranted q
       → ((some : List (ℕ × List Cell)) → answer_of q (seen_rows q.caller some) ≡ answer_of q some)
       → ((some others : List (ℕ × List Cell)) → HaveOwnIds some → HaveOwnIds others → ListTheSame some others → answer_of q some ≡ answer_of q others)
       → answer ≡ answer_of q rows → Does basis state disk (C.Search q) (R.Found answer) state disk'
   found q answer tells granted by_seen in_any_order is =
-      stays basis limits ledger rows pending journal disk state stands disk' looks (C.Search q) (R.Found answer) (search_kind q answer rows granted is) (refl, refl) (λ never. absurd never) (λ never. absurd never)
+      stays stands disk' looks (C.Search q) (R.Found answer) (search_kind q answer rows granted is) (refl, refl) (λ never. absurd never) (λ never. absurd never)
       (λ is_told.
       let same : AreSame (seen_rows q.caller rows) (rows_in (view_of basis state.log q.caller)) = rows_same tells q.caller is_told in
       let viewed : answer_of q (rows_in (view_of basis state.log q.caller)) ≡ answer =
@@ -113,16 +109,12 @@ module _ (basis : Basis) (limits : Limits) (ledger : LedgerState) (rows : List (
 
   -- ---- top crashers
 
-  pub tops_no_memory : (q : TopsQuery) → Does basis state disk (C.Tops q) (R.Refused F.NoMemory) state disk'
-  tops_no_memory q =
-      stays basis limits ledger rows pending journal disk state stands disk' looks (C.Tops q) (R.Refused F.NoMemory) (refl, tt) (refl, refl) (λ never. absurd never) (λ never. absurd never) (λ is_told. inr (refl, refl))
-
   pub tops_found : (q : TopsQuery) (tops : Tops) → RowsTell basis
       → ((some : List (ℕ × List Cell)) → tops_of q (seen_rows q.caller some) ≡ tops_of q some)
       → ((some others : List (ℕ × List Cell)) → HaveOwnIds some → HaveOwnIds others → ListTheSame some others → tops_of q some ≡ tops_of q others)
       → tops ≡ tops_of q rows → Does basis state disk (C.Tops q) (R.Tops tops) state disk'
   tops_found q tops tells by_seen in_any_order is =
-      stays basis limits ledger rows pending journal disk state stands disk' looks (C.Tops q) (R.Tops tops) (refl, tt) (refl, refl) (λ never. absurd never) (λ never. absurd never)
+      stays stands disk' looks (C.Tops q) (R.Tops tops) (refl, tt) (refl, refl) (λ never. absurd never) (λ never. absurd never)
       (λ is_told.
       let same : AreSame (seen_rows q.caller rows) (rows_in (view_of basis state.log q.caller)) = rows_same tells q.caller is_told in
       let viewed : tops_of q (rows_in (view_of basis state.log q.caller)) ≡ tops =

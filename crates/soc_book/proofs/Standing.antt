@@ -32,7 +32,6 @@ use Rattle.soc_book.specs.inner.Pieces.{AreAppended, IsAppended}
 use Rattle.soc_book.specs.inner.Stands.{AreHeld, Fits, FitJournal, FitReports, IsSafe, Pushes, AddsSettled, Holds, IsPending, ArePending, IsOnDisk, Stands, most_reports, with_reports}
 use Rattle.soc_book.proofs.Changes.{entries-all, settled-legal, doubt-legal}
 use Rattle.soc_book.proofs.Pushing.{IsPlaced, pushed_all}
-use Rattle.soc_book.proofs.Quiets.{all_pending}
 
 -- ---- the gate of a journal that means these entries
 
@@ -68,6 +67,11 @@ images_allowed basis journal disk log (first ∷ more) on image left =
       | inr with_them ↦ inr (subst (λ (es : List Entry). JournalText es image) (sym (map-append entry_of (kept_of log) (first ∷ more))) with_them)
     ]
 
+-- the same of a book
+pub allowed_in : {basis : Basis} {limits : Limits} {ledger : LedgerState} {rows : List (ℕ × List Cell)} {pending : Option Pending} {journal : JournalState} {disk : DiskTold} {state : State} → Stands basis limits ledger rows pending journal disk state
+    → IsTrue basis.is_told → (image : List ℕ) → disk.images image → Allowed state image
+allowed_in {basis = basis} {journal = journal} {disk = disk} {state = state} stands is_told = images_allowed basis journal disk state.log state.doubt (stands.told is_told)
+
 -- ---- settling
 
 abbrev pub IsClean : Result Settled Failed → Type 0
@@ -100,21 +104,6 @@ module _ (basis : Basis) (limits : Limits) (ledger : LedgerState) (rows : List (
     short = stands.short;
     told = λ is_told. let on = stands.told is_told in record { means = moves (entries_of (kept_of state.log)) (entries_of state.doubt) on.means; fits = on.fits };
   }
-
-  some_doubt : (log : List Change) (p : Option Pending) (doubt : List Kept) → ArePending basis log ledger p doubt → is_some p ≡ true → doubt ≢ []
-  some_doubt log p (first ∷ more) are some = λ is. cc
-  some_doubt log None [] are some = absurd (true_is_not_false (sym some))
-  some_doubt log (Some p) [] are some = absurd (none_pending_of basis log ledger p are)
-
-  pub settle_fails : (journal' : JournalState) (disk' : DiskTold) (state : State) → IsSafe ledger journal pending → Stands basis limits ledger rows pending journal disk state → journal' ≡ journal → (journal.doubt ≡ None → ⊥)
-      → DiskFailed disk disk' → ((entries : List Entry) (doubt : List Entry) → Means disk journal entries doubt → Means disk' journal' entries doubt)
-      → (state.doubt ≢ []) × DiskFailed disk disk' × Stands basis limits ledger rows pending journal' disk' state
-  settle_fails journal' disk' state safe stands same doubtful failed moves =
-      let in_doubt : is_some journal.doubt ≡ true = some_of journal.doubt doubtful in
-      (some_doubt state.log pending state.doubt stands.doubt (sym safe.unsettled ∙ in_doubt), failed, stands_moved journal' disk' state stands same moves) where
-        some_of : {A : Type 0} (o : Option A) → (o ≡ None → ⊥) → is_some o ≡ true
-        some_of None none = absurd (none refl)
-        some_of (Some x) none = refl
 
   -- where the doubt was settled
   module _ (ledger' : LedgerState) (rows' : List (ℕ × List Cell)) (journal' : JournalState) (disk' : DiskTold) (outcome : Settled) (safe : IsSafe ledger journal pending)
@@ -214,7 +203,7 @@ module _ (basis : Basis) (limits : Limits) (ledger ledger' : LedgerState) (rows 
 -- ---- appending
 
 -- changes of which entries were to be kept together
-module _ (basis : Basis) (limits : Limits) (ledger : LedgerState) (rows : List (ℕ × List Cell)) (pending : Option Pending) (journal : JournalState) (disk : DiskTold) (log : List Change)
+module _ {basis : Basis} {limits : Limits} {ledger : LedgerState} {rows : List (ℕ × List Cell)} {pending : Option Pending} {journal : JournalState} {disk : DiskTold} {log : List Change}
     (stands : Stands basis limits ledger rows pending journal disk (settled log)) (none : pending ≡ None) (own : Pending) (fits : Fits ledger own) (first : Kept) (more : List Kept) (are : ArePending basis log ledger (Some own) (first ∷ more))
     (next : IsLegal basis (log ++ map keep (first ∷ more))) (given : List Entry) (same : IsTrue basis.is_told → given ≡ entries_of (first ∷ more)) (disk' : DiskTold)
     (any_moment : (entries : List Entry) → Means disk journal entries [] → LeavesOnly disk disk' (VaultStandsFor entries given)) where
@@ -296,7 +285,7 @@ module _ (basis : Basis) (limits : Limits) (ledger : LedgerState) (rows : List (
 
   pub full_survives : IsDisk disk → disk' ≡ disk → IsTrue basis.is_told → Survives disk disk' (settled log) (settled log)
   full_survives sound same_disk is_told = subst (λ (d : DiskTold). Survives disk d (settled log) (settled log)) (sym same_disk)
-      (record { each = λ image left. inl (images_allowed basis journal disk log [] (stands.told is_told) image (sound.only_now image left)) })
+      (record { each = λ image left. inl (allowed_in stands is_told image (sound.only_now image left)) })
 
   -- where the journal had room for their entries
   fits_given : journal.gate + length (sealed_all given) ≤ journal.limit → IsTrue basis.is_told → FitJournal basis log changes
@@ -331,7 +320,7 @@ one_pending basis log ledger (P.Ask number) change is = is
 one_pending basis log ledger (P.Withdraw number) change is = is
 one_pending basis log ledger (P.Reports numbers) change is = absurd is
 
-module _ (basis : Basis) (limits : Limits) (ledger : LedgerState) (rows : List (ℕ × List Cell)) (pending : Option Pending) (journal : JournalState) (disk : DiskTold) (log : List Change)
+module _ {basis : Basis} {limits : Limits} {ledger : LedgerState} {rows : List (ℕ × List Cell)} {pending : Option Pending} {journal : JournalState} {disk : DiskTold} {log : List Change}
     (stands : Stands basis limits ledger rows pending journal disk (settled log)) (none : pending ≡ None) (own : Pending) (fits : Fits ledger own) (change : Kept) (is : IsPending basis log ledger own change)
     (next : IsLegal basis (log ++ keep change ∷ [])) (entry : Entry) (same : IsTrue basis.is_told → entry ≡ entry_of change) (disk' : DiskTold) (goes_on : GoesOn disk disk')
     (any_moment : (entries : List Entry) → Means disk journal entries [] → LeavesOnly disk disk' (VaultStandsFor entries (entry ∷ []))) where
@@ -342,7 +331,7 @@ module _ (basis : Basis) (limits : Limits) (ledger : LedgerState) (rows : List (
   same_one is_told = ap (λ (e : Entry). e ∷ []) (same is_told)
 
   gate_here : IsTrue basis.is_told → journal.gate ≡ place_behind (entries_of (kept_of log))
-  gate_here = gate_now basis limits ledger rows pending journal disk log stands none own fits change [] waits next (entry ∷ []) same_one disk' any_moment
+  gate_here = gate_now stands none own fits change [] waits next (entry ∷ []) same_one disk' any_moment
 
   body_same : IsTrue basis.is_told → entry.body ≡ body_of change
   body_same is_told = ap (λ (e : Entry). e.body) (same is_told)
@@ -359,11 +348,11 @@ module _ (basis : Basis) (limits : Limits) (ledger : LedgerState) (rows : List (
       → (after : State) × Stands basis limits ledger' rows' pending journal' disk' after × IsAppended basis log disk change (Ok tt) after disk'
   append_ok place ledger' rows' journal' count at not_full after pushes kept = (
     settled (log ++ keep change ∷ []),
-    written_stands basis limits ledger rows pending journal disk log stands none own fits change [] waits next (entry ∷ []) same_one disk' any_moment place ledger' rows' journal' count at (fit_now not_full) after pushes kept,
+    written_stands stands none own fits change [] waits next (entry ∷ []) same_one disk' any_moment place ledger' rows' journal' count at (fit_now not_full) after pushes kept,
     record {
       ends = (refl, room_now not_full);
       goes_on = goes_on;
-      survives = written_survives basis limits ledger rows pending journal disk log stands none own fits change [] waits next (entry ∷ []) same_one disk' any_moment;
+      survives = written_survives stands none own fits change [] waits next (entry ∷ []) same_one disk' any_moment;
     },
   )
 
@@ -373,11 +362,11 @@ module _ (basis : Basis) (limits : Limits) (ledger : LedgerState) (rows : List (
       → (after : State) × Stands basis limits ledger rows (Some own) journal' disk' after × IsAppended basis log disk change (Err F.StoreFault) after disk'
   append_fails journal' count not_full after failed in_doubt = (
     record { log = log; doubt = change ∷ [] },
-    failed_stands basis limits ledger rows pending journal disk log stands none own fits change [] waits next (entry ∷ []) same_one disk' any_moment journal' count (fit_now not_full) after in_doubt,
+    failed_stands stands none own fits change [] waits next (entry ∷ []) same_one disk' any_moment journal' count (fit_now not_full) after in_doubt,
     record {
       ends = (refl, failed, room_now not_full);
       goes_on = goes_on;
-      survives = failed_survives basis limits ledger rows pending journal disk log stands none own fits change [] waits next (entry ∷ []) same_one disk' any_moment;
+      survives = failed_survives stands none own fits change [] waits next (entry ∷ []) same_one disk' any_moment;
     },
   )
 
@@ -386,11 +375,11 @@ module _ (basis : Basis) (limits : Limits) (ledger : LedgerState) (rows : List (
       → (after : State) × Stands basis limits ledger rows pending journal' disk' after × IsAppended basis log disk change (Err F.JournalFull) after disk'
   append_full journal' sound full same_journal same_disk = (
     settled log,
-    full_stands basis limits ledger rows pending journal disk log stands none own fits change [] waits next (entry ∷ []) same_one disk' any_moment journal' same_journal same_disk,
+    full_stands stands none own fits change [] waits next (entry ∷ []) same_one disk' any_moment journal' same_journal same_disk,
     record {
       ends = (refl, λ is_told. has_no_room basis journal disk log change stands.limit stands.short entry.body (body_same is_told) (gate_here is_told) full);
       goes_on = goes_on;
-      survives = full_survives basis limits ledger rows pending journal disk log stands none own fits change [] waits next (entry ∷ []) same_one disk' any_moment sound same_disk;
+      survives = full_survives stands none own fits change [] waits next (entry ∷ []) same_one disk' any_moment sound same_disk;
     },
   )
 
@@ -411,24 +400,6 @@ none_waits ledger journal pending safe none = none_of pending (sym safe.unsettle
   none_of : {A : Type 0} (o : Option A) → is_some o ≡ false → o ≡ None
   none_of None is = refl
   none_of (Some x) is = absurd (true_is_not_false is)
-
--- more room in the ledger changes nothing
-pub stands_roomier : (basis : Basis) (limits : Limits) (ledger ledger' : LedgerState) (rows : List (ℕ × List Cell)) (pending : Option Pending) (journal : JournalState) (disk : DiskTold) (state : State) (room : ℕ)
-    → ledger' ≡ record ledger { room = room } → Stands basis limits ledger rows pending journal disk state → Stands basis limits ledger' rows pending journal disk state
-stands_roomier basis limits ledger ledger' rows pending journal disk state room same stands = subst (λ (l : LedgerState). Stands basis limits l rows pending journal disk state) (sym same) (record {
-  legal = stands.legal;
-  holds = record {
-    events_are = stands.holds.events_are;
-    filed = stands.holds.filed;
-    rows_are = record { rise = stands.holds.rows_are.rise; each = stands.holds.rows_are.each; no_other = stands.holds.rows_are.no_other };
-  };
-  doubt = all_pending basis state.log state.log (λ id idle. idle) ledger ledger.log room pending state.doubt stands.doubt;
-  crashes = stands.crashes;
-  bytes = stands.bytes;
-  limit = stands.limit;
-  short = stands.short;
-  told = stands.told;
-})
 
 -- ---- what the tables owe each other, once reports are added
 

@@ -69,7 +69,7 @@ fits_content held raw more is_held is_raw fits =
 content_fits : (held raw : Crash) (more : List ℕ) → content_text held ≡ content_text raw → take (length (content_text raw)) (content_text held ++ more) ≡ content_text raw
 content_fits held raw more same = ap (λ t. take (length (content_text raw)) (t ++ more)) same ∙ take-append_seam (content_text raw) more
 
-module _ (basis : Basis) (limits : Limits) (ledger : LedgerState) (rows : List (ℕ × List Cell)) (pending : Option Pending) (journal : JournalState) (disk : DiskTold) (log : List Change)
+module _ {basis : Basis} {limits : Limits} {ledger : LedgerState} {rows : List (ℕ × List Cell)} {pending : Option Pending} {journal : JournalState} {disk : DiskTold} {log : List Change}
     (stands : Stands basis limits ledger rows pending journal disk (settled log)) (sound : IsDisk disk) (raw : RawCrash) (new : NewCrash) (is : IsCrash (crash_of raw)) (tells : Tells new (crash_of raw)) where
   abbrev now : List Event
   now = events basis log
@@ -120,7 +120,7 @@ module _ (basis : Basis) (limits : Limits) (ledger : LedgerState) (rows : List (
         let most : basis.crashes ≤ length (accepted_ids now) = omega arith in (
           settled log,
           stands,
-          answered basis log disk disk (C.Submit raw) (R.Refused F.TooManyCrashes) (Looks-none disk sound) (allowed basis limits ledger rows pending journal disk log stands)
+          answered basis log disk disk (C.Submit raw) (R.Refused F.TooManyCrashes) (Looks-none disk sound) (allowed stands)
               (refl, tt) tt (λ never. absurd never) ((is_new_now, le-leb basis.crashes (length (accepted_ids now)) most, refl), refl)
               (λ is_told. decided_as basis log disk disk (C.Submit raw) (answers (R.Refused F.TooManyCrashes)) (R.Refused F.TooManyCrashes) (settled log)
               (ap (λ (d : Decision). Some d) (decides_by true (le-leb basis.crashes (length (accepted_ids now)) most))) (refl, refl)),
@@ -203,7 +203,7 @@ module _ (basis : Basis) (limits : Limits) (ledger : LedgerState) (rows : List (
           settled log,
           stands,
           subst (λ x. IsDecided basis log disk (C.Submit raw) (R.Refused (F.Withdrawn x)) (settled log) disk) (sym tells.id)
-              (answered basis log disk disk (C.Submit raw) (R.Refused (F.Withdrawn raw.id)) (Looks-none disk sound) (allowed basis limits ledger rows pending journal disk log stands)
+              (answered basis log disk disk (C.Submit raw) (R.Refused (F.Withdrawn raw.id)) (Looks-none disk sound) (allowed stands)
               (refl, refl) tt (λ never. absurd never) ((was_gone, refl), refl)
               (λ is_told. decided_as basis log disk disk (C.Submit raw) (answers (R.Refused (F.Withdrawn raw.id))) (R.Refused (F.Withdrawn raw.id)) (settled log)
               (ap (λ (d : Decision). Some d) (ap (λ b. if b then answers (R.Refused (F.Withdrawn raw.id)) else option_map_or (decide_repeated crash) (raw_of log raw.id) (decide_new basis log crash)) was_gone)) (refl, refl))),
@@ -236,7 +236,7 @@ module _ (basis : Basis) (limits : Limits) (ledger : LedgerState) (rows : List (
       -- other content, for one reason or another
       other : (disk' : DiskTold) → Looks disk disk' → ((is_told : IsTrue basis.is_told) → content_text (known_now is_told).raw ≡ content_text crash → ⊥)
           → IsDecided basis log disk (C.Submit raw) (R.Refused (F.OtherContent raw.id)) (settled log) disk'
-      other disk' looks apart = answered basis log disk disk' (C.Submit raw) (R.Refused (F.OtherContent raw.id)) looks (allowed basis limits ledger rows pending journal disk log stands)
+      other disk' looks apart = answered basis log disk disk' (C.Submit raw) (R.Refused (F.OtherContent raw.id)) looks (allowed stands)
           (refl, refl) tt (λ never. absurd never) ((held_now, refl), refl)
           (λ is_told. decided_as basis log disk disk' (C.Submit raw) (answers (R.Refused (F.OtherContent raw.id))) (R.Refused (F.OtherContent raw.id)) (settled log)
           (ap (λ (d : Decision). Some d) (decides_held is_told false (differs _ _ (apart is_told)))) (refl, refl))
@@ -262,7 +262,7 @@ module _ (basis : Basis) (limits : Limits) (ledger : LedgerState) (rows : List (
         fails_read failed = (
           settled log,
           moved,
-          answered basis log disk disk' (C.Submit raw) (R.Refused F.StoreFault) looks (allowed basis limits ledger rows pending journal disk log stands)
+          answered basis log disk disk' (C.Submit raw) (R.Refused F.StoreFault) looks (allowed stands)
               (refl, tt) tt (λ fault. failed) (inr (held_now, refl), refl)
               (λ is_told.
               let k = known_now is_told in
@@ -290,7 +290,7 @@ module _ (basis : Basis) (limits : Limits) (ledger : LedgerState) (rows : List (
             settled log,
             moved,
             subst (λ x. IsDecided basis log disk (C.Submit raw) (R.Repeated x) (settled log) disk') (sym tells.id)
-                (answered basis log disk disk' (C.Submit raw) (R.Repeated raw.id) looks (allowed basis limits ledger rows pending journal disk log stands)
+                (answered basis log disk disk' (C.Submit raw) (R.Repeated raw.id) looks (allowed stands)
                 (refl, refl) tt (λ never. absurd never) (held_now, refl, refl)
                 (λ is_told.
                 let k = known_now is_told in

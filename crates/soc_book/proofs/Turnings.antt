@@ -240,9 +240,6 @@ due_by ledger id number filed standing due known at is test =
     let own : id ≡ filed.id = sym known.id_is ∙ ap (λ o. option_map_or (λ f. f.id) o []) at in
     ap (λ x. is_some (due_since ledger.log x)) own ∙ (ap (λ s. is_some s.due_since) (sym is) ∙ test)
 
-pub listed_some : {A : Type 0} (xs : List A) (x : A) → slice_get xs 0 ≡ Some x → 0 < length xs
-listed_some xs x is = within_get 0 xs x is
-
 -- ---- turns one after another
 
 pub no_turn : (basis : Basis) (state : State) → IsTurned basis state 0 state
@@ -292,16 +289,13 @@ pub next_turn : (basis : Basis) (state : State) (turns : ℕ) (between after : S
 next_turn basis state turns between after None disk disk' so_far left turn = absurd (still_some basis state turns between so_far left turn.0)
 next_turn basis state turns between after (Some id) disk disk' so_far left turn = one_turn basis state turns between after id so_far turn.0 turn.1
 
-module _ (basis : Basis) (limits : Limits) (ledger : LedgerState) (rows : List (ℕ × List Cell)) (pending : Option Pending) (journal : JournalState) (disk : DiskTold) (state : State)
+module _ {basis : Basis} {limits : Limits} {ledger : LedgerState} {rows : List (ℕ × List Cell)} {pending : Option Pending} {journal : JournalState} {disk : DiskTold} {state : State}
     (stands : Stands basis limits ledger rows pending journal disk state) where
   events_are : ledger.log ≡ events basis state.log
   events_are = stands.holds.events_are
 
   pub idle_is : (id : List ℕ) (due : Bool) → is_due ledger.log id ≡ due → is_due (events basis state.log) id ≡ due
   idle_is id due is = ap (λ l. is_due l id) (sym stands.holds.events_are) ∙ is
-
-  pub due_at_is : (place : ℕ) (id : List ℕ) → slice_get (due_ids ledger.log) place ≡ Some id → IsDueAt (events basis state.log) place id
-  due_at_is place id is = ap (λ l. slice_get (due_ids l) place) (sym stands.holds.events_are) ∙ is
 
   pub due_count_is : length (due_ids ledger.log) ≡ length (due_of basis state)
   due_count_is = ap (λ l. length (due_ids l)) stands.holds.events_are
@@ -320,9 +314,9 @@ module _ (basis : Basis) (limits : Limits) (ledger : LedgerState) (rows : List (
       → (IsTrue basis.is_told → option_map basis.row_of (raw_of state.log (id_of ledger number)) ≡ Some row)
       → Stands basis limits (with_event (record ledger { room = room }) (E.Done (id_of ledger number))) (with_row (number, row) rows) pending journal disk (with_done state (id_of ledger number ∷ []))
   stands_done number row room within due is_row =
-      let roomy : Stands basis limits (record ledger { room = room }) rows pending journal disk state = stands_room basis limits ledger rows pending journal disk state room stands in
+      let roomy : Stands basis limits (record ledger { room = room }) rows pending journal disk state = stands_room room stands in
       let is : is_due (events basis state.log) (id_of ledger number) ≡ true = idle_is (id_of ledger number) true due in
-      stands_behind basis limits (record ledger { room = room }) rows pending journal disk state roomy (done (id_of ledger number)) (done_quiet (id_of ledger number)) (with_row (number, row) rows) is
+      stands_behind roomy (done (id_of ledger number)) (done_quiet (id_of ledger number)) (with_row (number, row) rows) is
       (done_rows basis state.log (record ledger { room = room }) rows roomy.holds.rows_are number row within (λ other below same. apart_numbers number other within below same)
       (due_held (events basis state.log) (id_of ledger number) stands.legal.log.events_legal is) is_row)
 
@@ -334,14 +328,11 @@ module _ (basis : Basis) (limits : Limits) (ledger : LedgerState) (rows : List (
       (subst (λ l. Stands basis limits l (with_row (number, row) rows) pending journal disk (with_done state (id_of ledger number ∷ []))) (sym (is ∙ ap (λ l. with_event l (E.Done (id_of l number))) same))
       (stands_done number row roomy.room within due is_row))
 
-  pub stands_roomy : (roomy : LedgerState) → roomy ≡ record ledger { room = roomy.room } → Stands basis limits roomy rows pending journal disk state
-  stands_roomy roomy same = subst (λ l. Stands basis limits l rows pending journal disk state) (sym same) (stands_room basis limits ledger rows pending journal disk state roomy.room stands)
-
   -- the tables once the service is stopped
   pub stands_stopped : (room : ℕ) → has_stop ledger.log ≡ false → Stands basis limits (with_event (record ledger { room = room }) E.Stopped) rows pending journal disk (record state { log = state.log ++ stop ∷ [] })
   stands_stopped room none =
-      let roomy : Stands basis limits (record ledger { room = room }) rows pending journal disk state = stands_room basis limits ledger rows pending journal disk state room stands in
-      stands_behind basis limits (record ledger { room = room }) rows pending journal disk state roomy stop stop_quiet rows (ap not (ap has_stop (sym stands.holds.events_are) ∙ none))
+      let roomy : Stands basis limits (record ledger { room = room }) rows pending journal disk state = stands_room room stands in
+      stands_behind roomy stop stop_quiet rows (ap not (ap has_stop (sym stands.holds.events_are) ∙ none))
       (stop_rows basis state.log (record ledger { room = room }) rows roomy.holds.rows_are)
 
   pub stands_stopping : (roomy after : LedgerState) → roomy ≡ record ledger { room = roomy.room } → after ≡ with_event roomy E.Stopped → has_stop ledger.log ≡ false
@@ -371,7 +362,7 @@ module _ (basis : Basis) (limits : Limits) (ledger : LedgerState) (rows : List (
       fault = fault;
       altered = altered;
       step = step;
-      survives = λ is_told. survives_looking basis limits ledger rows pending journal disk state stands disk' after is_told looks;
+      survives = λ is_told. survives_looking stands disk' after is_told looks;
     }
 
     with_none : state ≡ with_done state []
@@ -403,13 +394,7 @@ module _ (basis : Basis) (limits : Limits) (ledger : LedgerState) (rows : List (
           let whole : (id : List ℕ) × (later : List (List ℕ)) × (due_of basis state ≡ id ∷ later) = some_first (due_of basis state) turns.0 in
           processes (C.Turn caller) (R.Refused F.NoMemory) [] after (turns.1 ∙ with_none) (may, tt) ((turns.0, refl), refl) (λ never. absurd never) (λ never. absurd never)
           (λ is_told. first_turn (R.Refused F.NoMemory) after whole.0 whole.1 whole.2 (inr (inl (refl, turns.1))))
-      turn_does (Err F.JournalFull) after turns = absurd turns
-      turn_does (Err (F.OtherContent other)) after turns = absurd turns
-      turn_does (Err F.NoCrash) after turns = absurd turns
-      turn_does (Err F.NotProcessed) after turns = absurd turns
-      turn_does (Err F.TooManyCrashes) after turns = absurd turns
-      turn_does (Err (F.NoPermission name)) after turns = absurd turns
-      turn_does (Err (F.Withdrawn other)) after turns = absurd turns
+      turn_does (Err _) after turns = absurd turns
 
       -- ---- a drain
 
@@ -445,29 +430,23 @@ module _ (basis : Basis) (limits : Limits) (ledger : LedgerState) (rows : List (
         drain_stopped F.NoMemory middle goes_on stopped =
             processes (C.Drain caller) (R.Refused F.NoMemory) (take turns (due_of basis state)) after (after_some stopped.1) (may, tt) ((turns, some_left stopped.0, refl), refl) (λ never. absurd never) (λ never. absurd never)
             (λ is_told. permitted state (C.Drain caller) (R.Refused F.NoMemory) after _ may (turns, some_left stopped.0, after_some stopped.1))
-        drain_stopped F.JournalFull middle goes_on stopped = absurd stopped
-        drain_stopped (F.OtherContent other) middle goes_on stopped = absurd stopped
-        drain_stopped F.NoCrash middle goes_on stopped = absurd stopped
-        drain_stopped F.NotProcessed middle goes_on stopped = absurd stopped
-        drain_stopped F.TooManyCrashes middle goes_on stopped = absurd stopped
-        drain_stopped (F.NoPermission name) middle goes_on stopped = absurd stopped
-        drain_stopped (F.Withdrawn other) middle goes_on stopped = absurd stopped
+        drain_stopped _ middle goes_on stopped = absurd stopped
 
     -- ---- without the permission
 
     pub turn_forbidden : (caller : Caller) → without caller Operate ≡ Some Operate → Does basis state disk (C.Turn caller) (R.Refused (F.NoPermission Operate)) state disk'
     turn_forbidden caller lacks =
-        stays basis limits ledger rows pending journal disk state stands disk' looks (C.Turn caller) (R.Refused (F.NoPermission Operate)) lacks ((tt, refl), refl) (λ never. absurd never) (λ never. absurd never)
+        stays stands disk' looks (C.Turn caller) (R.Refused (F.NoPermission Operate)) lacks ((tt, refl), refl) (λ never. absurd never) (λ never. absurd never)
         (λ is_told. forbidden state (C.Turn caller) Operate state _ lacks refl)
 
     pub drain_forbidden : (caller : Caller) → without caller Operate ≡ Some Operate → Does basis state disk (C.Drain caller) (R.Refused (F.NoPermission Operate)) state disk'
     drain_forbidden caller lacks =
-        stays basis limits ledger rows pending journal disk state stands disk' looks (C.Drain caller) (R.Refused (F.NoPermission Operate)) lacks (refl, refl) (λ never. absurd never) (λ never. absurd never)
+        stays stands disk' looks (C.Drain caller) (R.Refused (F.NoPermission Operate)) lacks (refl, refl) (λ never. absurd never) (λ never. absurd never)
         (λ is_told. forbidden state (C.Drain caller) Operate state _ lacks refl)
 
     pub stop_forbidden : (caller : Caller) → without caller Operate ≡ Some Operate → Does basis state disk (C.Stop caller) (R.Refused (F.NoPermission Operate)) state disk'
     stop_forbidden caller lacks =
-        stays basis limits ledger rows pending journal disk state stands disk' looks (C.Stop caller) (R.Refused (F.NoPermission Operate)) lacks (refl, refl) (λ never. absurd never) (λ never. absurd never)
+        stays stands disk' looks (C.Stop caller) (R.Refused (F.NoPermission Operate)) lacks (refl, refl) (λ never. absurd never) (λ never. absurd never)
         (λ is_told. forbidden state (C.Stop caller) Operate state _ lacks refl)
 
     -- ---- the stop
@@ -475,13 +454,13 @@ module _ (basis : Basis) (limits : Limits) (ledger : LedgerState) (rows : List (
     module _ (caller : Caller) (may : without caller Operate ≡ None) where
       pub stop_no_memory : Does basis state disk (C.Stop caller) (R.Refused F.NoMemory) state disk'
       stop_no_memory =
-          stays basis limits ledger rows pending journal disk state stands disk' looks (C.Stop caller) (R.Refused F.NoMemory) (may, tt) (refl, refl) (λ never. absurd never) (λ never. absurd never)
+          stays stands disk' looks (C.Stop caller) (R.Refused F.NoMemory) (may, tt) (refl, refl) (λ never. absurd never) (λ never. absurd never)
           (λ is_told. permitted state (C.Stop caller) (R.Refused F.NoMemory) state _ may (inl (refl, refl)))
 
       pub stopped_before : has_stop ledger.log ≡ true → Does basis state disk (C.Stop caller) R.Stopping state disk'
       stopped_before is =
           let before : has_stop (events basis state.log) ≡ true = ap has_stop (sym stands.holds.events_are) ∙ is in
-          stays basis limits ledger rows pending journal disk state stands disk' looks (C.Stop caller) R.Stopping (may, tt) (inl (before, refl), refl) (λ never. absurd never) (λ never. absurd never)
+          stays stands disk' looks (C.Stop caller) R.Stopping (may, tt) (inl (before, refl), refl) (λ never. absurd never) (λ never. absurd never)
           (λ is_told. permitted state (C.Stop caller) R.Stopping state _ may (inr (refl, ap (λ b. if b then state else record state { log = state.log ++ stop ∷ [] }) (sym before))))
 
       pub stopped_now : has_stop ledger.log ≡ false → Does basis state disk (C.Stop caller) R.Stopping (record state { log = state.log ++ stop ∷ [] }) disk'
@@ -494,7 +473,7 @@ module _ (basis : Basis) (limits : Limits) (ledger : LedgerState) (rows : List (
             fault = λ never. absurd never;
             altered = λ never. absurd never;
             step = λ is_told. permitted state (C.Stop caller) R.Stopping (record state { log = state.log ++ stop ∷ [] }) _ may (inr (refl, ap (λ b. if b then state else record state { log = state.log ++ stop ∷ [] }) (sym before)));
-            survives = λ is_told. survives_looking basis limits ledger rows pending journal disk state stands disk' (record state { log = state.log ++ stop ∷ [] }) is_told looks;
+            survives = λ is_told. survives_looking stands disk' (record state { log = state.log ++ stop ∷ [] }) is_told looks;
           }
 
     -- ---- a fetch
@@ -508,15 +487,15 @@ module _ (basis : Basis) (limits : Limits) (ledger : LedgerState) (rows : List (
 
       pub fetch_absent : is_held ledger.log id ≡ false → Does basis state disk (C.Fetch id) (R.Refused F.NoCrash) state disk'
       fetch_absent gone =
-          let unheld : is_held (events basis state.log) id ≡ false = held_is basis limits ledger rows pending journal disk state stands id false gone in
-          stays basis limits ledger rows pending journal disk state stands disk' looks (C.Fetch id) (R.Refused F.NoCrash) (refl, tt) (ap not unheld, (refl, refl)) (λ never. absurd never) (λ never. absurd never)
+          let unheld : is_held (events basis state.log) id ≡ false = held_is stands id false gone in
+          stays stands disk' looks (C.Fetch id) (R.Refused F.NoCrash) (refl, tt) (ap not unheld, (refl, refl)) (λ never. absurd never) (λ never. absurd never)
           (λ is_told. if_idle _ _ (unheld_idle (events basis state.log) id stands.legal.log.events_legal unheld) (ap (λ b. if b then R.Fetched None else R.Refused F.NoCrash) (sym unheld), refl))
 
       pub fetch_idle : is_held ledger.log id ≡ true → is_due ledger.log id ≡ false → Does basis state disk (C.Fetch id) (R.Fetched None) state disk'
       fetch_idle there none =
-          let held : is_held (events basis state.log) id ≡ true = held_is basis limits ledger rows pending journal disk state stands id true there in
+          let held : is_held (events basis state.log) id ≡ true = held_is stands id true there in
           let idle : is_due (events basis state.log) id ≡ false = idle_is id false none in
-          stays basis limits ledger rows pending journal disk state stands disk' looks (C.Fetch id) (R.Fetched None) (refl, tt) (ap (λ b. b && not (is_due (events basis state.log) id)) held ∙ ap not idle, (refl, refl)) (λ never. absurd never) (λ never. absurd never)
+          stays stands disk' looks (C.Fetch id) (R.Fetched None) (refl, tt) (ap (λ b. b && not (is_due (events basis state.log) id)) held ∙ ap not idle, (refl, refl)) (λ never. absurd never) (λ never. absurd never)
           (λ is_told. if_idle _ _ idle (ap (λ b. if b then R.Fetched None else R.Refused F.NoCrash) (sym held), refl))
 
       module _ (waits : is_due ledger.log id ≡ true) where
@@ -525,21 +504,15 @@ module _ (basis : Basis) (limits : Limits) (ledger : LedgerState) (rows : List (
 
         fetch_failed : (refusal : Refusal) → IsRead basis state.log id (Err refusal) disk disk' → Does basis state disk (C.Fetch id) (R.Refused refusal) state disk'
         fetch_failed F.StoreFault failed =
-            stays basis limits ledger rows pending journal disk state stands disk' looks (C.Fetch id) (R.Refused F.StoreFault) (refl, tt) (due, (refl, refl)) (λ _. failed) (λ never. absurd never)
+            stays stands disk' looks (C.Fetch id) (R.Refused F.StoreFault) (refl, tt) (due, (refl, refl)) (λ _. failed) (λ never. absurd never)
             (λ is_told. if_due _ _ due (inr (inr (refl, (refl, refl)))))
         fetch_failed (F.Altered other) altered =
-            stays basis limits ledger rows pending journal disk state stands disk' looks (C.Fetch id) (R.Refused (F.Altered other)) (refl, altered.0) (due, (refl, refl)) (λ never. absurd never) (λ _. altered.1)
+            stays stands disk' looks (C.Fetch id) (R.Refused (F.Altered other)) (refl, altered.0) (due, (refl, refl)) (λ never. absurd never) (λ _. altered.1)
             (λ is_told. absurd (true_is_not_false (sym is_told ∙ altered.1)))
         fetch_failed F.NoMemory wanted =
-            stays basis limits ledger rows pending journal disk state stands disk' looks (C.Fetch id) (R.Refused F.NoMemory) (refl, tt) (due, (refl, refl)) (λ never. absurd never) (λ never. absurd never)
+            stays stands disk' looks (C.Fetch id) (R.Refused F.NoMemory) (refl, tt) (due, (refl, refl)) (λ never. absurd never) (λ never. absurd never)
             (λ is_told. if_due _ _ due (inr (inl (refl, refl))))
-        fetch_failed F.JournalFull never = absurd never
-        fetch_failed (F.OtherContent other) never = absurd never
-        fetch_failed F.NoCrash never = absurd never
-        fetch_failed F.NotProcessed never = absurd never
-        fetch_failed F.TooManyCrashes never = absurd never
-        fetch_failed (F.NoPermission name) never = absurd never
-        fetch_failed (F.Withdrawn other) never = absurd never
+        fetch_failed _ never = absurd never
 
         pub fetch_unread : (number : ℕ) (refusal : Refusal) → IsHeldAs ledger id number → IsRead basis state.log (id_of ledger number) (Err refusal) disk disk' → Does basis state disk (C.Fetch id) (R.Refused refusal) state disk'
         fetch_unread number refusal known read = fetch_failed refusal (subst (λ x. IsRead basis state.log x (Err refusal) disk disk') known.id_is read)
@@ -547,7 +520,7 @@ module _ (basis : Basis) (limits : Limits) (ledger : LedgerState) (rows : List (
         pub fetched : (number : ℕ) (raw : RawCrash) → IsHeldAs ledger id number → IsRead basis state.log (id_of ledger number) (Ok raw) disk disk' → Does basis state disk (C.Fetch id) (R.Fetched (Some raw)) state disk'
         fetched number raw known read =
             let is : IsRead basis state.log id (Ok raw) disk disk' = subst (λ x. IsRead basis state.log x (Ok raw) disk disk') known.id_is read in
-            stays basis limits ledger rows pending journal disk state stands disk' looks (C.Fetch id) (R.Fetched (Some raw)) (refl, is.0) (due, (refl, refl)) (λ never. absurd never) (λ never. absurd never)
+            stays stands disk' looks (C.Fetch id) (R.Fetched (Some raw)) (refl, is.0) (due, (refl, refl)) (λ never. absurd never) (λ never. absurd never)
             (λ is_told. if_due _ _ due (inl (is.1 is_told, refl)))
 
     -- ---- a finish
@@ -556,17 +529,17 @@ module _ (basis : Basis) (limits : Limits) (ledger : LedgerState) (rows : List (
       pub finish_idle : (id : List ℕ) → id ≡ report.crash.id → is_due ledger.log id ≡ false → Does basis state disk (C.Finish report) (R.Finished false) state disk'
       finish_idle id same none =
           let idle : is_due (events basis state.log) report.crash.id ≡ false = idle_is report.crash.id false (ap (is_due ledger.log) (sym same) ∙ none) in
-          stays basis limits ledger rows pending journal disk state stands disk' looks (C.Finish report) (R.Finished false) (refl, tt) ((ap not idle, refl), refl) (λ never. absurd never) (λ never. absurd never)
+          stays stands disk' looks (C.Finish report) (R.Finished false) (refl, tt) ((ap not idle, refl), refl) (λ never. absurd never) (λ never. absurd never)
           (λ is_told. inr (if_idle report.crash.id _ _ idle (refl, refl)))
 
       pub finish_absent : (id : List ℕ) → id ≡ report.crash.id → is_held ledger.log id ≡ false → Does basis state disk (C.Finish report) (R.Finished false) state disk'
       finish_absent id same gone =
-          let unheld : is_held (events basis state.log) report.crash.id ≡ false = held_is basis limits ledger rows pending journal disk state stands report.crash.id false (ap (λ x. is_held ledger.log x) (sym same) ∙ gone) in
+          let unheld : is_held (events basis state.log) report.crash.id ≡ false = held_is stands report.crash.id false (ap (λ x. is_held ledger.log x) (sym same) ∙ gone) in
           finish_idle report.crash.id refl (ap (λ l. is_due l report.crash.id) stands.holds.events_are ∙ unheld_idle (events basis state.log) report.crash.id stands.legal.log.events_legal unheld)
 
       pub finish_no_memory : Does basis state disk (C.Finish report) (R.Refused F.NoMemory) state disk'
       finish_no_memory =
-          stays basis limits ledger rows pending journal disk state stands disk' looks (C.Finish report) (R.Refused F.NoMemory) (refl, tt) (refl, refl) (λ never. absurd never) (λ never. absurd never) (λ is_told. inl (refl, refl))
+          stays stands disk' looks (C.Finish report) (R.Refused F.NoMemory) (refl, tt) (refl, refl) (λ never. absurd never) (λ never. absurd never) (λ is_told. inl (refl, refl))
 
       pub finished : (number : ℕ) → id_of ledger number ≡ report.crash.id → is_due ledger.log (id_of ledger number) ≡ true → Does basis state disk (C.Finish report) (R.Finished true) (with_done state (id_of ledger number ∷ [])) disk'
       finished number same waits =

@@ -1,5 +1,5 @@
 -- What a book opens with, and which journals it doesn't open.
-use Rattle.std.specs.Prelude.{◌≡◌, ◌⊎◌, ℕ, IsTrue, List, [], ◌∷◌, ◌++◌, Option, IfSome, IsSome}
+use Rattle.std.specs.Prelude.{◌≡◌, ◌⊎◌, ℕ, IsTrue, List, [], ◌∷◌, ◌++◌, Option, None, IfSome, IsSome}
 use Rattle.soc_raw.specs.Record.{Crash}
 use Rattle.soc_schema.specs.declared.value.Cell.{Cell}
 use Rattle.soc_edge.specs.Disk.{DiskTold}
@@ -11,6 +11,8 @@ use Rattle.soc_desk.specs.Basis.{Basis}
 use Rattle.soc_desk.specs.Log.{Kept, Change}
 use Rattle.soc_desk.specs.Opens.{AreChanges, OpensWith, RefusesEntry}
 use Rattle.soc_desk.specs.State.{State, settled}
+use Rattle.soc_book.specs.declared.opening.Restored.{Restored}
+use Rattle.soc_book.specs.inner.Stands.{Stands}
 
 -- The basis is that of a book with this reporter and these limits. It says that the disk tells its content only where it
 -- does.
@@ -30,6 +32,19 @@ pub record OpensBook (basis : Basis) (before after : DiskTold) (IsNow : State �
   pub opens : OpensWith basis entries log
   pub now : IsNow (settled log)
   pub stands : IfSome before.content (λ bytes. StandsSince before after bytes entries)
+
+-- what was read of a journal stands for this state, over the disk that it was read of
+abbrev pub RestoredFor : Basis → Limits → Restored → DiskTold → State → Type 0
+RestoredFor basis limits restored disk state = Stands basis limits restored.ledger restored.store None restored.journal disk state
+
+-- nothing of it is in doubt
+abbrev pub IsSettled : Restored → Type 0
+IsSettled restored = restored.journal.doubt ≡ None
+
+-- what was read opens a book with this reporter and these limits
+abbrev pub Restores : (Crash → List Cell) → Option (List ℕ) → Limits → DiskTold → Restored → DiskTold → Type 0
+Restores row_of digest limits before restored after = (basis : Basis) → IsBasisOf row_of digest limits before.content basis
+    → OpensBook basis before after (RestoredFor basis limits restored after)
 
 -- the bytes break the grammar of a journal first at this place, and the entries before it are those of a legal log
 pub record BreaksJournal (bytes : List ℕ) (place : ℕ) : Type 0 where

@@ -6,4 +6,5 @@ pub mod Prepared
 pub mod Recoveries
 pub mod Safe
 pub mod Stands
+pub mod Steps
 pub mod Turns

@@ -6,14 +6,17 @@ ghost use Rattle.soc_ledger.specs.State.{id_of};
 ghost use Rattle.soc_store.specs.Stored.{row_at};
 ghost use Rattle.soc_desk.specs.Basis.{Basis, RowsTell};
 ghost use Rattle.soc_desk.specs.Log.{Change as Logged, IsLegal, Kept};
-ghost use Rattle.soc_desk.specs.State.{State, entries_of, settled};
-ghost use Rattle.soc_book.specs.Keeping.{KeepsReports};
-ghost use Rattle.soc_book.specs.inner.Keepings.{HasGathered, IsBatch, IsMost, IsSameBatch, KeepsAll, KeepsBatch, LeavesSome, MakesEntry, MayMakeEntry, is_wanted, keep_reply, with_all};
+ghost use Rattle.soc_desk.specs.State.{entries_of, settled};
+ghost use Rattle.soc_book.specs.Books.{SameSetting, StandsFor, disk_of, reporter_of};
+ghost use Rattle.soc_book.specs.Keeping.{KeepsByReporter};
+ghost use Rattle.soc_book.specs.inner.Keepings.{HasGathered, IsBatch, IsMost, IsSameBatch, KeepsBatch, LeavesSome, MakesEntry, MayMakeEntry, is_wanted, keep_reply, with_all};
 ghost use Rattle.soc_book.specs.inner.Pieces.{product_at};
-ghost use Rattle.soc_book.specs.inner.Stands.{AreReports, Stands, most_reports};
+ghost use Rattle.soc_book.specs.inner.Stands.{AreReports, most_reports};
+ghost use Rattle.soc_book.specs.inner.Steps.{Becomes, KeepsBook};
 
-use crate::book::{Book, MOST_REPORTS, make_room};
+use crate::book::{Book, MOST_REPORTS};
 use crate::report::{HEAD, report_text, tells};
+use crate::writes::make_room;
 use soc_base::NoMemory;
 use soc_desk::{Refusal, Reply};
 use soc_edge::{Disk, Steps};
@@ -71,8 +74,10 @@ impl Batch {
     /// Adds the report of the crash of a number. After an error nothing was added.
     fn push(&mut self, number: u32, entry: EntryText) -> Result<(), NoMemory>
         requires { self.old.bytes < MOST_BYTES }
-        ensures entries { OnOk result (self.new.entries.items ≡ self.old.entries.items ++ entry ∷ []) }
-        ensures numbers { OnOk result (self.new.numbers.items ≡ self.old.numbers.items ++ number ∷ []) }
+        ensures entries { OnOk result (self.new.entries.items ≡ self.old.entries.items
+            ++ entry ∷ []) }
+        ensures numbers { OnOk result (self.new.numbers.items ≡ self.old.numbers.items
+            ++ number ∷ []) }
         ensures bytes { OnOk result (self.new.bytes ≡ self.old.bytes + length (entry_text entry)) }
         ensures next { self.new.next ≡ self.old.next }
         ensures unchanged { OnErr result (IsSameBatch self.old self.new) }
@@ -93,13 +98,8 @@ impl<'a, D: Disk, R: Reporter> Book<'a, D, R> {
     ///
     /// Without a digest of the reporter there is nothing to keep. The reports that were kept before a refusal stay.
     pub fn keep(&mut self) -> Reply
-        ensures same_disk { self.new.vault.disk.ghost_name ≡ self.old.vault.disk.ghost_name }
-        ensures limits { self.new.limits ≡ self.old.limits }
-        ensures reporter { self.new.reporter.now ≡ self.old.reporter.now }
-        ensures keeps { (basis : Basis) (state : State) → basis.row_of ≡ R.row_of self.old.reporter.now → basis.digest ≡ R.digest_of self.old.reporter.now
-            → Stands basis self.old.limits self.old.ledger self.old.store self.old.doubt self.old.vault.journal (D.state self.old.vault.disk.now) state
-            → (after : State) × Stands basis self.new.limits self.new.ledger self.new.store self.new.doubt self.new.vault.journal (D.state self.new.vault.disk.now) after
-            × KeepsReports basis state (D.state self.old.vault.disk.now) result after (D.state self.new.vault.disk.now) }
+        ensures setting { SameSetting self.old self.new }
+        ensures keeps { KeepsByReporter self.old result self.new }
     {
         match self.settle() {
             Ok(()) => keep_reply(self.keep_settled()),
@@ -110,13 +110,8 @@ impl<'a, D: Disk, R: Reporter> Book<'a, D, R> {
     /// The same once a doubt is settled.
     fn keep_settled(&mut self) -> Result<u64, Refusal>
         requires { self.old.vault.journal.doubt ≡ None }
-        ensures same_disk { self.new.vault.disk.ghost_name ≡ self.old.vault.disk.ghost_name }
-        ensures limits { self.new.limits ≡ self.old.limits }
-        ensures reporter { self.new.reporter.now ≡ self.old.reporter.now }
-        ensures keeps { (basis : Basis) (log : List Logged) → basis.digest ≡ R.digest_of self.old.reporter.now → RowsTell basis
-            → Stands basis self.old.limits self.old.ledger self.old.store self.old.doubt self.old.vault.journal (D.state self.old.vault.disk.now) (settled log)
-            → (after : State) × Stands basis self.new.limits self.new.ledger self.new.store self.new.doubt self.new.vault.journal (D.state self.new.vault.disk.now) after
-            × KeepsAll basis log (D.state self.old.vault.disk.now) result after (D.state self.new.vault.disk.now) }
+        ensures setting { SameSetting self.old self.new }
+        ensures keeps { KeepsBook (R.digest_of (reporter_of self.old)) self.old result self.new }
     {
         match self.reporter.digest() {
             Some(digest) => self.keep_all(&digest),
@@ -127,13 +122,8 @@ impl<'a, D: Disk, R: Reporter> Book<'a, D, R> {
     /// Keeps the report of each crash, in the order in which they were accepted, where it is to be kept, some together.
     fn keep_all(&mut self, digest: &[u8; 32]) -> Result<u64, Refusal>
         requires { self.old.vault.journal.doubt ≡ None }
-        ensures same_disk { self.new.vault.disk.ghost_name ≡ self.old.vault.disk.ghost_name }
-        ensures limits { self.new.limits ≡ self.old.limits }
-        ensures reporter { self.new.reporter.now ≡ self.old.reporter.now }
-        ensures keeps { (basis : Basis) (log : List Logged) → basis.digest ≡ Some digest.now → RowsTell basis
-            → Stands basis self.old.limits self.old.ledger self.old.store self.old.doubt self.old.vault.journal (D.state self.old.vault.disk.now) (settled log)
-            → (after : State) × Stands basis self.new.limits self.new.ledger self.new.store self.new.doubt self.new.vault.journal (D.state self.new.vault.disk.now) after
-            × KeepsAll basis log (D.state self.old.vault.disk.now) result after (D.state self.new.vault.disk.now) }
+        ensures setting { SameSetting self.old self.new }
+        ensures keeps { KeepsBook (Some digest.now) self.old result self.new }
     {
         let mut kept = 0;
         let mut number = 0;
@@ -149,17 +139,16 @@ impl<'a, D: Disk, R: Reporter> Book<'a, D, R> {
     fn keep_batch(&mut self, batch: Batch) -> Result<u64, Refusal>
         requires settled { self.old.vault.journal.doubt ≡ None }
         requires batch { IsBatch self.old.ledger self.old.vault.journal batch }
-        ensures same_disk { self.new.vault.disk.ghost_name ≡ self.old.vault.disk.ghost_name }
-        ensures limits { self.new.limits ≡ self.old.limits }
-        ensures reporter { self.new.reporter.now ≡ self.old.reporter.now }
+        ensures setting { SameSetting self.old self.new }
         ensures settled { OnOk result (self.new.vault.journal.doubt ≡ None) }
         ensures crashes { self.new.ledger.crashes ≡ self.old.ledger.crashes }
         ensures count { IfOk result (λ count. count ≡ length batch.numbers.items) }
         ensures keeps { (basis : Basis) (log : List Logged) (reports : List Kept)
-            → Stands basis self.old.limits self.old.ledger self.old.store self.old.doubt self.old.vault.journal (D.state self.old.vault.disk.now) (settled log)
-            → AreReports basis log self.old.ledger batch.numbers.items reports → IsLegal basis (with_all log reports) → batch.entries.items ≡ entries_of reports
-            → (after : State) × Stands basis self.new.limits self.new.ledger self.new.store self.new.doubt self.new.vault.journal (D.state self.new.vault.disk.now) after
-            × KeepsBatch basis log (D.state self.old.vault.disk.now) reports result after (D.state self.new.vault.disk.now) }
+            → StandsFor basis self.old (settled log)
+            → AreReports basis log self.old.ledger batch.numbers.items reports
+            → IsLegal basis (with_all log reports) → batch.entries.items ≡ entries_of reports
+            → Becomes basis self.new (λ later. KeepsBatch basis log
+            (disk_of self.old) reports result later (disk_of self.new)) }
     {
         let Batch {
             entries,
@@ -180,14 +169,13 @@ impl<'a, D: Disk, R: Reporter> Book<'a, D, R> {
     fn next_batch(&self, from: u32, digest: &[u8; 32]) -> Result<Batch, NoMemory>
         requires { from < length self.now.ledger.crashes }
         ensures batch { IfOk result (IsBatch self.now.ledger self.now.vault.journal) }
-        ensures next { IfOk result (λ batch. (from < batch.next) × (batch.next ≤ length self.now.ledger.crashes)) }
+        ensures next { IfOk result (λ batch. (from < batch.next)
+            × (batch.next ≤ length self.now.ledger.crashes)) }
         ensures few { IfOk result (λ batch. from + length batch.numbers.items ≤ batch.next) }
-        ensures gathered { (basis : Basis) (log : List Logged) → basis.digest ≡ Some digest.now → RowsTell basis
-            → Stands basis self.now.limits self.now.ledger self.now.store self.now.doubt self.now.vault.journal (D.state self.now.vault.disk.now) (settled log)
-            → IfOk result (λ batch. (reports : List Kept) × HasGathered basis log self.now.ledger from batch.next batch.numbers.items batch.entries.items reports) }
-        ensures left { (basis : Basis) (log : List Logged) → basis.digest ≡ Some digest.now → RowsTell basis
-            → Stands basis self.now.limits self.now.ledger self.now.store self.now.doubt self.now.vault.journal (D.state self.now.vault.disk.now) (settled log)
-            → OnErr result (LeavesSome basis log from) }
+        ensures gathered { (basis : Basis) (log : List Logged) → basis.digest ≡ Some digest.now
+            → RowsTell basis → StandsFor basis self.now (settled log) → MatchResult result
+            (λ batch. (reports : List Kept) × HasGathered basis log self.now.ledger from batch.next
+            batch.numbers.items batch.entries.items reports) (λ _. LeavesSome basis log from) }
     {
         let mut batch = Batch::new(self.alloc, from);
         while batch.next < self.ledger.accepted() && !batch.is_full() {
@@ -209,12 +197,17 @@ impl<'a, D: Disk, R: Reporter> Book<'a, D, R> {
         requires batch { IsBatch self.now.ledger self.now.vault.journal batch.old }
         ensures batch { IsBatch self.now.ledger self.now.vault.journal batch.new }
         ensures next { batch.new.next ≡ batch.old.next }
-        ensures one { OnOk result (length batch.new.numbers.items ≤ length batch.old.numbers.items + 1) }
+        ensures one { OnOk result (length batch.new.numbers.items
+            ≤ length batch.old.numbers.items + 1) }
         ensures unchanged { OnErr result (IsSameBatch batch.old batch.new) }
-        ensures gathered { (basis : Basis) (log : List Logged) (from : ℕ) (reports : List Kept) → basis.digest ≡ Some digest.now → RowsTell basis
-            → Stands basis self.now.limits self.now.ledger self.now.store self.now.doubt self.now.vault.journal (D.state self.now.vault.disk.now) (settled log)
-            → HasGathered basis log self.now.ledger from batch.old.next batch.old.numbers.items batch.old.entries.items reports
-            → MatchResult result (λ _. (more : List Kept) × HasGathered basis log self.now.ledger from (batch.old.next + 1) batch.new.numbers.items batch.new.entries.items more) (λ _. LeavesSome basis log from) }
+        ensures gathered { (basis : Basis) (log : List Logged) (from : ℕ) (reports : List Kept)
+            → basis.digest ≡ Some digest.now → RowsTell basis
+            → StandsFor basis self.now (settled log)
+            → HasGathered basis log self.now.ledger from batch.old.next batch.old.numbers.items
+            batch.old.entries.items reports → MatchResult result
+            (λ _. (more : List Kept) × HasGathered basis log self.now.ledger from
+            (batch.old.next + 1) batch.new.numbers.items batch.new.entries.items more)
+            (λ _. LeavesSome basis log from) }
     {
         let number = batch.next;
         if !self.is_to_keep(number) {
@@ -229,7 +222,8 @@ impl<'a, D: Disk, R: Reporter> Book<'a, D, R> {
 
     /// How many bytes the body of an entry may have behind so many bytes of others.
     fn most_body(&self, behind: u64) -> u64
-        ensures { IsMost (self.now.vault.journal.gate + behind) self.now.vault.journal.limit result }
+        ensures { IsMost (self.now.vault.journal.gate + behind) self.now.vault.journal.limit
+            result }
     {
         let room = self.vault.room().saturating_sub(behind);
         room.saturating_sub(BESIDE_BODY).min(u64::from(MAX_BODY))
@@ -246,8 +240,10 @@ impl<'a, D: Disk, R: Reporter> Book<'a, D, R> {
         requires within { number < length self.now.ledger.crashes }
         requires most { most ≤ max_body }
         ensures { MatchResult result
-            (MakesEntry (option_map (λ s. s.1) (row_at number self.now.store)) (id_of self.now.ledger number) (product_at self.now.ledger number) digest.now most)
-            (λ _. MayMakeEntry (option_map (λ s. s.1) (row_at number self.now.store)) (id_of self.now.ledger number) (product_at self.now.ledger number) most) }
+            (MakesEntry (option_map (λ s. s.1) (row_at number self.now.store))
+            (id_of self.now.ledger number) (product_at self.now.ledger number) digest.now most)
+            (λ _. MayMakeEntry (option_map (λ s. s.1) (row_at number self.now.store))
+            (id_of self.now.ledger number) (product_at self.now.ledger number) most) }
     {
         let filed = &self.ledger.crash(number).filed;
         let blank = Blank::new(1);
@@ -295,8 +291,10 @@ fn entry_of_row<L: Ledger>(
     requires parts { blank.parts ≡ L.parts }
     requires some { 0 < blank.parts }
     ensures { MatchResult result
-        (MakesEntry (option_map (λ s. s.1) (row_at place store.now)) filed.now.id filed.now.product digest.now most)
-        (λ _. MayMakeEntry (option_map (λ s. s.1) (row_at place store.now)) filed.now.id filed.now.product most) }
+        (MakesEntry (option_map (λ s. s.1) (row_at place store.now)) filed.now.id filed.now.product
+        digest.now most)
+        (λ _. MayMakeEntry (option_map (λ s. s.1) (row_at place store.now)) filed.now.id
+        filed.now.product most) }
 {
     let mut steps: Steps<L> = Steps::new(blank);
     let Some(row) = store.row(place, &mut steps) else {

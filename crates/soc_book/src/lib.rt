@@ -3,7 +3,10 @@
 
 mod asks;
 mod book;
+mod commands;
+mod counts;
 mod keep;
+mod lookup;
 mod opening;
 mod prepared;
 mod reads;
@@ -11,6 +14,7 @@ mod report;
 mod submission;
 mod submit;
 mod turns;
+mod writes;
 
 pub use book::Book;
 pub use opening::Restored;

@@ -14,11 +14,11 @@ ghost use Rattle.soc_store.specs.Stored.{with_row};
 ghost use Rattle.soc_vault.specs.Openings.{entry_of, OpeningLeaves};
 ghost use Rattle.soc_desk.specs.Basis.{Basis};
 ghost use Rattle.soc_desk.specs.State.{State};
-ghost use Rattle.soc_book.specs.Openings.{IsBasisOf, OpensBook, StopsAtEntry};
+ghost use Rattle.soc_book.specs.Books.{StandsFor, disk_in, lent_to, limits_of, reporter_of};
+ghost use Rattle.soc_book.specs.Openings.{IsSettled, RestoredFor, Restores, StopsAtEntry};
 ghost use Rattle.soc_book.specs.declared.book.Change.TheVariants as Pending;
 ghost use Rattle.soc_book.specs.inner.Pieces.{IsHeldAs, product_at};
 ghost use Rattle.soc_book.specs.inner.Recoveries.{IsRowOf, NoCrashOf, NoHeldOf, NoReportOf, Takes, TakesCrash, TakesId, TakesNot, TakesReport, is_among_own};
-ghost use Rattle.soc_book.specs.inner.Stands.{Stands};
 
 use crate::book::Book;
 use crate::report::{Report, tells, with_product};
@@ -54,17 +54,22 @@ impl Restored {
         reporter: &R,
         limits: Limits,
     ) -> Result<Restored, OpenError>
-        ensures opens { IfOk result (λ restored. (basis : Basis) → IsBasisOf (R.row_of reporter.now) (R.digest_of reporter.now) limits (D.state disk.old).content basis
-            → OpensBook basis (D.state disk.old) (D.state disk.new) (Stands basis limits restored.ledger restored.store None restored.journal (D.state disk.new))) }
-        ensures settled { IfOk result (λ restored. restored.journal.doubt ≡ None) }
-        ensures not_ours { IsErrOf result OpenError.NotOurs → IfSome (D.state disk.old).content (λ bytes. (bytes ≢ []) × ¬ (HasHeader bytes)) }
-        ensures bad_entry { (place : ℕ) → IsErrOf result (OpenError.BadEntry place) → IfSome (D.state disk.old).content (λ bytes. StopsAtEntry bytes place) }
-        ensures any_moment { IfSome (D.state disk.old).content (λ bytes.
-            LeavesOnly (D.state disk.old) (D.state disk.new) (OpeningLeaves (D.state disk.old).images bytes)) }
-        ensures refused { IfErr result (λ error. error ≢ OpenError.StoreFault → IfSome (D.state disk.old).content (λ bytes.
-            bytes ≢ [] → Looks (D.state disk.old) (D.state disk.new))) }
+        ensures opens { IfOk result (λ restored. Restores (R.row_of reporter.now)
+            (R.digest_of reporter.now) limits (D.state disk.old) restored (D.state disk.new)) }
+        ensures settled { IfOk result IsSettled }
+        ensures not_ours { IsErrOf result OpenError.NotOurs → IfSome (D.state disk.old).content
+            (λ bytes. (bytes ≢ []) × ¬ (HasHeader bytes)) }
+        ensures bad_entry { (place : ℕ) → IsErrOf result (OpenError.BadEntry place)
+            → IfSome (D.state disk.old).content (λ bytes. StopsAtEntry bytes place) }
+        ensures any_moment { IfSome (D.state disk.old).content
+            (λ bytes. LeavesOnly (D.state disk.old) (D.state disk.new)
+            (OpeningLeaves (D.state disk.old).images bytes)) }
+        ensures refused { IfErr result (λ error. error ≢ OpenError.StoreFault
+            → IfSome (D.state disk.old).content (λ bytes. bytes ≢ []
+            → Looks (D.state disk.old) (D.state disk.new))) }
         ensures goes_on { GoesOn (D.state disk.old) (D.state disk.new) }
-        ensures cause { IsErrOf result OpenError.StoreFault → DiskFailed (D.state disk.old) (D.state disk.new) }
+        ensures cause { IsErrOf result OpenError.StoreFault
+            → DiskFailed (D.state disk.old) (D.state disk.new) }
     {
         let mut recovery = Recovery {
             own: reporter.digest(),
@@ -91,15 +96,14 @@ impl<'a, D: Disk, R: Reporter> Book<'a, D, R> {
         limits: Limits,
         restored: Restored,
     ) -> Book<'a, D, R>
-        requires { restored.journal.doubt ≡ None }
-        ensures same_disk { result.vault.disk.ghost_name ≡ disk.entry.ghost_name }
-        ensures disk { result.vault.disk.now ≡ disk.old }
-        ensures limits { result.limits ≡ limits }
-        ensures reporter { result.reporter.now ≡ reporter.now }
-        ensures ledger { result.ledger ≡ restored.ledger }
-        ensures store { result.store ≡ restored.store }
-        ensures journal { result.vault.journal ≡ restored.journal }
-        ensures doubt { result.doubt ≡ None }
+        requires { IsSettled restored }
+        ensures same_disk { lent_to result ≡ disk.entry.ghost_name }
+        ensures disk { disk_in result ≡ disk.old }
+        ensures limits { limits_of result ≡ limits }
+        ensures reporter { reporter_of result ≡ reporter.now }
+        ensures stands { (basis : Basis) (state : State)
+            → RestoredFor basis limits restored (D.state disk.old) state
+            → StandsFor basis result state }
     {
         let Restored {
             journal,
@@ -119,8 +123,8 @@ impl<'a, D: Disk, R: Reporter> Book<'a, D, R> {
 
     /// Gives the disk back.
     pub fn into_disk(self) -> &'a mut D
-        ensures same_disk { result.ghost_name ≡ self.entry.vault.disk.ghost_name }
-        ensures disk { result.now ≡ self.entry.vault.disk.now }
+        ensures same_disk { result.ghost_name ≡ lent_to self.entry }
+        ensures disk { result.now ≡ disk_in self.entry }
     {
         let Book { vault, .. } = self;
         vault.into_disk()
@@ -148,7 +152,8 @@ impl Recover for Recovery {
     ghost use Rattle.soc_desk.specs.Opens.{RefusesEntry};
     ghost use Rattle.soc_book.specs.inner.Recoveries.{Recovers};
 
-    ghost was_given = { λ recovery start entries. Recovers recovery.own recovery.ledger recovery.store start entries };
+    ghost was_given = { λ recovery start entries.
+        Recovers recovery.own recovery.ledger recovery.store start entries };
 
     ghost name = { λ recovery. recovery.own };
 
@@ -172,8 +177,10 @@ impl Recovery {
         requires known { IsTrue (has_kind second_version found.now.kind) }
         requires room { 0 < self.old.ledger.room }
         ensures own { self.new.own ≡ self.old.own }
-        ensures ok { OnOk result (Takes self.old.own self.old.ledger self.old.store found.now.place (entry_of found.now) self.new.ledger self.new.store) }
-        ensures bad { IfErr result (λ error. Refuses error (TakesNot self.old.ledger (entry_of found.now))) }
+        ensures ok { OnOk result (Takes self.old.own self.old.ledger self.old.store found.now.place
+            (entry_of found.now) self.new.ledger self.new.store) }
+        ensures bad { IfErr result (λ error.
+            Refuses error (TakesNot self.old.ledger (entry_of found.now))) }
     {
         let body = found.body.as_slice();
         match found.kind {
@@ -189,7 +196,8 @@ impl Recovery {
     fn accept(&mut self, alloc: Global, body: &[u8], place: u64) -> Result<(), RecordError>
         requires { 0 < self.old.ledger.room }
         ensures own { self.new.own ≡ self.old.own }
-        ensures ok { OnOk result (TakesCrash self.old.ledger self.old.store place body.now self.new.ledger self.new.store) }
+        ensures ok { OnOk result (TakesCrash self.old.ledger self.old.store place body.now
+            self.new.ledger self.new.store) }
         ensures bad { IfErr result (λ error. Refuses error (NoCrashOf self.old.ledger body.now)) }
     {
         let raw = RawCrash::decode(alloc, body)?;
@@ -207,7 +215,8 @@ impl Recovery {
     fn ask(&mut self, body: &[u8]) -> Result<(), RecordError>
         requires { 0 < self.old.ledger.room }
         ensures own { self.new.own ≡ self.old.own }
-        ensures ok { OnOk result (TakesId Pending.Ask self.old.ledger self.old.store body.now self.new.ledger self.new.store) }
+        ensures ok { OnOk result (TakesId Pending.Ask self.old.ledger self.old.store body.now
+            self.new.ledger self.new.store) }
         ensures bad { IfErr result (λ error. Refuses error (NoHeldOf self.old.ledger body.now)) }
     {
         let number = self.held(body)?;
@@ -218,7 +227,8 @@ impl Recovery {
     fn withdraw(&mut self, body: &[u8]) -> Result<(), RecordError>
         requires { 0 < self.old.ledger.room }
         ensures own { self.new.own ≡ self.old.own }
-        ensures ok { OnOk result (TakesId Pending.Withdraw self.old.ledger self.old.store body.now self.new.ledger self.new.store) }
+        ensures ok { OnOk result (TakesId Pending.Withdraw self.old.ledger self.old.store body.now
+            self.new.ledger self.new.store) }
         ensures bad { IfErr result (λ error. Refuses error (NoHeldOf self.old.ledger body.now)) }
     {
         let number = self.held(body)?;
@@ -231,7 +241,8 @@ impl Recovery {
     fn report(&mut self, alloc: Global, body: &[u8]) -> Result<(), RecordError>
         requires { 0 < self.old.ledger.room }
         ensures own { self.new.own ≡ self.old.own }
-        ensures ok { OnOk result (TakesReport self.old.own self.old.ledger self.old.store body.now self.new.ledger self.new.store) }
+        ensures ok { OnOk result (TakesReport self.old.own self.old.ledger self.old.store body.now
+            self.new.ledger self.new.store) }
         ensures bad { IfErr result (λ error. Refuses error (NoReportOf self.old.ledger body.now)) }
     {
         let report = Report::read(alloc, body)?;
@@ -289,7 +300,8 @@ fn put_row(
     row: Row,
     counts: bool,
 ) -> Result<(), NoMemory>
-    ensures { OnOk result (store.new ≡ (if counts then with_row (place, row) store.old else store.old)) }
+    ensures { OnOk result (store.new
+        ≡ (if counts then with_row (place, row) store.old else store.old)) }
 {
     if !counts {
         return Ok(());

@@ -11,6 +11,7 @@ use soc_raw::{CrashId, RawCrash};
 use soc_schema::Caller;
 use std::alloc::Global;
 use std::marker::Model;
+use std::snapshot::Snapshot;
 
 /// A command whose entry's text, digest and places are computed, so that its turn at a desk is short.
 ///
@@ -36,7 +37,8 @@ impl Model for Prepared {
 #[derive(Drop)]
 pub(crate) enum Work {
     Submit {
-        raw: RawCrash,
+        /// For contracts alone: the crash itself is let go.
+        raw: Snapshot<RawCrash>,
         submission: Result<Submission, NoMemory>,
     },
     Priority {
@@ -66,6 +68,7 @@ impl Prepared {
         let work = match command {
             Command::Submit { raw } => {
                 let submission = Submission::new(alloc, &raw);
+                let raw = Snapshot::of(&raw);
                 Work::Submit { raw, submission }
             }
             Command::Priority { caller, id } => Work::Priority {

@@ -6,14 +6,12 @@ ghost use Rattle.soc_schema.specs.Permits.{granted_annotations, granted_cells};
 ghost use Rattle.soc_query.specs.Answers.{answer_of};
 ghost use Rattle.soc_store.specs.Stored.{row_at};
 ghost use Rattle.soc_tops.specs.Tops.{tops_of};
-ghost use Rattle.soc_desk.specs.Basis.{Basis};
 ghost use Rattle.soc_desk.specs.Kinds.{IsReplyTo};
-ghost use Rattle.soc_desk.specs.State.{State};
+ghost use Rattle.soc_book.specs.Books.{SameSetting, Serves, ServesByRows};
 ghost use Rattle.soc_book.specs.inner.Books.{reply_of};
-ghost use Rattle.soc_book.specs.inner.Does.{Does};
-ghost use Rattle.soc_book.specs.inner.Stands.{Stands};
 
-use crate::book::{Book, check, reply_of};
+use crate::book::Book;
+use crate::commands::{check, reply_of};
 use soc_base::{Bytes, NoMemory, Text, Texts};
 use soc_desk::{Command, Refusal, Reply};
 use soc_edge::{Disk, Steps};
@@ -33,52 +31,36 @@ use std::sync::ledger::{Blank, Ledger};
 impl<'a, D: Disk, R: Reporter> Book<'a, D, R> {
     /// The granted annotations of a crash.
     pub fn raw(&mut self, caller: &Caller, id: CrashId) -> Reply
-        ensures same_disk { self.new.vault.disk.ghost_name ≡ self.old.vault.disk.ghost_name }
-        ensures limits { self.new.limits ≡ self.old.limits }
-        ensures reporter { self.new.reporter.now ≡ self.old.reporter.now }
+        ensures setting { SameSetting self.old self.new }
         ensures kind { IsReplyTo (Command.Raw caller.now id) result }
-        ensures does { (basis : Basis) (state : State) → Stands basis self.old.limits self.old.ledger self.old.store self.old.doubt self.old.vault.journal (D.state self.old.vault.disk.now) state
-            → (after : State) × Stands basis self.new.limits self.new.ledger self.new.store self.new.doubt self.new.vault.journal (D.state self.new.vault.disk.now) after
-            × Does basis state (D.state self.old.vault.disk.now) (Command.Raw caller.now id) result after (D.state self.new.vault.disk.now) }
+        ensures does { Serves self.old (Command.Raw caller.now id) result self.new }
     {
         reply_of(self.annotations(caller, id))
     }
 
     /// The granted fields of a crash's report.
     pub fn processed(&mut self, caller: &Caller, id: CrashId) -> Reply
-        ensures same_disk { self.new.vault.disk.ghost_name ≡ self.old.vault.disk.ghost_name }
-        ensures limits { self.new.limits ≡ self.old.limits }
-        ensures reporter { self.new.reporter.now ≡ self.old.reporter.now }
+        ensures setting { SameSetting self.old self.new }
         ensures kind { IsReplyTo (Command.Processed caller.now id) result }
-        ensures does { (basis : Basis) (state : State) → Stands basis self.old.limits self.old.ledger self.old.store self.old.doubt self.old.vault.journal (D.state self.old.vault.disk.now) state
-            → (after : State) × Stands basis self.new.limits self.new.ledger self.new.store self.new.doubt self.new.vault.journal (D.state self.new.vault.disk.now) after
-            × Does basis state (D.state self.old.vault.disk.now) (Command.Processed caller.now id) result after (D.state self.new.vault.disk.now) }
+        ensures does { Serves self.old (Command.Processed caller.now id) result self.new }
     {
         reply_of(self.report(caller, id))
     }
 
     /// A dump's bytes.
     pub fn dump(&mut self, caller: &Caller, id: CrashId, name: &str) -> Reply
-        ensures same_disk { self.new.vault.disk.ghost_name ≡ self.old.vault.disk.ghost_name }
-        ensures limits { self.new.limits ≡ self.old.limits }
-        ensures reporter { self.new.reporter.now ≡ self.old.reporter.now }
+        ensures setting { SameSetting self.old self.new }
         ensures kind { IsReplyTo (Command.Dump caller.now id name.now) result }
-        ensures does { (basis : Basis) (state : State) → Stands basis self.old.limits self.old.ledger self.old.store self.old.doubt self.old.vault.journal (D.state self.old.vault.disk.now) state
-            → (after : State) × Stands basis self.new.limits self.new.ledger self.new.store self.new.doubt self.new.vault.journal (D.state self.new.vault.disk.now) after
-            × Does basis state (D.state self.old.vault.disk.now) (Command.Dump caller.now id name.now) result after (D.state self.new.vault.disk.now) }
+        ensures does { Serves self.old (Command.Dump caller.now id name.now) result self.new }
     {
         reply_of(self.dump_bytes(caller, id, name))
     }
 
     /// The answer to a query.
     pub fn search(&mut self, query: &Query) -> Reply
-        ensures same_disk { self.new.vault.disk.ghost_name ≡ self.old.vault.disk.ghost_name }
-        ensures limits { self.new.limits ≡ self.old.limits }
-        ensures reporter { self.new.reporter.now ≡ self.old.reporter.now }
+        ensures setting { SameSetting self.old self.new }
         ensures kind { IsReplyTo (Command.Search query.now) result }
-        ensures does { (basis : Basis) (state : State) → basis.row_of ≡ R.row_of self.old.reporter.now → Stands basis self.old.limits self.old.ledger self.old.store self.old.doubt self.old.vault.journal (D.state self.old.vault.disk.now) state
-            → (after : State) × Stands basis self.new.limits self.new.ledger self.new.store self.new.doubt self.new.vault.journal (D.state self.new.vault.disk.now) after
-            × Does basis state (D.state self.old.vault.disk.now) (Command.Search query.now) result after (D.state self.new.vault.disk.now) }
+        ensures does { ServesByRows self.old (Command.Search query.now) result self.new }
     {
         let _caller = query.caller();
         answers_by_what_is_seen(query);
@@ -91,13 +73,9 @@ impl<'a, D: Disk, R: Reporter> Book<'a, D, R> {
 
     /// The top crashers of a query.
     pub fn tops(&mut self, query: &TopsQuery) -> Reply
-        ensures same_disk { self.new.vault.disk.ghost_name ≡ self.old.vault.disk.ghost_name }
-        ensures limits { self.new.limits ≡ self.old.limits }
-        ensures reporter { self.new.reporter.now ≡ self.old.reporter.now }
+        ensures setting { SameSetting self.old self.new }
         ensures kind { IsReplyTo (Command.Tops query.now) result }
-        ensures does { (basis : Basis) (state : State) → basis.row_of ≡ R.row_of self.old.reporter.now → Stands basis self.old.limits self.old.ledger self.old.store self.old.doubt self.old.vault.journal (D.state self.old.vault.disk.now) state
-            → (after : State) × Stands basis self.new.limits self.new.ledger self.new.store self.new.doubt self.new.vault.journal (D.state self.new.vault.disk.now) after
-            × Does basis state (D.state self.old.vault.disk.now) (Command.Tops query.now) result after (D.state self.new.vault.disk.now) }
+        ensures does { ServesByRows self.old (Command.Tops query.now) result self.new }
     {
         tops_by_what_is_seen(query);
         tops_in_any_order(query);
@@ -108,14 +86,9 @@ impl<'a, D: Disk, R: Reporter> Book<'a, D, R> {
     }
 
     fn annotations(&mut self, caller: &Caller, id: CrashId) -> Result<Reply, Refusal>
-        ensures same_disk { self.new.vault.disk.ghost_name ≡ self.old.vault.disk.ghost_name }
-        ensures limits { self.new.limits ≡ self.old.limits }
-        ensures reporter { self.new.reporter.now ≡ self.old.reporter.now }
+        ensures setting { SameSetting self.old self.new }
         ensures kind { IsReplyTo (Command.Raw caller.now id) (reply_of result) }
-        ensures stands { (basis : Basis) (state : State) → Stands basis self.old.limits self.old.ledger self.old.store self.old.doubt self.old.vault.journal (D.state self.old.vault.disk.now) state
-            → Stands basis self.new.limits self.new.ledger self.new.store self.new.doubt self.new.vault.journal (D.state self.new.vault.disk.now) state }
-        ensures does { (basis : Basis) (state : State) → Stands basis self.old.limits self.old.ledger self.old.store self.old.doubt self.old.vault.journal (D.state self.old.vault.disk.now) state
-            → Does basis state (D.state self.old.vault.disk.now) (Command.Raw caller.now id) (reply_of result) state (D.state self.new.vault.disk.now) }
+        ensures does { Serves self.old (Command.Raw caller.now id) (reply_of result) self.new }
     {
         let number = self.seen(caller, id)?;
         let raw = self.read(number)?;
@@ -124,14 +97,10 @@ impl<'a, D: Disk, R: Reporter> Book<'a, D, R> {
     }
 
     fn report(&mut self, caller: &Caller, id: CrashId) -> Result<Reply, Refusal>
-        ensures same_disk { self.new.vault.disk.ghost_name ≡ self.old.vault.disk.ghost_name }
-        ensures limits { self.new.limits ≡ self.old.limits }
-        ensures reporter { self.new.reporter.now ≡ self.old.reporter.now }
+        ensures setting { SameSetting self.old self.new }
         ensures kind { IsReplyTo (Command.Processed caller.now id) (reply_of result) }
-        ensures stands { (basis : Basis) (state : State) → Stands basis self.old.limits self.old.ledger self.old.store self.old.doubt self.old.vault.journal (D.state self.old.vault.disk.now) state
-            → Stands basis self.new.limits self.new.ledger self.new.store self.new.doubt self.new.vault.journal (D.state self.new.vault.disk.now) state }
-        ensures does { (basis : Basis) (state : State) → Stands basis self.old.limits self.old.ledger self.old.store self.old.doubt self.old.vault.journal (D.state self.old.vault.disk.now) state
-            → Does basis state (D.state self.old.vault.disk.now) (Command.Processed caller.now id) (reply_of result) state (D.state self.new.vault.disk.now) }
+        ensures does { Serves self.old (Command.Processed caller.now id)
+            (reply_of result) self.new }
     {
         let number = self.seen(caller, id)?;
         match row_shown::<Brand>(self.alloc, &self.store, number, caller, Blank::new(1))? {
@@ -141,14 +110,10 @@ impl<'a, D: Disk, R: Reporter> Book<'a, D, R> {
     }
 
     fn dump_bytes(&mut self, caller: &Caller, id: CrashId, name: &str) -> Result<Reply, Refusal>
-        ensures same_disk { self.new.vault.disk.ghost_name ≡ self.old.vault.disk.ghost_name }
-        ensures limits { self.new.limits ≡ self.old.limits }
-        ensures reporter { self.new.reporter.now ≡ self.old.reporter.now }
+        ensures setting { SameSetting self.old self.new }
         ensures kind { IsReplyTo (Command.Dump caller.now id name.now) (reply_of result) }
-        ensures stands { (basis : Basis) (state : State) → Stands basis self.old.limits self.old.ledger self.old.store self.old.doubt self.old.vault.journal (D.state self.old.vault.disk.now) state
-            → Stands basis self.new.limits self.new.ledger self.new.store self.new.doubt self.new.vault.journal (D.state self.new.vault.disk.now) state }
-        ensures does { (basis : Basis) (state : State) → Stands basis self.old.limits self.old.ledger self.old.store self.old.doubt self.old.vault.journal (D.state self.old.vault.disk.now) state
-            → Does basis state (D.state self.old.vault.disk.now) (Command.Dump caller.now id name.now) (reply_of result) state (D.state self.new.vault.disk.now) }
+        ensures does { Serves self.old (Command.Dump caller.now id name.now)
+            (reply_of result) self.new }
     {
         check(caller, Permission::ViewRawdump)?;
         let number = self.seen(caller, id)?;
@@ -203,7 +168,8 @@ fn row_shown<L: Ledger>(
     requires name { blank.name ≡ L.name }
     requires parts { blank.parts ≡ L.parts }
     requires some { 0 < blank.parts }
-    ensures { IfOk result (λ shown. shown ≡ option_map (λ stored. granted_cells caller.now stored.1) (row_at place store.now)) }
+    ensures { IfOk result (λ shown. shown
+        ≡ option_map (λ stored. granted_cells caller.now stored.1) (row_at place store.now)) }
 {
     let mut steps: Steps<L> = Steps::new(blank);
     match store.row(place, &mut steps) {

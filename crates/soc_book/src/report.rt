@@ -35,8 +35,10 @@ impl<'b> Report<'b> {
     /// The report of an entry's body.
     pub(crate) fn read(alloc: Global, body: &'b [u8]) -> Result<Report<'b>, RecordError>
         ensures ok { IfOk result (λ report. IsReport (made_of report) body.now) }
-        ensures only { IfOk result (λ report. (made : KeptReport) → IsReport made body.now → made ≡ made_of report) }
-        ensures bad { IfErr result (λ error. Refuses error ((made : KeptReport) → ¬ (IsReport made body.now))) }
+        ensures only { IfOk result (λ report. (made : KeptReport) → IsReport made body.now
+            → made ≡ made_of report) }
+        ensures bad { IfErr result (λ error.
+            Refuses error ((made : KeptReport) → ¬ (IsReport made body.now))) }
     {
         if body.len() < HEAD {
             return Err(RecordError::BadRecord);
@@ -62,7 +64,8 @@ pub(crate) fn report_text(
 ) -> Result<EntryText, NoMemory>
     requires short { AllByRecursion (λ c. IsShort c.value) row.now }
     requires fits { HEAD + length (row_text row.now) ≤ max_body }
-    ensures entry { IfOk result (λ entry. entry ≡ entry_of (kept_report record { id = id; digest = digest.now; row = row.now })) }
+    ensures entry { IfOk result (λ entry. entry
+        ≡ entry_of (kept_report record { id = id; digest = digest.now; row = row.now })) }
     ensures sized { IfOk result (λ entry. length entry.body ≡ HEAD + length (row_text row.now)) }
     ensures has_text { OnOk result (HasText row.now (row_text row.now)) }
 {
@@ -114,7 +117,8 @@ fn has_product(row: &Row, product: &Option<SharedText>) -> bool
 
 /// Whether a row has this text, or lacks the field where there is none.
 fn has_text(row: &Row, field: Field, text: Option<&str>) -> bool
-    ensures { IsTrue result ↔ (value_of row.now field ≡ option_map (λ text. TextValue text.now) text.entry) }
+    ensures { IsTrue result ↔ (value_of row.now field
+        ≡ option_map (λ text. TextValue text.now) text.entry) }
 {
     match (row.get(field), text) {
         (Some(Value::Text(value)), Some(text)) => value.as_str() == text,

@@ -48,7 +48,8 @@ impl NewCrash {
     pub(crate) fn filed(self, place: u64, store: &Store) -> Filed
         ensures id { result.id ≡ self.id }
         ensures place { result.place ≡ place }
-        ensures content { place + head_size + self.content < 2 ^ 64 → result.content ≡ place + (head_size + self.content) }
+        ensures content { place + head_size + self.content < 2 ^ 64
+            → result.content ≡ place + (head_size + self.content) }
         ensures product { result.product ≡ self.product }
         ensures digest { result.digest ≡ self.digest }
     {

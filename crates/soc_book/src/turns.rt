@@ -12,13 +12,15 @@ ghost use Rattle.soc_desk.specs.Desk.{IsOfLog, with_done};
 ghost use Rattle.soc_desk.specs.Kinds.{IsNoMemory, IsReplyTo, RefusesTurn};
 ghost use Rattle.soc_desk.specs.Log.{events, raw_of};
 ghost use Rattle.soc_desk.specs.State.{State};
+ghost use Rattle.soc_book.specs.Books.{SameSetting, Serves, ServesByRows, ServesIf, StandsFor, disk_in, disk_of, reporter_of};
 ghost use Rattle.soc_book.specs.inner.Books.{reply_of};
-ghost use Rattle.soc_book.specs.inner.Does.{Does};
-ghost use Rattle.soc_book.specs.inner.Stands.{Stands};
+ghost use Rattle.soc_book.specs.inner.Steps.{Becomes};
 ghost use Rattle.soc_book.specs.inner.Turns.{TurnsTo};
 
-use crate::book::{Book, check, make_room, reply_of};
+use crate::book::Book;
+use crate::commands::{check, reply_of};
 use crate::report::with_product;
+use crate::writes::make_room;
 use soc_desk::{Command, Refusal, Reply};
 use soc_edge::Disk;
 use soc_raw::CrashId;
@@ -27,13 +29,11 @@ use soc_schema::{Caller, Permission, Processed, Reporter, Row};
 impl<'a, D: Disk, R: Reporter> Book<'a, D, R> {
     /// Processes the first crash that is due.
     pub fn turn(&mut self) -> Reply
-        ensures same_disk { self.new.vault.disk.ghost_name ≡ self.old.vault.disk.ghost_name }
-        ensures limits { self.new.limits ≡ self.old.limits }
-        ensures reporter { self.new.reporter.now ≡ self.old.reporter.now }
-        ensures kind { (caller : Caller) → without caller Permission.Operate ≡ None → IsReplyTo (Command.Turn caller) result }
-        ensures does { (basis : Basis) (state : State) (caller : Caller) → basis.row_of ≡ R.row_of self.old.reporter.now → without caller Permission.Operate ≡ None → Stands basis self.old.limits self.old.ledger self.old.store self.old.doubt self.old.vault.journal (D.state self.old.vault.disk.now) state
-            → (after : State) × Stands basis self.new.limits self.new.ledger self.new.store self.new.doubt self.new.vault.journal (D.state self.new.vault.disk.now) after
-            × Does basis state (D.state self.old.vault.disk.now) (Command.Turn caller) result after (D.state self.new.vault.disk.now) }
+        ensures setting { SameSetting self.old self.new }
+        ensures kind { (caller : Caller) → without caller Permission.Operate ≡ None
+            → IsReplyTo (Command.Turn caller) result }
+        ensures does { (caller : Caller) → without caller Permission.Operate ≡ None
+            → ServesByRows self.old (Command.Turn caller) result self.new }
     {
         match self.process_first() {
             Ok(processed) => Reply::Turned(processed),
@@ -43,13 +43,11 @@ impl<'a, D: Disk, R: Reporter> Book<'a, D, R> {
 
     /// Processes each crash that is due. The turns that were made before a refusal stay.
     pub fn drain(&mut self) -> Reply
-        ensures same_disk { self.new.vault.disk.ghost_name ≡ self.old.vault.disk.ghost_name }
-        ensures limits { self.new.limits ≡ self.old.limits }
-        ensures reporter { self.new.reporter.now ≡ self.old.reporter.now }
-        ensures kind { (caller : Caller) → without caller Permission.Operate ≡ None → IsReplyTo (Command.Drain caller) result }
-        ensures does { (basis : Basis) (state : State) (caller : Caller) → basis.row_of ≡ R.row_of self.old.reporter.now → without caller Permission.Operate ≡ None → Stands basis self.old.limits self.old.ledger self.old.store self.old.doubt self.old.vault.journal (D.state self.old.vault.disk.now) state
-            → (after : State) × Stands basis self.new.limits self.new.ledger self.new.store self.new.doubt self.new.vault.journal (D.state self.new.vault.disk.now) after
-            × Does basis state (D.state self.old.vault.disk.now) (Command.Drain caller) result after (D.state self.new.vault.disk.now) }
+        ensures setting { SameSetting self.old self.new }
+        ensures kind { (caller : Caller) → without caller Permission.Operate ≡ None
+            → IsReplyTo (Command.Drain caller) result }
+        ensures does { (caller : Caller) → without caller Permission.Operate ≡ None
+            → ServesByRows self.old (Command.Drain caller) result self.new }
     {
         let due = self.ledger.due();
         for turns in 0..due {
@@ -62,26 +60,21 @@ impl<'a, D: Disk, R: Reporter> Book<'a, D, R> {
 
     /// Hands out the raw crash of a due crash.
     pub fn fetch(&mut self, id: CrashId) -> Reply
-        ensures same_disk { self.new.vault.disk.ghost_name ≡ self.old.vault.disk.ghost_name }
-        ensures limits { self.new.limits ≡ self.old.limits }
-        ensures reporter { self.new.reporter.now ≡ self.old.reporter.now }
+        ensures setting { SameSetting self.old self.new }
         ensures kind { IsReplyTo (Command.Fetch id) result }
-        ensures does { (basis : Basis) (state : State) → Stands basis self.old.limits self.old.ledger self.old.store self.old.doubt self.old.vault.journal (D.state self.old.vault.disk.now) state
-            → (after : State) × Stands basis self.new.limits self.new.ledger self.new.store self.new.doubt self.new.vault.journal (D.state self.new.vault.disk.now) after
-            × Does basis state (D.state self.old.vault.disk.now) (Command.Fetch id) result after (D.state self.new.vault.disk.now) }
+        ensures does { Serves self.old (Command.Fetch id) result self.new }
     {
         reply_of(self.raw_if_due(id))
     }
 
     /// Gives a due crash the row that the book's own reporter made of its raw crash.
     pub fn finish(&mut self, processed: Processed) -> Reply
-        ensures same_disk { self.new.vault.disk.ghost_name ≡ self.old.vault.disk.ghost_name }
-        ensures limits { self.new.limits ≡ self.old.limits }
-        ensures reporter { self.new.reporter.now ≡ self.old.reporter.now }
+        ensures setting { SameSetting self.old self.new }
         ensures kind { IsReplyTo (Command.Finish processed) result }
-        ensures does { (basis : Basis) (state : State) → (IsTrue basis.is_told → IsTrue (is_due (events basis state.log) processed.crash.id) → IsOfLog basis state.log processed) → Stands basis self.old.limits self.old.ledger self.old.store self.old.doubt self.old.vault.journal (D.state self.old.vault.disk.now) state
-            → (after : State) × Stands basis self.new.limits self.new.ledger self.new.store self.new.doubt self.new.vault.journal (D.state self.new.vault.disk.now) after
-            × Does basis state (D.state self.old.vault.disk.now) (Command.Finish processed) result after (D.state self.new.vault.disk.now) }
+        ensures does { ServesIf (λ basis state. IsTrue basis.is_told
+            → IsTrue (is_due (events basis state.log) processed.crash.id)
+            → IsOfLog basis state.log processed)
+            self.old (Command.Finish processed) result self.new }
     {
         let id = processed.raw().id;
         let Some(number) = self.held(id) else {
@@ -98,13 +91,9 @@ impl<'a, D: Disk, R: Reporter> Book<'a, D, R> {
 
     /// A turn, where the caller may operate the service.
     pub(crate) fn turn_by(&mut self, caller: &Caller) -> Reply
-        ensures same_disk { self.new.vault.disk.ghost_name ≡ self.old.vault.disk.ghost_name }
-        ensures limits { self.new.limits ≡ self.old.limits }
-        ensures reporter { self.new.reporter.now ≡ self.old.reporter.now }
+        ensures setting { SameSetting self.old self.new }
         ensures kind { IsReplyTo (Command.Turn caller.now) result }
-        ensures does { (basis : Basis) (state : State) → basis.row_of ≡ R.row_of self.old.reporter.now → Stands basis self.old.limits self.old.ledger self.old.store self.old.doubt self.old.vault.journal (D.state self.old.vault.disk.now) state
-            → (after : State) × Stands basis self.new.limits self.new.ledger self.new.store self.new.doubt self.new.vault.journal (D.state self.new.vault.disk.now) after
-            × Does basis state (D.state self.old.vault.disk.now) (Command.Turn caller.now) result after (D.state self.new.vault.disk.now) }
+        ensures does { ServesByRows self.old (Command.Turn caller.now) result self.new }
     {
         match check(caller, Permission::Operate) {
             Ok(()) => self.turn(),
@@ -114,13 +103,9 @@ impl<'a, D: Disk, R: Reporter> Book<'a, D, R> {
 
     /// A drain, where the caller may operate the service.
     pub(crate) fn drain_by(&mut self, caller: &Caller) -> Reply
-        ensures same_disk { self.new.vault.disk.ghost_name ≡ self.old.vault.disk.ghost_name }
-        ensures limits { self.new.limits ≡ self.old.limits }
-        ensures reporter { self.new.reporter.now ≡ self.old.reporter.now }
+        ensures setting { SameSetting self.old self.new }
         ensures kind { IsReplyTo (Command.Drain caller.now) result }
-        ensures does { (basis : Basis) (state : State) → basis.row_of ≡ R.row_of self.old.reporter.now → Stands basis self.old.limits self.old.ledger self.old.store self.old.doubt self.old.vault.journal (D.state self.old.vault.disk.now) state
-            → (after : State) × Stands basis self.new.limits self.new.ledger self.new.store self.new.doubt self.new.vault.journal (D.state self.new.vault.disk.now) after
-            × Does basis state (D.state self.old.vault.disk.now) (Command.Drain caller.now) result after (D.state self.new.vault.disk.now) }
+        ensures does { ServesByRows self.old (Command.Drain caller.now) result self.new }
     {
         match check(caller, Permission::Operate) {
             Ok(()) => self.drain(),
@@ -130,25 +115,17 @@ impl<'a, D: Disk, R: Reporter> Book<'a, D, R> {
 
     /// Stops the service, where the caller may operate it.
     pub(crate) fn stop_by(&mut self, caller: &Caller) -> Reply
-        ensures same_disk { self.new.vault.disk.ghost_name ≡ self.old.vault.disk.ghost_name }
-        ensures limits { self.new.limits ≡ self.old.limits }
-        ensures reporter { self.new.reporter.now ≡ self.old.reporter.now }
+        ensures setting { SameSetting self.old self.new }
         ensures kind { IsReplyTo (Command.Stop caller.now) result }
-        ensures does { (basis : Basis) (state : State) → Stands basis self.old.limits self.old.ledger self.old.store self.old.doubt self.old.vault.journal (D.state self.old.vault.disk.now) state
-            → (after : State) × Stands basis self.new.limits self.new.ledger self.new.store self.new.doubt self.new.vault.journal (D.state self.new.vault.disk.now) after
-            × Does basis state (D.state self.old.vault.disk.now) (Command.Stop caller.now) result after (D.state self.new.vault.disk.now) }
+        ensures does { Serves self.old (Command.Stop caller.now) result self.new }
     {
         reply_of(self.stop(caller))
     }
 
     fn stop(&mut self, caller: &Caller) -> Result<Reply, Refusal>
-        ensures same_disk { self.new.vault.disk.ghost_name ≡ self.old.vault.disk.ghost_name }
-        ensures limits { self.new.limits ≡ self.old.limits }
-        ensures reporter { self.new.reporter.now ≡ self.old.reporter.now }
+        ensures setting { SameSetting self.old self.new }
         ensures kind { IsReplyTo (Command.Stop caller.now) (reply_of result) }
-        ensures does { (basis : Basis) (state : State) → Stands basis self.old.limits self.old.ledger self.old.store self.old.doubt self.old.vault.journal (D.state self.old.vault.disk.now) state
-            → (after : State) × Stands basis self.new.limits self.new.ledger self.new.store self.new.doubt self.new.vault.journal (D.state self.new.vault.disk.now) after
-            × Does basis state (D.state self.old.vault.disk.now) (Command.Stop caller.now) (reply_of result) after (D.state self.new.vault.disk.now) }
+        ensures does { Serves self.old (Command.Stop caller.now) (reply_of result) self.new }
     {
         check(caller, Permission::Operate)?;
         if self.ledger.is_stopped() {
@@ -160,14 +137,9 @@ impl<'a, D: Disk, R: Reporter> Book<'a, D, R> {
     }
 
     fn raw_if_due(&mut self, id: CrashId) -> Result<Reply, Refusal>
-        ensures same_disk { self.new.vault.disk.ghost_name ≡ self.old.vault.disk.ghost_name }
-        ensures limits { self.new.limits ≡ self.old.limits }
-        ensures reporter { self.new.reporter.now ≡ self.old.reporter.now }
+        ensures setting { SameSetting self.old self.new }
         ensures kind { IsReplyTo (Command.Fetch id) (reply_of result) }
-        ensures stands { (basis : Basis) (state : State) → Stands basis self.old.limits self.old.ledger self.old.store self.old.doubt self.old.vault.journal (D.state self.old.vault.disk.now) state
-            → Stands basis self.new.limits self.new.ledger self.new.store self.new.doubt self.new.vault.journal (D.state self.new.vault.disk.now) state }
-        ensures does { (basis : Basis) (state : State) → Stands basis self.old.limits self.old.ledger self.old.store self.old.doubt self.old.vault.journal (D.state self.old.vault.disk.now) state
-            → Does basis state (D.state self.old.vault.disk.now) (Command.Fetch id) (reply_of result) state (D.state self.new.vault.disk.now) }
+        ensures does { Serves self.old (Command.Fetch id) (reply_of result) self.new }
     {
         let Some(number) = self.held(id) else {
             return Err(Refusal::NoCrash);
@@ -181,14 +153,14 @@ impl<'a, D: Disk, R: Reporter> Book<'a, D, R> {
 
     /// Gives the first due crash its row, where one is due.
     fn process_first(&mut self) -> Result<Option<CrashId>, Refusal>
-        ensures same_disk { self.new.vault.disk.ghost_name ≡ self.old.vault.disk.ghost_name }
-        ensures limits { self.new.limits ≡ self.old.limits }
-        ensures reporter { self.new.reporter.now ≡ self.old.reporter.now }
+        ensures setting { SameSetting self.old self.new }
         ensures refusal { IfErr result RefusesTurn }
-        ensures looks { Looks (D.state self.old.vault.disk.now) (D.state self.new.vault.disk.now) }
-        ensures turns { (basis : Basis) (state : State) → basis.row_of ≡ R.row_of self.old.reporter.now → Stands basis self.old.limits self.old.ledger self.old.store self.old.doubt self.old.vault.journal (D.state self.old.vault.disk.now) state
-            → (after : State) × Stands basis self.new.limits self.new.ledger self.new.store self.new.doubt self.new.vault.journal (D.state self.new.vault.disk.now) after
-            × TurnsTo basis state result after (D.state self.old.vault.disk.now) (D.state self.new.vault.disk.now) }
+        ensures looks { Looks (disk_of self.old) (disk_of self.new) }
+        ensures turns { (basis : Basis) (state : State)
+            → basis.row_of ≡ R.row_of (reporter_of self.old)
+            → StandsFor basis self.old state
+            → Becomes basis self.new (λ later. TurnsTo basis state result later
+            (disk_of self.old) (disk_of self.new)) }
     {
         if self.ledger.due() == 0 {
             return Ok(None);
@@ -204,14 +176,14 @@ impl<'a, D: Disk, R: Reporter> Book<'a, D, R> {
     fn put_row(&mut self, number: u32, row: Row) -> Result<(), Refusal>
         requires within { number < length self.old.ledger.crashes }
         requires due { IsTrue (is_due self.old.ledger.log (id_of self.old.ledger number)) }
-        ensures same_disk { self.new.vault.disk.ghost_name ≡ self.old.vault.disk.ghost_name }
-        ensures limits { self.new.limits ≡ self.old.limits }
-        ensures reporter { self.new.reporter.now ≡ self.old.reporter.now }
+        ensures setting { SameSetting self.old self.new }
         ensures refusal { IfErr result IsNoMemory }
-        ensures disk { self.new.vault.disk.now ≡ self.old.vault.disk.now }
-        ensures puts { (basis : Basis) (state : State) → (IsTrue basis.is_told → option_map basis.row_of (raw_of state.log (id_of self.old.ledger number)) ≡ Some row) → Stands basis self.old.limits self.old.ledger self.old.store self.old.doubt self.old.vault.journal (D.state self.old.vault.disk.now) state
-            → MatchResult result (λ _. Stands basis self.new.limits self.new.ledger self.new.store self.new.doubt self.new.vault.journal (D.state self.new.vault.disk.now) (with_done state (id_of self.old.ledger number ∷ [])))
-            (λ refusal. (refusal ≡ Refusal.NoMemory) × Stands basis self.new.limits self.new.ledger self.new.store self.new.doubt self.new.vault.journal (D.state self.new.vault.disk.now) state) }
+        ensures disk { disk_in self.new ≡ disk_in self.old }
+        ensures puts { (basis : Basis) (state : State) → (IsTrue basis.is_told
+            → option_map basis.row_of (raw_of state.log (id_of self.old.ledger number)) ≡ Some row)
+            → StandsFor basis self.old state → MatchResult result
+            (λ _. StandsFor basis self.new (with_done state (id_of self.old.ledger number ∷ [])))
+            (λ refusal. (refusal ≡ Refusal.NoMemory) × StandsFor basis self.new state) }
     {
         make_room(&mut self.ledger)?;
         let row = with_product(row, &self.ledger.crash(number).filed.product);

@@ -59,10 +59,15 @@ fn opened<'a, D: Disk, R: Reporter>(
     Ok(Book::over(alloc, disk, reporter, limits, restored))
 }
 
+/// The answer to a submission.
+fn submitted<D: Disk, R: Reporter>(book: &mut Book<'_, D, R>, raw: RawCrash) -> Reply {
+    book.ask(Command::Submit { raw }).reply
+}
+
 /// Keeps the crash of a record on a disk.
 fn put(alloc: Global, disk: &mut MemDisk, which: Which) -> Result<(), Fail> {
     let mut book = opened(alloc, disk, &Bare, LIMITS)?;
-    let _stored = book.submit(raw(alloc, which)?);
+    let _stored = submitted(&mut book, raw(alloc, which)?);
     Ok(())
 }
 

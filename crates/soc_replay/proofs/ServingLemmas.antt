@@ -326,15 +326,3 @@ from_streams told asks rules first ahead after window end same serves = subst (�
 
 pub moved_disk : {D : Type 0} (P : D → Type 0) {disk disk' : D} → disk' ≡ disk → P disk → P disk'
 moved_disk P same holds = subst P (sym same) holds
-
-pub moved : {Limits Ledger Rows Pending Journal Disk : Type 0} (P : Limits → Ledger → Rows → Pending → Journal → Disk → Type 0)
-    {limits limits' : Limits} {ledger ledger' : Ledger} {rows rows' : Rows} {pending pending' : Pending} {journal journal' : Journal} {disk disk' : Disk}
-    → limits' ≡ limits → ledger' ≡ ledger → rows' ≡ rows → pending' ≡ pending → journal' ≡ journal → disk' ≡ disk
-    → P limits ledger rows pending journal disk → P limits' ledger' rows' pending' journal' disk'
-moved P {limits} {limits'} {ledger} {ledger'} {rows} {rows'} {pending} {pending'} {journal} {journal'} {disk} {disk'} a b c d e f holds =
-    subst (λ x. P limits' ledger' rows' pending' journal' x) (sym f)
-    (subst (λ x. P limits' ledger' rows' pending' x disk) (sym e)
-    (subst (λ x. P limits' ledger' rows' x journal disk) (sym d)
-    (subst (λ x. P limits' ledger' x pending journal disk) (sym c)
-    (subst (λ x. P limits' x rows pending journal disk) (sym b)
-    (subst (λ x. P x ledger rows pending journal disk) (sym a) holds)))))

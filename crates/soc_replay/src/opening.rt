@@ -4,9 +4,7 @@ ghost use Rattle.soc_edge.specs.Ahead.{Outlook};
 ghost use Rattle.soc_edge.specs.Disk.{DiskFailed, GoesOn, LeavesOnly};
 ghost use Rattle.soc_edge.specs.Told.{OnlyWrites, WriteFailed};
 ghost use Rattle.soc_vault.specs.Openings.{OpeningLeaves};
-ghost use Rattle.soc_desk.specs.Basis.{Basis};
-ghost use Rattle.soc_book.specs.Openings.{IsBasisOf, OpensBook};
-ghost use Rattle.soc_book.specs.inner.Stands.{Stands};
+ghost use Rattle.soc_book.specs.Openings.{IsSettled, Restores};
 ghost use Rattle.soc_replay.specs.Ends.{status_of};
 ghost use Rattle.soc_replay.specs.Opening.{OpensNot};
 ghost use Rattle.soc_edge.specs.World.{surroundings};
@@ -30,13 +28,9 @@ pub fn open<R: Reporter, K: Sink, D: Disk>(
     output: &mut K,
     disk: &mut D,
 ) -> Result<Restored, RunEnd>
-    ensures opens { IfOk result (λ restored. (basis : Basis)
-        → IsBasisOf (R.row_of reporter.now) (R.digest_of reporter.now) limits
-        (D.state disk.old).content basis
-        → OpensBook basis (D.state disk.old) (D.state disk.new)
-        (Stands basis limits restored.ledger restored.store None restored.journal
-        (D.state disk.new))) }
-    ensures settled { IfOk result (λ restored. restored.journal.doubt ≡ None) }
+    ensures opens { IfOk result (λ restored. Restores (R.row_of reporter.now)
+        (R.digest_of reporter.now) limits (D.state disk.old) restored (D.state disk.new)) }
+    ensures settled { IfOk result IsSettled }
     ensures output { IfOk result (λ _. output.new ≡ output.old) }
     ensures refused { IfErr result (λ end. (outlook : Outlook)
         → OpensNot (surroundings (K.told output.old) (D.state disk.old) outlook)

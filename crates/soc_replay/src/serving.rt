@@ -5,7 +5,7 @@ ghost use Rattle.soc_edge.specs.Disk.{DiskFailed, GoesOn};
 ghost use Rattle.soc_edge.specs.Told.{HasCause, NeverFall};
 ghost use Rattle.soc_desk.specs.Basis.{Basis};
 ghost use Rattle.soc_desk.specs.State.{State};
-ghost use Rattle.soc_book.specs.inner.Stands.{Stands};
+ghost use Rattle.soc_book.specs.Books.{StandsFor, disk_of, lent_to, reporter_of};
 ghost use Rattle.soc_replay.specs.Ends.{status_of};
 ghost use Rattle.soc_edge.specs.World.{surroundings};
 ghost use Rattle.soc_replay.specs.Replay.{RunsDesk};
@@ -68,14 +68,14 @@ pub(crate) fn serve<R: Reporter, X: Source + Sink, D: Disk, C: Clock, W: Draws>(
 
 /// Keeps the reports of a run for later ones, where the session's end is one after which they are kept.
 fn keep_after<D: Disk, R: Reporter>(end: SessionEnd, book: &mut Book<'_, D, R>) -> Keeping
-    ensures same_disk { book.new.vault.disk.ghost_name ≡ book.old.vault.disk.ghost_name }
+    ensures same_disk { lent_to book.new ≡ lent_to book.old }
     ensures where_ended { is_some (keep_reply result) ≡ keeps_reports end }
-    ensures keeps { (basis : Basis) (state : State) → basis.row_of ≡ R.row_of book.old.reporter.now
-        → basis.digest ≡ R.digest_of book.old.reporter.now
-        → Stands basis book.old.limits book.old.ledger book.old.store book.old.doubt
-        book.old.vault.journal (D.state book.old.vault.disk.now) state
-        → (kept : State) × KeepsDisk basis state (D.state book.old.vault.disk.now)
-        (keep_reply result) kept (D.state book.new.vault.disk.now) }
+    ensures keeps { (basis : Basis) (state : State)
+        → basis.row_of ≡ R.row_of (reporter_of book.old)
+        → basis.digest ≡ R.digest_of (reporter_of book.old)
+        → StandsFor basis book.old state
+        → (kept : State) × KeepsDisk basis state (disk_of book.old)
+        (keep_reply result) kept (disk_of book.new) }
 {
     if !keeps_reports(end) {
         return Keeping::Nothing;

@@ -12,7 +12,7 @@ use Rattle.soc_journal.specs.States.{JournalState}
 use Rattle.soc_ledger.specs.State.{LedgerState}
 use Rattle.soc_desk.specs.declared.desk.Limits.{Limits}
 use Rattle.soc_desk.specs.Basis.{Basis}
-use Rattle.soc_desk.specs.State.{State, Allowed, settled}
+use Rattle.soc_desk.specs.State.{State, Allowed}
 use Rattle.soc_book.specs.declared.book.Change.{Change as Pending}
 use Rattle.soc_book.specs.Openings.{IsBasisOf, OpensBook}
 use Rattle.soc_book.specs.inner.Stands.{Stands}
@@ -128,8 +128,8 @@ module _ (row_of row_of' : Crash → List Cell) (digest digest' : Option (List �
         legal = here.legal;
         added = e.gains.piece;
         behind =
-            sym (log_is basis limits' ledger' rows' pending' journal' second state here)
-            ∙ (e.gains.behind ∙ ap (λ (l : List Turned). l ++ e.gains.piece) (log_is basis limits ledger rows pending journal first (settled opened.log) opened.now));
+            sym (log_is here)
+            ∙ (e.gains.behind ∙ ap (λ (l : List Turned). l ++ e.gains.piece) (log_is opened.now));
         kept_are = e.gains.kept_are;
         swept = over.0;
         closes = closes before after second end basis state over.0 to_closed over.2.ends;

@@ -3,23 +3,23 @@ use Rattle.std.proofs.Common.{◌≡◌, ℕ, true, IsTrue, List, [], ◌++◌, 
 use Rattle.std.specs.Prelude.{IfOk}
 use Rattle.std.proofs.Math.Logic.{∥∥₁_map, ∥∥₁_map₂}
 use Rattle.soc_raw.specs.Record.{Crash}
+use Rattle.soc_schema.specs.declared.reporter.Reporter as reporter
 use Rattle.soc_schema.specs.declared.value.Cell.{Cell}
 use Rattle.soc_base.specs.Names.{value_of}
 use Rattle.soc_edge.specs.Calls.{Calls}
 use Rattle.soc_edge.specs.Disk.{DiskTold}
+use Rattle.soc_edge.specs.declared.disk.Disk as disk
 use Rattle.soc_edge.specs.Memory.{TreeState, tree_told}
-use Rattle.soc_journal.specs.States.{JournalState}
 use Rattle.soc_ledger.specs.Events.{held_ids}
 use Rattle.soc_ledger.specs.Reported.{report_count}
-use Rattle.soc_ledger.specs.State.{LedgerState}
 use Rattle.soc_report.specs.Texts.{KitTexts}
 use Rattle.soc_desk.specs.declared.desk.Limits.{Limits}
 use Rattle.soc_desk.specs.Basis.{Basis}
 use Rattle.soc_desk.specs.Log.{events}
 use Rattle.soc_desk.specs.State.{State}
-use Rattle.soc_book.specs.declared.book.Change.{Change as Pending}
-use Rattle.soc_book.specs.inner.Stands.{Stands}
-use Rattle.soc_turns.specs.Grounds.{desk_basis}
+use Rattle.soc_book.specs.declared.book.Book.{Book}
+use Rattle.soc_book.specs.Books.{StandsFor, limits_of, reporter_of}
+use Rattle.soc_turns.specs.Grounds.{basis_of, desk_basis}
 use Rattle.soc_replay.specs.declared.refusal.FilesFault.{FilesFault}
 use Rattle.soc_replay.specs.declared.setup.Setup.{Setup}
 use Rattle.soc_replay.specs.Files.{Said, Says}
@@ -59,40 +59,35 @@ pub record StaysBased (row_of row_of' : Crash → List Cell) (digest digest' : O
   pub same_digest : digest' ≡ digest
   pub same_limits : limits' ≡ limits
 
-module _ (row_of row_of' : Crash → List Cell) (digest digest' : Option (List ℕ)) (limits limits' : Limits) (count : ℕ) (text : List ℕ)
-    (ledger : LedgerState) (rows : List (ℕ × List Cell)) (pending : Option Pending) (journal : JournalState) (disk : DiskTold)
-    (subsides : (basis : Basis) (state : State) → basis.row_of ≡ row_of' → IsTrue basis.is_told → Stands basis limits' ledger rows pending journal disk state → Subsides basis state count text) where
+module _ {D R : Type 0} {d : disk.Ghosts D} {r : reporter.Ghosts R} (row_of : Crash → List Cell) (digest : Option (List ℕ)) (limits : Limits) (count : ℕ) (book : Book D R d r) where
   abbrev basis : Basis
   basis = desk_basis row_of digest limits true
 
-  abbrev Stood : Type 0
-  Stood = (state : State) × Stands (desk_basis row_of' digest' limits' true) limits' ledger rows pending journal disk state
+  abbrev IsSummed : List ℕ → Type 0
+  IsSummed text = (basis : Basis) (state : State) → basis.row_of ≡ r.row_of (reporter_of book) → IsTrue basis.is_told → StandsFor basis book state → Subsides basis state count text
 
-  played : Stood → StaysBased row_of row_of' digest digest' limits limits' → PlaysBy row_of digest limits count text
-  played stood based =
-      let here : Stands basis limits' ledger rows pending journal disk stood.0 =
-      subst (λ (b : Basis). Stands b limits' ledger rows pending journal disk stood.0)
-      (same_basis row_of row_of' digest digest' true limits limits' based.same_rows based.same_digest based.same_limits) stood.1 in
+  abbrev Stood : Type 0
+  Stood = (state : State) × StandsFor (basis_of true book) book state
+
+  abbrev Based : Type 0
+  Based = StaysBased row_of (r.row_of (reporter_of book)) digest (r.digest_of (reporter_of book)) limits (limits_of book)
+
+  played : (text : List ℕ) → IsSummed text → Stood → Based → PlaysBy row_of digest limits count text
+  played text summed stood based =
+      let here : StandsFor basis book stood.0 =
+      subst (λ (b : Basis). StandsFor b book stood.0) (same_basis row_of _ digest _ true limits _ based.same_rows based.same_digest based.same_limits) stood.1 in
       record {
         basis = basis;
         basis_is = record { rows = refl; digest_is = refl; bytes = refl; crashes_are = refl; tells = λ is. refl };
         told = refl;
         closed = stood.0;
         legal = here.legal;
-        subsides = subsides basis stood.0 (sym based.same_rows) refl here;
+        subsides = summed basis stood.0 (sym based.same_rows) refl here;
       }
 
-  pub plays_by : ∥ Stood ∥₁ → ∥ StaysBased row_of row_of' digest digest' limits limits' ∥₁ → ∥ PlaysBy row_of digest limits count text ∥₁
-  plays_by stood based = ∥∥₁_map₂ stood based (λ (s : Stood) (b : StaysBased row_of row_of' digest digest' limits limits'). played s b)
-
-pub plays_ok : {E : Type 0} (row_of row_of' : Crash → List Cell) (digest digest' : Option (List ℕ)) (limits limits' : Limits) (count : ℕ)
-    (ledger : LedgerState) (rows : List (ℕ × List Cell)) (pending : Option Pending) (journal : JournalState) (disk : DiskTold) (result : Result (List ℕ) E)
-    → IfOk result (λ text. (basis : Basis) (state : State) → basis.row_of ≡ row_of' → IsTrue basis.is_told → Stands basis limits' ledger rows pending journal disk state → Subsides basis state count text)
-    → ∥ ((state : State) × Stands (desk_basis row_of' digest' limits' true) limits' ledger rows pending journal disk state) ∥₁ → ∥ StaysBased row_of row_of' digest digest' limits limits' ∥₁
-    → IfOk result (λ text. ∥ PlaysBy row_of digest limits count text ∥₁)
-plays_ok row_of row_of' digest digest' limits limits' count ledger rows pending journal disk (Ok text) subsides stood based =
-    plays_by row_of row_of' digest digest' limits limits' count text ledger rows pending journal disk subsides stood based
-plays_ok row_of row_of' digest digest' limits limits' count ledger rows pending journal disk (Err error) subsides stood based = tt
+  pub plays_ok : {E : Type 0} (result : Result (List ℕ) E) → IfOk result IsSummed → ∥ Stood ∥₁ → ∥ Based ∥₁ → IfOk result (λ text. ∥ PlaysBy row_of digest limits count text ∥₁)
+  plays_ok (Ok text) summed stood based = ∥∥₁_map₂ stood based (λ (s : Stood) (b : Based). played text summed s b)
+  plays_ok (Err error) summed stood based = tt
 
 -- by the kit that the texts of a tree without files are seen as
 pub plays_out : (kit texts : KitTexts) (setup : Setup) (count : ℕ) (text : List ℕ) → kit ≡ texts → Says (Some no_files) (Ok (record { setup = setup; texts = texts }))

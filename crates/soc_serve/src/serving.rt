@@ -6,7 +6,7 @@ ghost use Rattle.soc_edge.specs.Faults.{Rose};
 ghost use Rattle.soc_edge.specs.Told.{OnlyWrites, WriteFailed};
 ghost use Rattle.soc_desk.specs.Basis.{Basis};
 ghost use Rattle.soc_desk.specs.State.{State};
-ghost use Rattle.soc_book.specs.inner.Stands.{Stands};
+ghost use Rattle.soc_book.specs.Books.{StandsFor, disk_of, lent_to, reporter_of};
 ghost use Rattle.soc_edge.specs.World.{surroundings};
 ghost use Rattle.soc_replay.specs.Serving.{service};
 ghost use Rattle.soc_serve.specs.Ends.{status_of};
@@ -130,16 +130,15 @@ fn close<R: Reporter, K: Sink, D: Disk>(
     output: &mut K,
     failed: Result<bool, NoMemory>,
 ) -> HostEnd
-    ensures same_disk { book.new.vault.disk.ghost_name ≡ book.old.vault.disk.ghost_name }
-    ensures closes { (basis : Basis) (state : State) → basis.row_of ≡ R.row_of book.old.reporter.now
-        → basis.digest ≡ R.digest_of book.old.reporter.now
-        → Stands basis book.old.limits book.old.ledger book.old.store book.old.doubt
-        book.old.vault.journal (D.state book.old.vault.disk.now) state
-        → (after : State) × Stands basis book.new.limits book.new.ledger book.new.store
-        book.new.doubt book.new.vault.journal (D.state book.new.vault.disk.now) after
+    ensures same_disk { lent_to book.new ≡ lent_to book.old }
+    ensures closes { (basis : Basis) (state : State)
+        → basis.row_of ≡ R.row_of (reporter_of book.old)
+        → basis.digest ≡ R.digest_of (reporter_of book.old)
+        → StandsFor basis book.old state
+        → (after : State) × StandsFor basis book.new after
         × ((early late : Outlook) → ClosesBook
-        (surroundings (K.told output.old) (D.state book.old.vault.disk.now) early)
-        (surroundings (K.told output.new) (D.state book.new.vault.disk.now) late) result basis state after) }
+        (surroundings (K.told output.old) (disk_of book.old) early)
+        (surroundings (K.told output.new) (disk_of book.new) late) result basis state after) }
     ensures only { OnlyWrites (K.told output.old) (K.told output.new) }
     ensures failed { status_of result ≡ 6 → IsOkAnd failed (λ failed. failed ≡ true) }
     ensures done { status_of result ≡ 0 → IsOkAnd failed (λ failed. failed ≡ false) }

@@ -4,7 +4,7 @@ ghost use Rattle.soc_desk.specs.Basis.{Basis};
 ghost use Rattle.soc_desk.specs.State.{State};
 ghost use Rattle.soc_schema.specs.Orders.{in_order};
 ghost use Rattle.soc_schema.specs.Values.{text_in};
-ghost use Rattle.soc_book.specs.inner.Stands.{Stands};
+ghost use Rattle.soc_book.specs.Books.{StandsFor, lent_to, reporter_of};
 ghost use Rattle.soc_serve.specs.Storm.{Subsides, signatures_of, term_line, term_lines};
 ghost use Rattle.soc_serve.specs.inner.Storm.{by_value, signature_asked};
 
@@ -30,12 +30,11 @@ pub(crate) fn sum_up<D: Disk, R: Reporter>(
     book: &mut Book<'_, D, R>,
     count: u32,
 ) -> Result<Bytes, NoMemory>
-    ensures same_disk { book.new.vault.disk.ghost_name ≡ book.old.vault.disk.ghost_name }
+    ensures same_disk { lent_to book.new ≡ lent_to book.old }
     ensures subsides { IfOk result
-        (λ text. (basis : Basis) (state : State) → basis.row_of ≡ R.row_of book.old.reporter.now
+        (λ text. (basis : Basis) (state : State) → basis.row_of ≡ R.row_of (reporter_of book.old)
         → IsTrue basis.is_told
-        → Stands basis book.old.limits book.old.ledger book.old.store book.old.doubt
-        book.old.vault.journal (D.state book.old.vault.disk.now) state
+        → StandsFor basis book.old state
         → Subsides basis state count text) }
 {
     let Ok(()) = drain(book) else {
@@ -56,11 +55,10 @@ fn push_signatures<D: Disk, R: Reporter>(
     text: &mut Vec<u8>,
     book: &mut Book<'_, D, R>,
 ) -> Result<(), NoMemory>
-    ensures same_disk { book.new.vault.disk.ghost_name ≡ book.old.vault.disk.ghost_name }
+    ensures same_disk { lent_to book.new ≡ lent_to book.old }
     ensures pushed { OnOk result ((basis : Basis) (state : State)
-        → basis.row_of ≡ R.row_of book.old.reporter.now → IsTrue basis.is_told
-        → Stands basis book.old.limits book.old.ledger book.old.store book.old.doubt
-        book.old.vault.journal (D.state book.old.vault.disk.now) state
+        → basis.row_of ≡ R.row_of (reporter_of book.old) → IsTrue basis.is_told
+        → StandsFor basis book.old state
         → text.new.items ≡ text.old.items ++ term_lines (signatures_of basis state.log)) }
 {
     let query = signature_query(alloc)?;

@@ -1,9 +1,9 @@
 //! The last sweep.
 ghost use Rattle.std.specs.Prelude.{◌≡◌, Ok, Err};
-ghost use Rattle.soc_edge.specs.Disk.{DiskFailed, GoesOn};
+ghost use Rattle.soc_edge.specs.Disk.{GoesOn};
 ghost use Rattle.soc_desk.specs.Basis.{Basis};
 ghost use Rattle.soc_desk.specs.State.{State};
-ghost use Rattle.soc_book.specs.inner.Stands.{Stands};
+ghost use Rattle.soc_book.specs.Books.{SameSetting, StandsFor, disk_of, lent_to, reporter_of};
 ghost use Rattle.soc_serve.specs.Sweep.{EndsSweep};
 ghost use Rattle.soc_serve.specs.inner.Sweeping.{EndsBoth, EndsDrain, EndsKeep, drained, kept};
 
@@ -24,16 +24,12 @@ pub enum SweepFault {
 /// Keeps the reports that are made, processes what is due and keeps its reports, and processes what has become due
 /// meanwhile.
 pub(crate) fn sweep<D: Disk, R: Reporter>(book: &mut Book<'_, D, R>) -> Result<(), SweepFault>
-    ensures same_disk { book.new.vault.disk.ghost_name ≡ book.old.vault.disk.ghost_name }
-    ensures ends { (basis : Basis) (state : State) → basis.row_of ≡ R.row_of book.old.reporter.now
-        → basis.digest ≡ R.digest_of book.old.reporter.now
-        → Stands basis book.old.limits book.old.ledger book.old.store book.old.doubt
-        book.old.vault.journal (D.state book.old.vault.disk.now) state
-        → (after : State) × Stands basis book.new.limits book.new.ledger book.new.store
-        book.new.doubt book.new.vault.journal (D.state book.new.vault.disk.now) after
-        × EndsSweep basis state (D.state book.old.vault.disk.now) result after
-        (D.state book.new.vault.disk.now)
-        × GoesOn (D.state book.old.vault.disk.now) (D.state book.new.vault.disk.now) }
+    ensures same_disk { lent_to book.new ≡ lent_to book.old }
+    ensures ends { (basis : Basis) (state : State) → basis.row_of ≡ R.row_of (reporter_of book.old)
+        → basis.digest ≡ R.digest_of (reporter_of book.old)
+        → StandsFor basis book.old state → (after : State) × StandsFor basis book.new after
+        × EndsSweep basis state (disk_of book.old) result after (disk_of book.new)
+        × GoesOn (disk_of book.old) (disk_of book.new) }
 {
     keep(book)?;
     process_and_keep(book)?;
@@ -42,18 +38,12 @@ pub(crate) fn sweep<D: Disk, R: Reporter>(book: &mut Book<'_, D, R>) -> Result<(
 
 /// Processes what is due, and keeps the reports also where a crash could not be read.
 fn process_and_keep<D: Disk, R: Reporter>(book: &mut Book<'_, D, R>) -> Result<(), SweepFault>
-    ensures same_disk { book.new.vault.disk.ghost_name ≡ book.old.vault.disk.ghost_name }
-    ensures limits { book.new.limits ≡ book.old.limits }
-    ensures reporter { book.new.reporter.now ≡ book.old.reporter.now }
-    ensures ends { (basis : Basis) (state : State) → basis.row_of ≡ R.row_of book.old.reporter.now
-        → basis.digest ≡ R.digest_of book.old.reporter.now
-        → Stands basis book.old.limits book.old.ledger book.old.store book.old.doubt
-        book.old.vault.journal (D.state book.old.vault.disk.now) state
-        → (after : State) × Stands basis book.new.limits book.new.ledger book.new.store
-        book.new.doubt book.new.vault.journal (D.state book.new.vault.disk.now) after
-        × EndsBoth basis state (D.state book.old.vault.disk.now) result after
-        (D.state book.new.vault.disk.now)
-        × GoesOn (D.state book.old.vault.disk.now) (D.state book.new.vault.disk.now) }
+    ensures setting { SameSetting book.old book.new }
+    ensures ends { (basis : Basis) (state : State) → basis.row_of ≡ R.row_of (reporter_of book.old)
+        → basis.digest ≡ R.digest_of (reporter_of book.old)
+        → StandsFor basis book.old state → (after : State) × StandsFor basis book.new after
+        × EndsBoth basis state (disk_of book.old) result after (disk_of book.new)
+        × GoesOn (disk_of book.old) (disk_of book.new) }
 {
     let processed = drain(book);
     keep(book)?;
@@ -62,17 +52,11 @@ fn process_and_keep<D: Disk, R: Reporter>(book: &mut Book<'_, D, R>) -> Result<(
 
 /// Processes what is due.
 pub(crate) fn drain<D: Disk, R: Reporter>(book: &mut Book<'_, D, R>) -> Result<(), SweepFault>
-    ensures same_disk { book.new.vault.disk.ghost_name ≡ book.old.vault.disk.ghost_name }
-    ensures limits { book.new.limits ≡ book.old.limits }
-    ensures reporter { book.new.reporter.now ≡ book.old.reporter.now }
-    ensures ends { (basis : Basis) (state : State) → basis.row_of ≡ R.row_of book.old.reporter.now
-        → Stands basis book.old.limits book.old.ledger book.old.store book.old.doubt
-        book.old.vault.journal (D.state book.old.vault.disk.now) state
-        → (after : State) × Stands basis book.new.limits book.new.ledger book.new.store
-        book.new.doubt book.new.vault.journal (D.state book.new.vault.disk.now) after
-        × EndsDrain basis state (D.state book.old.vault.disk.now) result after
-        (D.state book.new.vault.disk.now)
-        × GoesOn (D.state book.old.vault.disk.now) (D.state book.new.vault.disk.now) }
+    ensures setting { SameSetting book.old book.new }
+    ensures ends { (basis : Basis) (state : State) → basis.row_of ≡ R.row_of (reporter_of book.old)
+        → StandsFor basis book.old state → (after : State) × StandsFor basis book.new after
+        × EndsDrain basis state (disk_of book.old) result after (disk_of book.new)
+        × GoesOn (disk_of book.old) (disk_of book.new) }
 {
     drained(&book.drain())
 }
@@ -90,18 +74,12 @@ fn drained(reply: &Reply) -> Result<(), SweepFault>
 
 /// Keeps the reports for later runs.
 fn keep<D: Disk, R: Reporter>(book: &mut Book<'_, D, R>) -> Result<(), SweepFault>
-    ensures same_disk { book.new.vault.disk.ghost_name ≡ book.old.vault.disk.ghost_name }
-    ensures limits { book.new.limits ≡ book.old.limits }
-    ensures reporter { book.new.reporter.now ≡ book.old.reporter.now }
-    ensures ends { (basis : Basis) (state : State) → basis.row_of ≡ R.row_of book.old.reporter.now
-        → basis.digest ≡ R.digest_of book.old.reporter.now
-        → Stands basis book.old.limits book.old.ledger book.old.store book.old.doubt
-        book.old.vault.journal (D.state book.old.vault.disk.now) state
-        → (after : State) × Stands basis book.new.limits book.new.ledger book.new.store
-        book.new.doubt book.new.vault.journal (D.state book.new.vault.disk.now) after
-        × EndsKeep basis state (D.state book.old.vault.disk.now) result after
-        (D.state book.new.vault.disk.now)
-        × GoesOn (D.state book.old.vault.disk.now) (D.state book.new.vault.disk.now) }
+    ensures setting { SameSetting book.old book.new }
+    ensures ends { (basis : Basis) (state : State) → basis.row_of ≡ R.row_of (reporter_of book.old)
+        → basis.digest ≡ R.digest_of (reporter_of book.old)
+        → StandsFor basis book.old state → (after : State) × StandsFor basis book.new after
+        × EndsKeep basis state (disk_of book.old) result after (disk_of book.new)
+        × GoesOn (disk_of book.old) (disk_of book.new) }
 {
     kept(&book.keep())
 }

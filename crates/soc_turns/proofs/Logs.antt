@@ -1,5 +1,5 @@
 -- What the tables of a book tell is the log that they stand for.
-use Rattle.std.proofs.Common.{◌≡◌, ℕ, suc, ◌<◌, ◌^◌, Bool, true, false, cond, IsTrue, List, [], ◌∷◌, ◌++◌, length, take, drop, Option, Some, None, IfSome, refl, sym, ◌∙◌, ap, subst, arith, append_assoc}
+use Rattle.std.proofs.Common.{◌≡◌, ℕ, ◌<◌, ◌^◌, Bool, true, false, cond, IsTrue, List, [], ◌∷◌, ◌++◌, length, take, drop, Option, Some, None, IfSome, refl, sym, ◌∙◌, ap, subst, arith, append_assoc}
 use Rattle.std.specs.Prelude.{bytes_eq, if◌then◌else◌}
 use Rattle.std.specs.Int.{from_le_bytes, to_le_bytes, w32}
 use Rattle.std.specs.List.{AllByRecursion, find}
@@ -106,9 +106,9 @@ module _ (basis : Basis) (disk : DiskTold) (journal : JournalState) (entries : L
   same_log (stop ∷ log) filed are told = with_text E.Stopped None None _ _ refl (same_log log filed are told)
 
 -- what the tables tell is the log of each state that they stand for
-pub log_is : (basis : Basis) (limits : Limits) (ledger : LedgerState) (rows : List (ℕ × List Cell)) (pending : Option Pending) (journal : JournalState) (disk : DiskTold) (state : State)
+pub log_is : {basis : Basis} {limits : Limits} {ledger : LedgerState} {rows : List (ℕ × List Cell)} {pending : Option Pending} {journal : JournalState} {disk : DiskTold} {state : State}
     → Stands basis limits ledger rows pending journal disk state → changes_at (body_at basis.is_told disk.content) ledger.log ledger.crashes ≡ changes_of basis state.log
-log_is basis limits ledger rows pending journal disk state stands =
+log_is {basis = basis} {ledger = ledger} {journal = journal} {disk = disk} {state = state} stands =
     ap (λ l. changes_at (body_at basis.is_told disk.content) l ledger.crashes) stands.holds.events_are
     ∙ same_log basis disk journal (entries_of (kept_of state.log)) (entries_of state.doubt) (λ told. (stands.told told).means) state.log ledger.crashes stands.holds.filed stands.legal.log.told
 

@@ -1,7 +1,6 @@
 -- What a turn of a shared book owes to the hall.
-use Rattle.std.proofs.Common.{◌≡◌, ◌⊎◌, inl, inr, ℕ, ◌≤◌, ◌<◌, ◌^◌, Bool, true, false, cond, IsTrue, List, [], ◌∷◌, ◌++◌, length, take, drop, Option, Some, None, IfSome, IsSomeAnd, refl, sym, ◌∙◌, ap, subst, arith}
+use Rattle.std.proofs.Common.{◌≡◌, ◌⊎◌, inl, inr, ℕ, ◌<◌, ◌^◌, Bool, true, false, cond, IsTrue, List, [], ◌∷◌, ◌++◌, length, take, drop, Option, Some, None, IfSome, IsSomeAnd, refl, sym, ◌∙◌, ap, subst}
 use Rattle.std.specs.Prelude.{bytes_eq, is_some, if◌then◌else◌}
-use Rattle.std.specs.Coded.{le_prop}
 use Rattle.std.specs.List.{AllByRecursion, find}
 use Rattle.std.specs.Option.{option_map, option_and_then}
 use Rattle.std.proofs.Math.Logic.{∥∥₁_elim, ∥∥₁_map, ∥∥₁_map₂}
@@ -13,15 +12,16 @@ use Rattle.soc_raw.specs.RawCrash.{crash_of}
 use Rattle.soc_raw.specs.Record.{Crash, IsCrash, record_of}
 use Rattle.soc_raw.specs.declared.raw_crash.RawCrash.{RawCrash}
 use Rattle.soc_raw.proofs.Records.{same_crash}
+use Rattle.soc_schema.specs.declared.reporter.Reporter as reporter
 use Rattle.soc_schema.specs.declared.value.Cell.{Cell}
 use Rattle.soc_edge.specs.Disk.{DiskTold, GoesOn}
+use Rattle.soc_edge.specs.declared.disk.Disk as disk
 use Rattle.soc_edge.proofs.Disks.{GoesOn-append}
 use Rattle.soc_journal.specs.Entries.{Entry}
 use Rattle.soc_journal.specs.States.{JournalState}
 use Rattle.soc_ledger.specs.Due.{is_due}
 use Rattle.soc_ledger.specs.Events.{has_stop, is_held}
 use Rattle.soc_ledger.specs.Legal.{IsLegal as AreLegal}
-use Rattle.soc_ledger.specs.State.{LedgerState}
 use Rattle.soc_vault.specs.Vaults.{Means}
 use Rattle.soc_desk.specs.declared.desk.Command.{Command}
 use Rattle.soc_desk.specs.declared.desk.Command.TheVariants as C
@@ -37,17 +37,16 @@ use Rattle.soc_desk.specs.Desk.{Fails, IfElse, IsFetched, Step}
 use Rattle.soc_desk.specs.Grows.{Grows}
 use Rattle.soc_desk.specs.Log.{Accepted, Change as Logged, IsLegal, accepted_of, events, raw_of}
 use Rattle.soc_desk.specs.State.{State, doubted, settled}
-use Rattle.soc_book.specs.declared.book.Change.{Change as Pending}
-use Rattle.soc_book.specs.Books.{AllowsBook, AsksBook}
-use Rattle.soc_book.specs.Openings.{IsBasisOf, OpensBook}
-use Rattle.soc_book.specs.inner.Stands.{Stands}
+use Rattle.soc_book.specs.declared.book.Book.{Book}
+use Rattle.soc_book.specs.declared.opening.Restored.{Restored}
+use Rattle.soc_book.specs.Books.{AllowsBook, AsksBook, ForEachState, SameSetting, StandsFor, crashes_in, disk_of, limits_of, log_in, reporter_of}
+use Rattle.soc_book.specs.Openings.{RestoredFor, Restores}
 use Rattle.soc_book.proofs.Listings.{sound_accepted}
-use Rattle.soc_book.proofs.Openings.{moved}
 use Rattle.soc_service.specs.declared.change.Change.{Change}
 use Rattle.soc_service.specs.Changes.{events_in, text_in}
 use Rattle.soc_turns.specs.Changes.{body_at, changes_at}
 use Rattle.soc_turns.specs.Logs.{change_of, changes_of}
-use Rattle.soc_turns.specs.Grounds.{desk_basis}
+use Rattle.soc_turns.specs.Grounds.{basis_of, desk_basis}
 use Rattle.soc_service.specs.Answers.{Answers, FetchesText, MayAsk, TellsIdle}
 use Rattle.soc_turns.proofs.Idle.{doubt_counts, tells_idle}
 use Rattle.soc_service.proofs.Codes.{one_log}
@@ -88,22 +87,20 @@ means_some : (disk : DiskTold) (journal : JournalState) (entries doubt : List En
 means_some disk journal entries [] means = tells_some _ disk.content means
 means_some disk journal entries (first ∷ more) means = tells_some _ disk.content means
 
-module _ (row_of : Crash → List Cell) (told : Bool) (limits : Limits) (ledger : LedgerState) (rows : List (ℕ × List Cell)) (pending : Option Pending) (journal : JournalState) (disk : DiskTold)
-    (steady : is_some disk.content ≡ told) where
-  raw_here : (crash : Crash) → (IsTrue told → IsCrash crash × (text_in (changes_at (body_at told disk.content) ledger.log ledger.crashes) crash.id ≡ Some (record_of crash)))
-      → (basis : Basis) (state : State) → Stands basis limits ledger rows pending journal disk state → IsTrue basis.is_told → raw_of state.log crash.id ≡ Some crash
+module _ {D R : Type 0} {d : disk.Ghosts D} {r : reporter.Ghosts R} (tells : Bool) (book : Book D R d r) (steady : is_some (disk_of book).content ≡ tells) where
+  raw_here : (crash : Crash) → (IsTrue tells → IsCrash crash × (text_in (changes_at (body_at tells (disk_of book).content) (log_in book) (crashes_in book)) crash.id ≡ Some (record_of crash)))
+      → ForEachState book (λ basis state. IsTrue basis.is_told → raw_of state.log crash.id ≡ Some crash)
   raw_here crash may basis state stands is_told =
-      let tells : told ≡ true = sym steady ∙ means_some disk journal _ _ (stands.told is_told).means in
-      let both : told ≡ basis.is_told = tells ∙ sym is_told in
-      let there = may tells in
+      let means : tells ≡ true = sym steady ∙ means_some (disk_of book) _ _ _ (stands.told is_told).means in
+      let there = may means in
       let text : text_in (changes_of basis state.log) crash.id ≡ Some (record_of crash) =
-      ap (λ l. text_in l crash.id) (sym (log_is basis limits ledger rows pending journal disk state stands))
-      ∙ (ap (λ b. text_in (changes_at (body_at b disk.content) ledger.log ledger.crashes) crash.id) (sym both) ∙ there.1) in
+      ap (λ l. text_in l crash.id) (sym (log_is stands))
+      ∙ (ap (λ b. text_in (changes_at (body_at b (disk_of book).content) (log_in book) (crashes_in book)) crash.id) (is_told ∙ sym means) ∙ there.1) in
       raw_by (raw_of state.log crash.id) crash (λ raw is. raw_sound basis state.log crash.id raw stands.legal.log is) there.0
       (sym (text_is basis state.log crash.id is_told) ∙ text)
 
-  pub allowed : (digest : Option (List ℕ)) (command : Command) → MayAsk (desk_basis row_of digest limits told) (changes_at (body_at told disk.content) ledger.log ledger.crashes) command
-      → AllowsBook row_of (λ basis state. Stands basis limits ledger rows pending journal disk state) command
+  pub allowed : (digest : Option (List ℕ)) (command : Command) → MayAsk (desk_basis (r.row_of (reporter_of book)) digest (limits_of book) tells) (changes_at (body_at tells (disk_of book).content) (log_in book) (crashes_in book)) command
+      → AllowsBook book command
   allowed digest (C.Finish processed) may = (may.0, λ basis state stands is_told due. raw_here processed.crash may.1 basis state stands is_told)
   allowed digest (C.Submit raw) may = tt
   allowed digest (C.Priority caller id) may = tt
@@ -180,70 +177,49 @@ answers_of basis before after legal log log' disk disk' command receipt is is' a
 prefix_by : (log log' : List Change) → take (length log) log' ≡ log → IsPrefix log log'
 prefix_by log log' front = (drop (length log) log', ap (λ l. l ++ drop (length log) log') (sym front) ∙ take-append-drop (length log) log')
 
-same_basis : (row_of row_of' : Crash → List Cell) (digest digest' : Option (List ℕ)) (told : Bool) (limits limits' : Limits) → row_of' ≡ row_of → digest' ≡ digest → limits' ≡ limits
-    → desk_basis row_of' digest' limits' told ≡ desk_basis row_of digest limits told
-same_basis row_of row_of' digest digest' told limits limits' same_rows same_digest same_limits =
-    ap (λ r. desk_basis r digest' limits' told) same_rows ∙ (ap (λ d. desk_basis row_of d limits' told) same_digest ∙ ap (λ l. desk_basis row_of digest l told) same_limits)
+same_basis : {R : Type 0} (rows : R → Crash → List Cell) (digests : R → Option (List ℕ)) (tells : Bool) {by by' : R} {limits limits' : Limits} → by' ≡ by → limits' ≡ limits
+    → desk_basis (rows by) (digests by) limits tells ≡ desk_basis (rows by') (digests by') limits' tells
+same_basis rows digests tells {by = by} {limits' = limits'} same_reporter same_limits =
+    sym (ap (λ x. desk_basis (rows x) (digests x) limits' tells) same_reporter ∙ ap (λ l. desk_basis (rows by) (digests by) l tells) same_limits)
 
--- a book stands for the log that it was opened with
-pub opened_stands : (row_of row_of' : Crash → List Cell) (digest digest' : Option (List ℕ)) (told : Bool) (limits limits' : Limits) → row_of' ≡ row_of → digest' ≡ digest → limits' ≡ limits
-    → (ledger : LedgerState) (rows : List (ℕ × List Cell)) (pending : Option Pending) (journal : JournalState) (disk disk' : DiskTold) → is_some disk.content ≡ told
-    → ((basis : Basis) → IsBasisOf row_of digest limits disk.content basis → OpensBook basis disk disk' (λ state. Stands basis limits' ledger rows pending journal disk' state))
-    → (state : State) × Stands (desk_basis row_of' digest' limits' told) limits' ledger rows pending journal disk' state
-opened_stands row_of row_of' digest digest' told limits limits' same_rows same_digest same_limits ledger rows pending journal disk disk' steady opens =
-    let o = opens (desk_basis row_of digest limits told) (record { rows = refl; digest_is = refl; bytes = refl; crashes_are = refl; tells = λ is. steady ∙ is }) in
-    let P : Basis → Type 0 = λ b. Stands b limits' ledger rows pending journal disk' (settled o.log) in
-    (settled o.log, subst P (sym (same_basis row_of row_of' digest digest' told limits limits' same_rows same_digest same_limits)) o.now)
+module _ {D R : Type 0} {d : disk.Ghosts D} {r : reporter.Ghosts R} (tells : Bool) where
+  abbrev Stood : Book D R d r → Type 0
+  Stood book = (state : State) × StandsFor (basis_of tells book) book state
 
--- the same of the book over what was read
-pub over_stands : {X : Type 0} (told_of : X → DiskTold) (before : DiskTold) (row_of row_of' : Crash → List Cell) (digest digest' : Option (List ℕ)) (told : Bool) (limits limits' : Limits) (ledger ledger' : LedgerState) (rows rows' : List (ℕ × List Cell)) (pending : Option Pending) (journal journal' : JournalState) (x y : X)
-    → row_of' ≡ row_of → digest' ≡ digest → limits' ≡ limits → ledger' ≡ ledger → rows' ≡ rows → pending ≡ None → journal' ≡ journal → y ≡ x → is_some before.content ≡ told
-    → ((basis : Basis) → IsBasisOf row_of digest limits before.content basis → OpensBook basis before (told_of x) (Stands basis limits ledger rows None journal (told_of x)))
-    → (state : State) × Stands (desk_basis row_of' digest' limits' told) limits' ledger' rows' pending journal' (told_of y) state
-over_stands told_of before row_of row_of' digest digest' told limits limits' ledger ledger' rows rows' pending journal journal' x y same_rows same_digest same_limits same_ledger same_store none same_journal same steady opens =
-    opened_stands row_of row_of' digest digest' told limits limits' same_rows same_digest same_limits ledger' rows' pending journal' before (told_of y) steady
-    (λ basis is. moved told_of before basis limits limits' ledger ledger' rows rows' pending journal journal' x y same_limits same_ledger same_store none same_journal same (opens basis is))
+  -- a book over what was read stands for the log that it was opened with
+  pub over_stands : {by : R} {limits : Limits} {restored : Restored} (before now : DiskTold) (book : Book D R d r) → reporter_of book ≡ by → limits_of book ≡ limits
+      → ((basis : Basis) (state : State) → RestoredFor basis limits restored now state → StandsFor basis book state) → is_some before.content ≡ tells
+      → Restores (r.row_of by) (r.digest_of by) limits before restored now → Stood book
+  over_stands {by = by} {limits = limits} before now book same_reporter same_limits stands steady opens =
+      let here : Basis = desk_basis (r.row_of by) (r.digest_of by) limits tells in
+      let o = opens here (record { rows = refl; digest_is = refl; bytes = refl; crashes_are = refl; tells = λ is. steady ∙ is }) in
+      (settled o.log, subst (λ (b : Basis). StandsFor b book (settled o.log)) (same_basis r.row_of r.digest_of tells same_reporter same_limits) (stands here (settled o.log) o.now))
 
-module _ (row_of row_of' : Crash → List Cell) (digest digest' : Option (List ℕ)) (told : Bool) (limits limits' : Limits)
-    (same_rows : row_of' ≡ row_of) (same_digest : digest' ≡ digest) (same_limits : limits' ≡ limits)
-    (ledger ledger' : LedgerState) (rows rows' : List (ℕ × List Cell)) (pending pending' : Option Pending) (journal journal' : JournalState) (disk disk' : DiskTold)
-    (command : Command) (receipt : Receipt)
-    (asks : AsksBook row_of (λ basis state. Stands basis limits ledger rows pending journal disk state) disk command receipt (λ basis state. Stands basis limits' ledger' rows' pending' journal' disk' state) disk')
-    (known : ∥ ((state : State) × Stands (desk_basis row_of digest limits told) limits ledger rows pending journal disk state) ∥₁) where
-  abbrev basis : Basis
-  basis = desk_basis row_of digest limits told
+  module _ (before after : Book D R d r) (setting : SameSetting before after) (command : Command) (receipt : Receipt) (asks : AsksBook before command receipt after) (known : ∥ Stood before ∥₁) where
+    abbrev basis : Basis
+    basis = basis_of tells before
 
-  abbrev log : List Change
-  log = changes_at (body_at told disk.content) ledger.log ledger.crashes
+    abbrev log_of : Book D R d r → List Change
+    log_of book = changes_at (body_at tells (disk_of book).content) (log_in book) (crashes_in book)
 
-  abbrev log' : List Change
-  log' = changes_at (body_at told disk'.content) ledger'.log ledger'.crashes
+    pub stands_still : ∥ Stood after ∥₁
+    stands_still =
+        subst (λ (b : Basis). ∥ ((state : State) × StandsFor b after state) ∥₁) (same_basis r.row_of r.digest_of tells setting.reporter setting.limits)
+        (∥∥₁_map known (λ (s : Stood before). let a = asks basis s.0 refl s.1 in (a.0, a.1)))
 
-  abbrev Now : Type 0
-  Now = (state : State) × Stands basis limits ledger rows pending journal disk state
+    pub disk_goes_on : (opened : DiskTold) → ∥ GoesOn opened (disk_of before) ∥₁ → ∥ GoesOn opened (disk_of after) ∥₁
+    disk_goes_on opened on = ∥∥₁_map₂ known on (λ (s : Stood before) (first : GoesOn opened (disk_of before)). GoesOn-append opened (disk_of before) (disk_of after) first (asks basis s.0 refl s.1).2.goes_on)
 
-  abbrev Then : Type 0
-  Then = ∥ ((state : State) × Stands (desk_basis row_of' digest' limits' told) limits' ledger' rows' pending' journal' disk' state) ∥₁
+    answers_at : Stood before → Answers basis (log_of before) command receipt (log_of after)
+    answers_at s =
+        let a = asks basis s.0 refl s.1 in
+        answers_of basis s.0 a.0 s.1.legal.log.events_legal (log_of before) (log_of after) (disk_of before) (disk_of after) command receipt (log_is s.1) (log_is a.1) a.2
 
-  pub stands_still : Then
-  stands_still =
-      subst (λ (b : Basis). ∥ ((state : State) × Stands b limits' ledger' rows' pending' journal' disk' state) ∥₁) (sym (same_basis row_of row_of' digest digest' told limits limits' same_rows same_digest same_limits))
-      (∥∥₁_map known (λ (s : Now). let a = asks basis s.0 refl s.1 in (a.0, a.1)))
+    pub answers_now : ∥ Answers basis (log_of before) command receipt (log_of after) ∥₁
+    answers_now = ∥∥₁_map known (λ (s : Stood before). answers_at s)
 
-  pub disk_goes_on : (opened : DiskTold) → ∥ GoesOn opened disk ∥₁ → ∥ GoesOn opened disk' ∥₁
-  disk_goes_on opened on = ∥∥₁_map₂ known on (λ (s : Now) (first : GoesOn opened disk). GoesOn-append opened disk disk' first (asks basis s.0 refl s.1).2.goes_on)
-
-  answers_at : Now → Answers basis log command receipt log'
-  answers_at s =
-      let a = asks basis s.0 refl s.1 in
-      answers_of basis s.0 a.0 s.1.legal.log.events_legal log log' disk disk' command receipt
-      (log_is basis limits ledger rows pending journal disk s.0 s.1) (log_is basis limits' ledger' rows' pending' journal' disk' a.0 a.1) a.2
-
-  pub answers_now : ∥ Answers basis log command receipt log' ∥₁
-  answers_now = ∥∥₁_map known (λ (s : Now). answers_at s)
-
-  pub log_goes_on : IsPrefix log log'
-  log_goes_on =
-      prefix_by log log'
-      (∥∥₁_elim known (one_log (take (length log) log') log)
-      (λ (s : Now). let a = answers_at s in ap (λ l. take (length log) l) a.behind ∙ take-append_seam log a.piece))
+    pub log_goes_on : IsPrefix (log_of before) (log_of after)
+    log_goes_on =
+        prefix_by (log_of before) (log_of after)
+        (∥∥₁_elim known (one_log (take (length (log_of before)) (log_of after)) (log_of before))
+        (λ (s : Stood before). let a = answers_at s in ap (λ l. take (length (log_of before)) l) a.behind ∙ take-append_seam (log_of before) a.piece))

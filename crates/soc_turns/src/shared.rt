@@ -1,12 +1,12 @@
 //! A book as the state of a hall.
-ghost use Rattle.std.specs.Prelude.{◌≡◌, None, slice_get};
+ghost use Rattle.std.specs.Prelude.{◌≡◌, slice_get};
 ghost use Rattle.soc_edge.specs.Disk.{GoesOn};
 ghost use Rattle.soc_ledger.specs.Due.{due_ids};
 ghost use Rattle.soc_desk.specs.Basis.{Basis};
 ghost use Rattle.soc_desk.specs.State.{State};
-ghost use Rattle.soc_book.specs.Openings.{IsBasisOf, OpensBook};
-ghost use Rattle.soc_book.specs.inner.Stands.{Stands};
-ghost use Rattle.soc_turns.specs.Grounds.{desk_basis, desk_by};
+ghost use Rattle.soc_book.specs.Books.{StandsFor, disk_in, disk_of, lent_to, limits_of, log_in, reporter_of};
+ghost use Rattle.soc_book.specs.Openings.{IsSettled, RestoredFor, Restores};
+ghost use Rattle.soc_turns.specs.Grounds.{basis_of, desk_by};
 
 use crate::grounds::Grounds;
 use soc_book::{Book, Prepared, Restored};
@@ -26,10 +26,8 @@ pub struct SharedBook<'a, D: Telling, R: Reporter> {
     // The disk as it was when the book was opened.
     pub(crate) opened: Snapshot<D>,
     ghost stands: { ∥ ((state : State)
-        × Stands (desk_basis (R.row_of book.reporter.now)
-        (R.digest_of book.reporter.now) book.limits D.tells) book.limits book.ledger book.store
-        book.doubt book.vault.journal (D.state book.vault.disk.now) state) ∥₁ },
-    ghost goes_on: { ∥ GoesOn (D.state opened.value) (D.state book.vault.disk.now) ∥₁ },
+        × StandsFor (basis_of D.tells book) book state) ∥₁ },
+    ghost goes_on: { ∥ GoesOn (D.state opened.value) (disk_of book) ∥₁ },
 }
 
 impl<'a, D: Telling, R: Reporter> SharedBook<'a, D, R> {
@@ -42,22 +40,17 @@ impl<'a, D: Telling, R: Reporter> SharedBook<'a, D, R> {
         restored: Restored,
         opened: Snapshot<D>,
     ) -> SharedBook<'a, D, R>
-        requires settled { restored.journal.doubt ≡ None }
-        requires opens { (basis : Basis)
-            → IsBasisOf (R.row_of reporter.now) (R.digest_of reporter.now) limits
-            (D.state opened.value).content basis
-            → OpensBook basis (D.state opened.value) (D.state disk.old)
-            (Stands basis limits restored.ledger restored.store None restored.journal
-            (D.state disk.old)) }
+        requires settled { IsSettled restored }
+        requires opens { Restores (R.row_of reporter.now) (R.digest_of reporter.now) limits
+            (D.state opened.value) restored (D.state disk.old) }
         requires goes_on { GoesOn (D.state opened.value) (D.state disk.old) }
-        ensures same_disk { result.book.vault.disk.ghost_name ≡ disk.entry.ghost_name }
-        ensures disk { result.book.vault.disk.now ≡ disk.old }
-        ensures limits { result.book.limits ≡ limits }
-        ensures reporter { result.book.reporter.now ≡ reporter.now }
-        ensures ledger { result.book.ledger ≡ restored.ledger }
-        ensures store { result.book.store ≡ restored.store }
-        ensures journal { result.book.vault.journal ≡ restored.journal }
-        ensures doubt { result.book.doubt ≡ None }
+        ensures same_disk { lent_to result.book ≡ disk.entry.ghost_name }
+        ensures disk { disk_in result.book ≡ disk.old }
+        ensures limits { limits_of result.book ≡ limits }
+        ensures reporter { reporter_of result.book ≡ reporter.now }
+        ensures stands { (basis : Basis) (state : State)
+            → RestoredFor basis limits restored (D.state disk.old) state
+            → StandsFor basis result.book state }
         ensures opened { result.opened.value ≡ opened.value }
     {
         let book = Book::over(alloc, disk, reporter, limits, restored);
@@ -67,10 +60,8 @@ impl<'a, D: Telling, R: Reporter> SharedBook<'a, D, R> {
     /// A book to be shared, over a disk that was so when the book was opened.
     fn new(book: Book<'a, D, R>, opened: Snapshot<D>) -> SharedBook<'a, D, R>
         requires stands { (state : State)
-            × Stands (desk_basis (R.row_of book.reporter.now)
-            (R.digest_of book.reporter.now) book.limits D.tells) book.limits book.ledger book.store
-            book.doubt book.vault.journal (D.state book.vault.disk.now) state }
-        requires goes_on { GoesOn (D.state opened.value) (D.state book.vault.disk.now) }
+            × StandsFor (basis_of D.tells book) book state }
+        requires goes_on { GoesOn (D.state opened.value) (disk_of book) }
         ensures book { result.book ≡ book.entry }
         ensures opened { result.opened.value ≡ opened.value }
     {
@@ -79,7 +70,7 @@ impl<'a, D: Telling, R: Reporter> SharedBook<'a, D, R> {
 
     // The crash that is due at this place, from 0, by the book's ledger.
     fn due_in_ledger(&self, place: u32) -> Option<CrashId>
-        ensures { result ≡ slice_get (due_ids self.now.book.ledger.log) place }
+        ensures { result ≡ slice_get (due_ids (log_in self.now.book)) place }
     {
         if place < self.book.due() {
             Some(self.book.due_at(place))
@@ -97,10 +88,8 @@ impl<'a, D: Telling, R: Reporter> SharedBook<'a, D, R> {
 }
 
 impl<'a, D: Telling, R: Reporter> Logged for SharedBook<'a, D, R> {
-    ghost use Rattle.soc_desk.specs.State.{State};
     ghost use Rattle.soc_desk.specs.Kinds.{IsReplyTo};
-    ghost use Rattle.soc_book.specs.Books.{AsksBook};
-    ghost use Rattle.soc_book.specs.inner.Stands.{Stands};
+    ghost use Rattle.soc_book.specs.Books.{AsksBook, SameSetting, crashes_in, disk_of, lent_to, limits_of, log_in, reporter_of};
     ghost use Rattle.soc_turns.specs.Changes.{body_at, changes_at};
     ghost use Rattle.soc_service.specs.Answers.{Answers, MayAsk};
     ghost use Rattle.soc_service.specs.inner.Stays.{may_still};
@@ -114,28 +103,18 @@ impl<'a, D: Telling, R: Reporter> Logged for SharedBook<'a, D, R> {
     type Basis = Grounds<R, D>;
 
     ghost log_of = { λ s. changes_at
-        (body_at D.tells (D.state s.book.vault.disk.now).content) s.book.ledger.log
-        s.book.ledger.crashes };
+        (body_at D.tells (disk_of s.book).content) (log_in s.book) (crashes_in s.book) };
 
     ghost basis_of = { λ s. record {
-      reporter = s.book.reporter.now;
-      limits = s.book.limits;
-      lent = s.book.vault.disk.ghost_name;
+      reporter = reporter_of s.book;
+      limits = limits_of s.book;
+      lent = lent_to s.book;
       opened = s.opened.value;
     } };
 
     ghost asks = { λ before command receipt after.
-        (after.book.vault.disk.ghost_name ≡ before.book.vault.disk.ghost_name)
-        × (after.book.limits ≡ before.book.limits)
-        × (after.book.reporter.now ≡ before.book.reporter.now)
-        × IsReplyTo command receipt.reply
-        × AsksBook (R.row_of before.book.reporter.now)
-        (λ basis state. Stands basis before.book.limits before.book.ledger before.book.store
-        before.book.doubt before.book.vault.journal (D.state before.book.vault.disk.now) state)
-        (D.state before.book.vault.disk.now) command receipt
-        (λ basis state. Stands basis after.book.limits after.book.ledger after.book.store
-        after.book.doubt after.book.vault.journal (D.state after.book.vault.disk.now) state)
-        (D.state after.book.vault.disk.now) };
+        SameSetting before.book after.book × IsReplyTo command receipt.reply
+        × AsksBook before.book command receipt after.book };
 
     ghost answers = { λ basis log command receipt log'.
         ∥ Answers (desk_by R.row_of R.digest_of D.tells basis) log command receipt log' ∥₁ };
@@ -170,7 +149,7 @@ impl<'a, D: Telling, R: Reporter> SharedDesk for SharedBook<'a, D, R> {
 
     ghost allows = { λ _ _ _ may. may };
 
-    ghost replies = { λ _ _ _ _ asked. asked.3 };
+    ghost replies = { λ _ _ _ _ asked. asked.1 };
 
     ghost tells = { λ _ _ _ _ _ answers. answers };
 }

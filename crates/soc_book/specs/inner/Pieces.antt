@@ -61,13 +61,16 @@ IsReading id (Err refusal) = RefusesReading id refusal
 
 -- ---- settling
 
--- The log that the doubt was settled to stands, with room for one more event; or the state stays, for want of memory or
--- since the disk failed. `Now` says that the tables stand for a state now.
-abbrev pub Begins : State → DiskTold → DiskTold → Result (Unit {0}) Refusal → (State → Type 0) → Type 0
+-- The state stays, since memory ran out or the disk failed. `Now` says that the tables stand for a state now.
+abbrev pub Stays : State → DiskTold → DiskTold → Refusal → (State → Type 0) → Type 0
+Stays state disk disk' F.StoreFault Now = (state.doubt ≢ []) × DiskFailed disk disk' × Now state
+Stays state disk disk' F.NoMemory Now = Now state
+Stays state disk disk' _ Now = ⊥
+
+-- the log that the doubt was settled to stands, or the state stays
+abbrev pub Begins : {A : Type 0} → State → DiskTold → DiskTold → Result A Refusal → (State → Type 0) → Type 0
 Begins state disk disk' (Ok _) Now = (log : List Change) × Settles state.log state.doubt log × Now (settled log)
-Begins state disk disk' (Err F.StoreFault) Now = (state.doubt ≢ []) × DiskFailed disk disk' × Now state
-Begins state disk disk' (Err F.NoMemory) Now = Now state
-Begins state disk disk' (Err _) Now = ⊥
+Begins state disk disk' (Err refusal) Now = Stays state disk disk' refusal Now
 
 -- ---- appending
 

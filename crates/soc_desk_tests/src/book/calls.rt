@@ -72,44 +72,6 @@ fn ask_to_stop(alloc: Global, book: &mut Book<'_, MemDisk, Bare>, who: Who) -> R
     Ok(book.ask(Command::Stop { caller }).reply)
 }
 
-fn submit(alloc: Global, book: &mut Book<'_, MemDisk, Bare>, which: Which) -> Result<Reply, Fail> {
-    let raw = raw(alloc, which)?;
-    Ok(book.submit(raw))
-}
-
-fn prioritise(
-    alloc: Global,
-    book: &mut Book<'_, MemDisk, Bare>,
-    who: Who,
-    which: Which,
-) -> Result<Reply, Fail> {
-    let id = id(alloc, which)?;
-    let caller = caller(alloc, who)?;
-    Ok(book.prioritise(&caller, id))
-}
-
-fn reprocess(
-    alloc: Global,
-    book: &mut Book<'_, MemDisk, Bare>,
-    who: Who,
-    which: Which,
-) -> Result<Reply, Fail> {
-    let id = id(alloc, which)?;
-    let caller = caller(alloc, who)?;
-    Ok(book.reprocess(&caller, id))
-}
-
-fn withdraw(
-    alloc: Global,
-    book: &mut Book<'_, MemDisk, Bare>,
-    who: Who,
-    which: Which,
-) -> Result<Reply, Fail> {
-    let id = id(alloc, which)?;
-    let caller = caller(alloc, who)?;
-    Ok(book.withdraw(&caller, id))
-}
-
 fn annotations(
     alloc: Global,
     book: &mut Book<'_, MemDisk, Bare>,
@@ -171,10 +133,10 @@ fn finish(alloc: Global, book: &mut Book<'_, MemDisk, Bare>, which: Which) -> Re
 /// The answer to a command by its own call, where it has one that asks for no permission.
 pub fn called(alloc: Global, book: &mut Book<'_, MemDisk, Bare>, act: Act) -> Result<Reply, Fail> {
     match act {
-        Act::Submit(which) => submit(alloc, book, which),
-        Act::Priority(who, which) => prioritise(alloc, book, who, which),
-        Act::Reprocess(who, which) => reprocess(alloc, book, who, which),
-        Act::Withdraw(who, which) => withdraw(alloc, book, who, which),
+        Act::Submit(which) => ask_to_submit(alloc, book, which),
+        Act::Priority(who, which) => ask_to_prioritise(alloc, book, who, which),
+        Act::Reprocess(who, which) => ask_to_reprocess(alloc, book, who, which),
+        Act::Withdraw(who, which) => ask_to_withdraw(alloc, book, who, which),
         Act::Raw(who, which) => annotations(alloc, book, who, which),
         Act::Processed(who, which) => report(alloc, book, who, which),
         Act::Dump(who, which, name) => dump(alloc, book, who, which, name),
@@ -191,13 +153,9 @@ pub fn called(alloc: Global, book: &mut Book<'_, MemDisk, Bare>, act: Act) -> Re
     }
 }
 
-/// The same through `ask` of the commands that are prepared or ask for the permission to operate.
+/// The same through `ask` of the commands that ask for the permission to operate.
 pub fn asked(alloc: Global, book: &mut Book<'_, MemDisk, Bare>, act: Act) -> Result<Reply, Fail> {
     match act {
-        Act::Submit(which) => ask_to_submit(alloc, book, which),
-        Act::Priority(who, which) => ask_to_prioritise(alloc, book, who, which),
-        Act::Reprocess(who, which) => ask_to_reprocess(alloc, book, who, which),
-        Act::Withdraw(who, which) => ask_to_withdraw(alloc, book, who, which),
         Act::Turn(who) => ask_for_a_turn(alloc, book, who),
         Act::Drain(who) => ask_to_drain(alloc, book, who),
         _ => called(alloc, book, act),

@@ -2,7 +2,7 @@
 ghost use Rattle.std.specs.Prelude.{◌≤◌};
 
 use super::acts::{Answer, told};
-use super::{FIREFOX, LIMITS, crash, disk, opened};
+use super::{FIREFOX, LIMITS, crash, disk, opened, submitted};
 use soc_book::{Book, Restored};
 use soc_edge::MemDisk;
 use soc_schema::Bare;
@@ -30,9 +30,9 @@ fn sent_thrice(alloc: Global, disk: &mut MemDisk) -> Result<Option<Thrice>, Fail
         return Ok(None);
     };
     let mut book = Book::over(alloc, disk, &Bare, LIMITS, restored);
-    let first = told(&book.submit(crash(alloc, FIREFOX)?));
-    let second = told(&book.submit(crash(alloc, FIREFOX)?));
-    let last = told(&book.submit(crash(alloc, FIREFOX)?));
+    let first = told(&submitted(&mut book, crash(alloc, FIREFOX)?));
+    let second = told(&submitted(&mut book, crash(alloc, FIREFOX)?));
+    let last = told(&submitted(&mut book, crash(alloc, FIREFOX)?));
     Ok(Some(Thrice {
         faults: fault(first) + fault(second) + fault(last),
         last,

@@ -1,7 +1,7 @@
 //! A book over a disk that tells nothing, and that another program writes to.
 
 use super::acts::{Answer, told, with};
-use super::{FIREFOX, LIMITS, crash, disk, opened};
+use super::{FIREFOX, LIMITS, crash, disk, opened, submitted};
 use crate::expect::same;
 use crate::lost::{Zeroed, disk_of_zeros};
 use soc_edge::Counted;
@@ -15,11 +15,11 @@ fn answers(alloc: Global, disk: &mut Counted<Zeroed>) -> Result<([Answer; 5], u3
     let again = crash(alloc, FIREFOX)?;
     let mut book = opened(alloc, disk, &Bare, LIMITS)?;
     let id = raw.id;
-    let stored = book.submit(raw);
+    let stored = submitted(&mut book, raw);
     let shown = book.raw(&with(Permission::Public), id);
     let turned = book.turn();
     let drained = book.drain();
-    let repeated = book.submit(again);
+    let repeated = submitted(&mut book, again);
     let answers = [
         told(&stored),
         told(&shown),

@@ -2,10 +2,10 @@ use Rattle.std.proofs.Common.{◌≡◌, ap, refl, sym, ◌∙◌}
 use Rattle.std.specs.Prelude.{None}
 use Rattle.soc_edge.specs.Ahead.{outlook}
 use Rattle.soc_edge.specs.Disk.{GoesOn}
-use Rattle.soc_book.specs.inner.Stands.{Stands}
-use Rattle.soc_book.specs.Openings.{OpensBook}
+use Rattle.soc_book.specs.Books.{StandsFor}
+use Rattle.soc_book.proofs.Openings.{opens_over}
 use Rattle.soc_edge.specs.World.{surroundings}
-use Rattle.soc_replay.proofs.ServingLemmas.{from_streams, kept_along, keep_cause, moved, moved_disk, opens_cause, runs_not, served_on, serves_journal}
+use Rattle.soc_replay.proofs.ServingLemmas.{from_streams, kept_along, keep_cause, moved_disk, opens_cause, runs_not, served_on, serves_journal}
 use Rattle.soc_replay.proofs.serving.serve.Goals as goal
 
 pub returns-in-Err-clause-runs : goal.returns-in-Err-clause-runs
@@ -17,23 +17,21 @@ returns-in-Err-clause-cause g c = opens_cause _ _ c.in-Err.end (c.in-Err.ensures
 pub returns-clause-runs : goal.returns-clause-runs
 returns-clause-runs g c =
     let kept : c.session-end.new.desk.vault.disk.ghost_name ≡ c.over-book.result.vault.disk.ghost_name =
-    kept_along _ (λ book. book.vault.disk.ghost_name ≡ c.over-book.result.vault.disk.ghost_name) (λ desk desk' command receipt asked same. asked.0 ∙ same)
+    kept_along _ (λ book. book.vault.disk.ghost_name ≡ c.over-book.result.vault.disk.ghost_name) (λ desk desk' command receipt asked same. asked.0.same_disk ∙ same)
     c.session-end.ensures.serves.responses c.over-book.result c.session-end.new.desk c.session-end.ensures.serves.runs refl in
     let lent = sym c.over-book.ensures.same_disk ∙ (sym kept ∙ (sym c.keep_after-keeping.ensures.same_disk ∙ sym c.into_disk-disk.ensures.same_disk)) in
     served_on g.D.Disk.state _ c.keep_after-keeping.new.book.vault.disk.now (c.disk-1.given.1 lent ∙ c.into_disk-disk.ensures.disk) _ _ (g.X.Tells.told c.session-end.new.link) _ _ _
     (serves_journal _ (λ book. g.D.Disk.state book.vault.disk.now) (λ book. g.met.D.Disk.sound book.vault.disk.now)
     (g.R.Reporter.row_of c.args.reporter.now) (g.R.Reporter.digest_of c.args.reporter.now)
     (λ book. book.reporter.now ≡ c.args.reporter.now)
-    (λ book basis state. Stands basis book.limits book.ledger book.store book.doubt book.vault.journal (g.D.Disk.state book.vault.disk.now) state)
-    (λ desk desk' command receipt asked same. (asked.2 ∙ same, λ basis state rows stands. asked.3 basis state (rows ∙ sym (ap g.R.Reporter.row_of same)) stands))
+    (λ book basis state. StandsFor basis book state)
+    (λ desk desk' command receipt asked same. (asked.0.reporter ∙ same, λ basis state rows stands. asked.1 basis state (rows ∙ sym (ap g.R.Reporter.row_of same)) stands))
     c.args.setup.now
     (surroundings (g.X.Tells.told c.args.streams.now) (g.D.Disk.state c.args.disk.now) (outlook (g.C.Clock.told c.args.clock.now) (g.W.Draws.told c.args.draws.now)))
     (surroundings (g.X.Tells.told c.session-end.new.link) (g.D.Disk.state c.keep_after-keeping.new.book.vault.disk.now) (outlook (g.C.Clock.told c.session-end.new.clock) (g.W.Draws.told c.session-end.new.draws)))
     c.over-book.result c.session-end.new.desk c.session-end.result c.keep_after-keeping.result _
     c.over-book.ensures.reporter
-    (λ basis is. moved (λ limits ledger rows pending journal disk. OpensBook basis (g.D.Disk.state c.args.disk.now) (g.D.Disk.state disk) (Stands basis limits ledger rows pending journal (g.D.Disk.state disk)))
-    c.over-book.ensures.limits c.over-book.ensures.ledger c.over-book.ensures.store c.over-book.ensures.doubt c.over-book.ensures.journal c.over-book.ensures.disk
-    (c.in-Ok-open.ensures.opens basis is))
+    (λ basis is. opens_over g.D.Disk.state c.over-book.ensures.disk (c.over-book.ensures.stands basis) (c.in-Ok-open.ensures.opens basis is))
     (moved_disk (λ disk. GoesOn (g.D.Disk.state c.args.disk.now) (g.D.Disk.state disk)) c.over-book.ensures.disk c.open.ensures.goes_on)
     (from_streams g.X.Tells.told _ _ c.over-book.result _ _ _ _ c.in-Ok-open.ensures.output c.session-end.ensures.serves)
     (λ same basis state rows digest stands. c.keep_after-keeping.ensures.keeps basis state (rows ∙ sym (ap g.R.Reporter.row_of same)) (digest ∙ sym (ap g.R.Reporter.digest_of same)) stands)

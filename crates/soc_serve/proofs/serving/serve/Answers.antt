@@ -8,12 +8,11 @@ use Rattle.soc_edge.specs.Ahead.{Outlook, outlook}
 use Rattle.soc_edge.specs.Disk.{GoesOn}
 use Rattle.soc_desk.specs.Basis.{Basis}
 use Rattle.soc_desk.specs.State.{State}
-use Rattle.soc_book.proofs.Standing.{images_allowed}
-use Rattle.soc_book.specs.inner.Stands.{Stands}
-use Rattle.soc_book.specs.Openings.{OpensBook}
+use Rattle.soc_book.specs.Books.{StandsFor}
+use Rattle.soc_book.proofs.Openings.{opens_over}
+use Rattle.soc_book.proofs.Standing.{allowed_in}
 use Rattle.soc_turns.proofs.Crossing.{shared_send}
 use Rattle.soc_edge.specs.World.{surroundings}
-use Rattle.soc_replay.proofs.ServingLemmas.{moved}
 use Rattle.soc_serve.specs.inner.Serving.{ClosesBook}
 use Rattle.soc_serve.proofs.Hostings.{not_served, serves_desk, served_on}
 use Rattle.soc_serve.proofs.serving.serve.Goals as goal
@@ -60,8 +59,7 @@ returns-clause-serves g c =
     first.limits second.limits first.ledger second.ledger first.store second.store first.doubt second.doubt first.vault.journal second.vault.journal
     (g.D.Disk.state first.vault.disk.now) (g.D.Disk.state second.vault.disk.now) (g.D.Disk.state shared.opened.value)
     e.limits
-    (λ basis is. moved (λ limits ledger rows pending journal disk. OpensBook basis (g.D.Disk.state c.args.disk.now) (g.D.Disk.state disk) (Stands basis limits ledger rows pending journal (g.D.Disk.state disk)))
-    e.limits e.ledger e.store e.doubt e.journal e.disk (c.in-Ok-open.ensures.opens basis is))
+    (λ basis is. opens_over g.D.Disk.state e.disk (e.stands basis) (c.in-Ok-open.ensures.opens basis is))
     shared.stands shared.goes_on
     (∥∥₁_map together (λ t. record {
       gains = t.gains;
@@ -73,13 +71,13 @@ returns-clause-serves g c =
     (λ basis state rows digest stands.
     let over =
     subst (λ book. (basis : Basis) (state : State) → basis.row_of ≡ g.Q.Reporter.row_of book.reporter.now → basis.digest ≡ g.Q.Reporter.digest_of book.reporter.now
-    → Stands basis book.limits book.ledger book.store book.doubt book.vault.journal (g.D.Disk.state book.vault.disk.now) state
-    → (swept : State) × Stands basis c.close-end.new.book.limits c.close-end.new.book.ledger c.close-end.new.book.store c.close-end.new.book.doubt c.close-end.new.book.vault.journal (g.D.Disk.state c.close-end.new.book.vault.disk.now) swept
+    → StandsFor basis book state
+    → (swept : State) × StandsFor basis c.close-end.new.book swept
     × ((early late : Outlook) → ClosesBook (surroundings (g.K.Tells.told c.open.new.output) (g.D.Disk.state book.vault.disk.now) early)
     (surroundings (g.K.Tells.told c.close-end.new.output) (g.D.Disk.state c.close-end.new.book.vault.disk.now) late) end basis state swept))
     c.into_book-book.ensures c.close-end.ensures.closes basis state rows digest stands in (
       over.0,
-      (λ told image left. images_allowed basis _ _ over.0.log over.0.doubt (over.1.told told) image left),
+      allowed_in over.1,
       subst (λ o. ClosesBook (surroundings (g.K.Tells.told o) (g.D.Disk.state second.vault.disk.now) before)
           (surroundings (g.K.Tells.told c.close-end.new.output) (g.D.Disk.state c.close-end.new.book.vault.disk.now) after) end basis state over.0)
           c.in-Ok-open.ensures.output (over.2 before after),

@@ -3,10 +3,9 @@ use Rattle.std.proofs.Common.{◌≡◌, IsTrue, ap, ◌∙◌, subst}
 use Rattle.std.specs.Prelude.{IfOk}
 use Rattle.std.proofs.Crossing.{crosses}
 use Rattle.std.proofs.Math.Logic.{∥∥₁_map}
-use Rattle.soc_edge.specs.DiskLog.{disk_told}
 use Rattle.soc_desk.specs.Basis.{Basis}
 use Rattle.soc_desk.specs.State.{State}
-use Rattle.soc_book.specs.inner.Stands.{Stands}
+use Rattle.soc_book.specs.Books.{StandsFor, reporter_of}
 use Rattle.soc_turns.proofs.Crossing.{shared_send}
 use Rattle.soc_serve.specs.Storm.{Subsides}
 use Rattle.soc_serve.proofs.Storms.{plays_ok}
@@ -23,11 +22,8 @@ serve_together-book-requires-send-T g c κs within =
 pub returns : goal.returns
 returns g c =
     let shared = c.serve_together-book.result.desk in
-    let book = shared.book in
-    plays_ok (g.P.Reporter.row_of c.args.setting.reporter.now) (g.P.Reporter.row_of book.reporter.now) (g.P.Reporter.digest_of c.args.setting.reporter.now) (g.P.Reporter.digest_of book.reporter.now)
-    c.args.limits book.limits c.args.words.now.count book.ledger book.store book.doubt book.vault.journal (disk_told book.vault.disk.now) c.sum_up-text.result
-    (subst (λ b. IfOk c.sum_up-text.result (λ text. (basis : Basis) (state : State) → basis.row_of ≡ g.P.Reporter.row_of b.reporter.now → IsTrue basis.is_told
-    → Stands basis b.limits b.ledger b.store b.doubt b.vault.journal (disk_told b.vault.disk.now) state → Subsides basis state c.args.words.now.count text))
+    plays_ok (g.P.Reporter.row_of c.args.setting.reporter.now) (g.P.Reporter.digest_of c.args.setting.reporter.now) c.args.limits c.args.words.now.count shared.book c.sum_up-text.result
+    (subst (λ b. IfOk c.sum_up-text.result (λ text. (basis : Basis) (state : State) → basis.row_of ≡ g.P.Reporter.row_of (reporter_of b) → IsTrue basis.is_told → StandsFor basis b state → Subsides basis state c.args.words.now.count text))
     c.into_book-book.ensures c.sum_up-text.ensures.subsides)
     shared.stands
     (∥∥₁_map c.serve_together-book.ensures.ends (λ t. record {

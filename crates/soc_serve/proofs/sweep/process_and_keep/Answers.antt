@@ -7,7 +7,7 @@ use Rattle.soc_serve.proofs.sweep.process_and_keep.Goals as goal
 pub returns-in_err-keep-clause-ends : goal.returns-in_err-keep-clause-ends
 returns-in_err-keep-clause-ends g c basis state rows digest stands =
     let first = c.drain-processed.ensures.ends basis state rows stands in
-    let kept = c.in_err-keep.ensures.ends basis first.0 (rows ∙ sym (ap g.R.Reporter.row_of c.drain-processed.ensures.reporter)) (digest ∙ sym (ap g.R.Reporter.digest_of c.drain-processed.ensures.reporter)) first.1 in
+    let kept = c.in_err-keep.ensures.ends basis first.0 (rows ∙ sym (ap g.R.Reporter.row_of c.drain-processed.ensures.setting.reporter)) (digest ∙ sym (ap g.R.Reporter.digest_of c.drain-processed.ensures.setting.reporter)) first.1 in
     let behind = drain_behind basis state _ _ first.0 _ first.2 in
     let p = err_from_is_err_and c.from_residual.result c.from_residual.ensures.1 in
     (kept.0, kept.1, rw (p.1, p.2) (fails_behind basis state first.0 kept.0 _ _ _ _ first.3 behind kept.2.0, λ is. inl (keeping_behind basis state first.0 kept.0 behind (kept.2.1 is))), GoesOn-append _ _ _ first.3 kept.3)
@@ -15,5 +15,5 @@ returns-in_err-keep-clause-ends g c basis state rows digest stands =
 pub returns-clause-ends : goal.returns-clause-ends
 returns-clause-ends g c basis state rows digest stands =
     let first = c.drain-processed.ensures.ends basis state rows stands in
-    let kept = c.in_ok-keep.ensures.ends basis first.0 (rows ∙ sym (ap g.R.Reporter.row_of c.drain-processed.ensures.reporter)) (digest ∙ sym (ap g.R.Reporter.digest_of c.drain-processed.ensures.reporter)) first.1 in
+    let kept = c.in_ok-keep.ensures.ends basis first.0 (rows ∙ sym (ap g.R.Reporter.row_of c.drain-processed.ensures.setting.reporter)) (digest ∙ sym (ap g.R.Reporter.digest_of c.drain-processed.ensures.setting.reporter)) first.1 in
     (kept.0, kept.1, ends_both basis state first.0 kept.0 _ _ _ _ kept.2.0 first.2 kept.3 kept.2.1, GoesOn-append _ _ _ first.3 kept.3)

@@ -16,7 +16,7 @@ pub returns-in-Ok-clause-appended : goal.returns-in-Ok-clause-appended
 returns-in-Ok-clause-appended g c basis log kept stands is next same =
     let s = c.args.self.now in
     let e = c.in-Ok.ensures in
-    append_ok basis s.limits s.ledger s.store s.doubt s.vault.journal (g.D.Disk.state s.vault.disk.now) log stands (none_waits s.ledger s.vault.journal s.doubt s.safe c.requires.settled) c.args.change c.requires.fits kept is next
+    append_ok stands (none_waits s.ledger s.vault.journal s.doubt s.safe c.requires.settled) c.args.change c.requires.fits kept is next
     c.args.entry.now same (g.D.Disk.state c.keep.new.self.disk.now) e.goes_on e.any_moment
     c.in-Ok.place c.push.new.ledger c.push.new.store c.keep.new.self.journal (length (entry_text c.args.entry.now)) e.place (λ over. written_fits (Ok c.in-Ok.place) c.in-Ok.place refl (e.full.1 over)) e.journal c.push.ensures e.kept
 
@@ -24,7 +24,7 @@ pub returns-in-Err-StoreFault-clause-appended : goal.returns-in-Err-StoreFault-c
 returns-in-Err-StoreFault-clause-appended g c basis log kept stands is next same =
     let s = c.args.self.now in
     let e = rw c.in-Err-StoreFault.field-0-is at c.in-Err-StoreFault.ensures in
-    append_fails basis s.limits s.ledger s.store s.doubt s.vault.journal (g.D.Disk.state s.vault.disk.now) log stands (none_waits s.ledger s.vault.journal s.doubt s.safe c.requires.settled) c.args.change c.requires.fits kept is next
+    append_fails stands (none_waits s.ledger s.vault.journal s.doubt s.safe c.requires.settled) c.args.change c.requires.fits kept is next
     c.args.entry.now same (g.D.Disk.state c.keep.new.self.disk.now) e.goes_on e.any_moment
     c.keep.new.self.journal (length (entry_text c.args.entry.now)) (λ over. failed_fits (Err StoreFault) refl (e.full.1 over)) (e.doubt refl) (e.cause refl) (e.in_doubt refl)
 
@@ -32,6 +32,6 @@ pub returns-in-Err-JournalFull-clause-appended : goal.returns-in-Err-JournalFull
 returns-in-Err-JournalFull-clause-appended g c basis log kept stands is next same =
     let s = c.args.self.now in
     let e = rw c.in-Err-JournalFull.field-0-is at c.in-Err-JournalFull.ensures in
-    append_full basis s.limits s.ledger s.store s.doubt s.vault.journal (g.D.Disk.state s.vault.disk.now) log stands (none_waits s.ledger s.vault.journal s.doubt s.safe c.requires.settled) c.args.change c.requires.fits kept is next
+    append_full stands (none_waits s.ledger s.vault.journal s.doubt s.safe c.requires.settled) c.args.change c.requires.fits kept is next
     c.args.entry.now same (g.D.Disk.state c.keep.new.self.disk.now) e.goes_on e.any_moment
     c.keep.new.self.journal (g.met.D.Disk.sound s.vault.disk.now) (e.full.0 refl) (e.full_journal refl) (ap g.D.Disk.state (e.full_disk refl))

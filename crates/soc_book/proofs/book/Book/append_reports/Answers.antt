@@ -12,7 +12,7 @@ returns-in-Ok-clause-appended g c basis log first more stands are next same =
     let s = c.args.self.now in
     let e = c.in-Ok.ensures in
     let pushed = c.push_reports.ensures ∙ ap (λ (numbers : List ℕ). with_reports s.ledger numbers) c.as_slice.ensures.value in
-    all_ok basis s.limits s.ledger s.store s.doubt s.vault.journal (g.D.Disk.state s.vault.disk.now) log stands (none_waits s.ledger s.vault.journal s.doubt s.safe c.requires.settled) (P.Reports c.args.numbers) c.requires.fits first more are next
+    all_ok stands (none_waits s.ledger s.vault.journal s.doubt s.safe c.requires.settled) (P.Reports c.args.numbers) c.requires.fits first more are next
     c.args.entries.now (λ is_told. same) (g.D.Disk.state c.keep_all.new.self.disk.now) e.any_moment c.requires.room e.goes_on
     _ c.push_reports.new.ledger s.store c.keep_all.new.self.journal (length (entries_text c.args.entries.now)) e.place e.journal (pushed, refl) e.kept
 
@@ -20,7 +20,7 @@ pub returns-in-Err-StoreFault-clause-appended : goal.returns-in-Err-StoreFault-c
 returns-in-Err-StoreFault-clause-appended g c basis log first more stands are next same =
     let s = c.args.self.now in
     let e = rw c.in-Err-StoreFault.field-0-is at c.in-Err-StoreFault.ensures in
-    all_fail basis s.limits s.ledger s.store s.doubt s.vault.journal (g.D.Disk.state s.vault.disk.now) log stands (none_waits s.ledger s.vault.journal s.doubt s.safe c.requires.settled) (P.Reports c.args.numbers) c.requires.fits first more are next
+    all_fail stands (none_waits s.ledger s.vault.journal s.doubt s.safe c.requires.settled) (P.Reports c.args.numbers) c.requires.fits first more are next
     c.args.entries.now (λ is_told. same) (g.D.Disk.state c.keep_all.new.self.disk.now) e.any_moment c.requires.room e.goes_on
     c.keep_all.new.self.journal (length (entries_text c.args.entries.now)) (e.doubt refl) (e.cause refl) (e.in_doubt refl)
 

@@ -6,4 +6,4 @@ pub returns-clause-writes : goal.returns-clause-writes
 returns-clause-writes g c basis log stands =
     let s = c.args.self.now in
     c.write.ensures.writes basis log (ask c.args.id) stands c.requires.held.id_is
-    (ask_legal basis s.limits s.ledger s.store s.doubt s.vault.journal (g.D.Disk.state s.vault.disk.now) log stands c.args.id c.args.number c.requires.held) (λ is_told. c.requires.entry)
+    (ask_legal stands c.args.id c.args.number c.requires.held) (λ is_told. c.requires.entry)

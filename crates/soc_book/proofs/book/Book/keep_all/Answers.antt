@@ -2,6 +2,7 @@ use Rattle.std.proofs.Common.{refl, ◌∙◌, ap, length, arith}
 use Rattle.std.proofs.lemmas.Result.{err_from_is_err_and}
 use Rattle.soc_desk.specs.State.{State, settled}
 use Rattle.soc_book.specs.inner.Stands.{Stands}
+use Rattle.soc_book.proofs.Settings.{same_setting}
 use Rattle.soc_book.proofs.Keepings.{all_kept, batch_refused, begins_keeping, count_here, memory_wanted, next_kept}
 use Rattle.soc_book.proofs.book.Book.keep_all.Goals as goal
 
@@ -9,14 +10,12 @@ pub loop-number-init : goal.loop-number-init
 loop-number-init g c =
     let s = c.args.self.now in
     record {
-      same_disk = refl;
-      limits = refl;
-      reporter = refl;
+      setting = record { same_disk = refl; limits = refl; reporter = refl };
       no_doubt = c.requires;
       crashes = refl;
       within = omega arith;
       count = omega arith;
-      keeps = λ basis log digest tell stands. (log, stands, begins_keeping basis s.limits s.ledger s.store s.doubt s.vault.journal (g.D.Disk.state s.vault.disk.now) log stands (g.met.D.Disk.sound s.vault.disk.now));
+      keeps = λ basis log digest tell stands. (log, stands, begins_keeping stands (g.met.D.Disk.sound s.vault.disk.now));
     }
 
 pub loop-number-preserved : goal.loop-number-preserved
@@ -30,9 +29,7 @@ loop-number-preserved g c =
     let few = i.count in
     let counted = c.in_ok-kept.ensures.count in
     record {
-      same_disk = c.keep_batch.ensures.same_disk ∙ i.same_disk;
-      limits = c.keep_batch.ensures.limits ∙ i.limits;
-      reporter = c.keep_batch.ensures.reporter ∙ i.reporter;
+      setting = same_setting i.setting c.keep_batch.ensures.setting;
       no_doubt = c.in_ok-kept.ensures.settled;
       crashes = ap (λ x. length x) c.keep_batch.ensures.crashes ∙ i.crashes;
       within = omega (arith, next.1, same);
@@ -56,7 +53,7 @@ returns-in_err-batch-clause-keeps g c basis log digest tell stands =
       settled before.0,
       before.1,
       memory_wanted basis c.args.digest.now digest log c.loop-number.number c.loop-number.kept before.0 (g.D.Disk.state c.args.self.now.vault.disk.now) (g.D.Disk.state s.vault.disk.now) before.2
-          (c.in_err-batch.ensures.left basis before.0 digest tell before.1),
+          (c.in_err-batch.ensures.gathered basis before.0 digest tell before.1),
     )
 
 pub returns-in_err-kept-clause-keeps : goal.returns-in_err-kept-clause-keeps

@@ -5,7 +5,7 @@ use Rattle.soc_desk.specs.State.{entries_of, settled}
 use Rattle.soc_book.specs.inner.Keepings.{with_all}
 use Rattle.soc_book.specs.inner.Stands.{AreReports}
 use Rattle.soc_book.proofs.Gatherings.{batch_done, batch_empty, batch_fails, batch_unmade, no_reports, reports_roomy, reports_there, some_reports}
-use Rattle.soc_book.proofs.Standing.{stands_roomier}
+use Rattle.soc_book.proofs.Quiets.{stands_roomy}
 use Rattle.soc_book.proofs.book.Book.keep_batch.Goals as goal
 
 pub returns-then-count-eq0-clause-keeps : goal.returns-then-count-eq0-clause-keeps
@@ -15,7 +15,7 @@ returns-then-count-eq0-clause-keeps g c basis log reports stands are legal same 
     let count = c.len-count.ensures in (
       settled log,
       stands,
-      batch_empty basis s.limits s.ledger s.store s.doubt s.vault.journal (g.D.Disk.state s.vault.disk.now) log stands (g.met.D.Disk.sound s.vault.disk.now) reports
+      batch_empty stands (g.met.D.Disk.sound s.vault.disk.now) reports
           (no_reports basis log s.ledger c.args.batch.numbers.items reports (omega (arith, none, count)) are),
     )
 
@@ -27,8 +27,8 @@ returns-in_err-make_room-clause-keeps g c basis log reports stands are legal sam
     let p = err_from_is_err_and c.from_residual.result c.from_residual.ensures.1 in
     rw (p.1, p.2, c.in_err-make_room.ensures.0) (
       settled log,
-      stands_roomier basis s.limits s.ledger c.make_room.new.ledger s.store s.doubt s.vault.journal (g.D.Disk.state s.vault.disk.now) (settled log) s.ledger.room c.in_err-make_room.ensures.1 stands,
-      batch_unmade basis s.limits s.ledger s.store s.doubt s.vault.journal (g.D.Disk.state s.vault.disk.now) log stands (g.met.D.Disk.sound s.vault.disk.now) reports (reports_there basis log s.ledger c.args.batch.numbers.items reports (λ none. some (omega (arith, none, count))) are),
+      stands_roomy c.in_err-make_room.ensures.1 stands,
+      batch_unmade stands (g.met.D.Disk.sound s.vault.disk.now) reports (reports_there basis log s.ledger c.args.batch.numbers.items reports (λ none. some (omega (arith, none, count))) are),
     )
 
 pub returns-in_err-append_reports-clause-keeps : goal.returns-in_err-append_reports-clause-keeps
@@ -37,7 +37,7 @@ returns-in_err-append_reports-clause-keeps g c basis log reports stands are lega
     let some = c.if-count-eq0.false in
     let count = c.len-count.ensures in
     let first = some_reports basis log s.ledger c.args.batch.numbers.items reports (λ none. some (omega (arith, none, count))) are in
-    let roomy = stands_roomier basis s.limits s.ledger c.make_room.new.ledger s.store s.doubt s.vault.journal (g.D.Disk.state s.vault.disk.now) (settled log) c.make_room.new.ledger.room c.in_ok-make_room.ensures.0 stands in
+    let roomy = stands_roomy c.in_ok-make_room.ensures.0 stands in
     let waits = reports_roomy basis log s.ledger c.make_room.new.ledger c.args.batch.numbers.items reports c.in_ok-make_room.ensures.0 are in
     let did = c.in_err-append_reports.ensures.appended basis log first.0 first.1 roomy
     (subst (λ (k : List Kept). AreReports basis log c.make_room.new.ledger c.args.batch.numbers.items k) first.2 waits)
@@ -55,7 +55,7 @@ returns-clause-keeps g c basis log reports stands are legal same =
     let some = c.if-count-eq0.false in
     let count = c.len-count.ensures in
     let first = some_reports basis log s.ledger c.args.batch.numbers.items reports (λ none. some (omega (arith, none, count))) are in
-    let roomy = stands_roomier basis s.limits s.ledger c.make_room.new.ledger s.store s.doubt s.vault.journal (g.D.Disk.state s.vault.disk.now) (settled log) c.make_room.new.ledger.room c.in_ok-make_room.ensures.0 stands in
+    let roomy = stands_roomy c.in_ok-make_room.ensures.0 stands in
     let waits = reports_roomy basis log s.ledger c.make_room.new.ledger c.args.batch.numbers.items reports c.in_ok-make_room.ensures.0 are in
     let did = c.in_ok-append_reports.ensures.appended basis log first.0 first.1 roomy
     (subst (λ (k : List Kept). AreReports basis log c.make_room.new.ledger c.args.batch.numbers.items k) first.2 waits)

@@ -1,6 +1,7 @@
 use Rattle.std.proofs.Common.{sym, ◌∙◌}
 use Rattle.soc_desk.specs.State.{settled}
-use Rattle.soc_book.proofs.Keepings.{allowed_in, nothing_kept}
+use Rattle.soc_book.proofs.Keepings.{nothing_kept}
+use Rattle.soc_book.proofs.Standing.{allowed_in}
 use Rattle.soc_book.proofs.book.Book.keep_settled.Goals as goal
 
 pub returns-in-Some-clause-keeps : goal.returns-in-Some-clause-keeps
@@ -12,5 +13,5 @@ returns-in-None-clause-keeps g c basis log digest tell stands =
       settled log,
       stands,
       nothing_kept basis log (g.D.Disk.state s.vault.disk.now) (digest ∙ (sym c.digest.ensures ∙ c.in-None.is)) (g.met.D.Disk.sound s.vault.disk.now)
-          (allowed_in basis s.limits s.ledger s.store s.doubt s.vault.journal (g.D.Disk.state s.vault.disk.now) (settled log) stands),
+          (allowed_in stands),
     )

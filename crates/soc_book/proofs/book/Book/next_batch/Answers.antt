@@ -38,7 +38,7 @@ loop-batch-preserved g c =
           (more.0, subst (λ n. HasGathered basis log s.ledger c.args.from (n + 1) c.gather.new.batch.numbers.items c.gather.new.batch.entries.items more.0) (sym next) more.1);
     }
 
-pub returns-in-Err-2-clause-left : goal.returns-in-Err-2-clause-left
-returns-in-Err-2-clause-left g c basis log digest tell stands =
+pub returns-in-Err-2-clause-gathered : goal.returns-in-Err-2-clause-gathered
+returns-in-Err-2-clause-gathered g c basis log digest tell stands =
     let before = c.loop-batch.invariant.gathered basis log digest tell stands in
     c.in-Err-2.ensures.gathered basis log c.args.from before.0 digest tell stands before.1

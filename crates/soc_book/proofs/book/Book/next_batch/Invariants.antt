@@ -2,8 +2,8 @@ use Rattle.std.proofs.Common.{◌≡◌, ◌⊎◌, ◌+◌, ◌-◌, ◌<◌, �
 use Rattle.soc_desk.specs.Basis.{Basis, RowsTell}
 use Rattle.soc_desk.specs.Log.{Change, Kept}
 use Rattle.soc_desk.specs.State.{settled}
+use Rattle.soc_book.specs.Books.{StandsFor}
 use Rattle.soc_book.specs.inner.Keepings.{HasGathered, IsBatch}
-use Rattle.soc_book.specs.inner.Stands.{Stands}
 use Rattle.soc_book.proofs.book.Book.next_batch.Given as goal
 
 abbrev pub invariant-loop-batch : goal.invariant-loop-batch
@@ -15,7 +15,7 @@ invariant-loop-batch g l =
       few : l.fn.from + length l.batch.numbers.items ≤ l.batch.next;
       within : l.batch.next ≤ length s.ledger.crashes;
       gathered : (basis : Basis) (log : List Change) → basis.digest ≡ Some l.digest → RowsTell basis
-          → Stands basis s.limits s.ledger s.store s.doubt s.vault.journal (g.D.Disk.state s.vault.disk.now) (settled log)
+          → StandsFor basis s (settled log)
           → (reports : List Kept) × HasGathered basis log s.ledger l.fn.from l.batch.next l.batch.numbers.items l.batch.entries.items reports;
     }
 

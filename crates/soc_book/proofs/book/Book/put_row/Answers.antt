@@ -2,8 +2,8 @@ use Rattle.std.proofs.Common.{refl, ap, ◌∙◌}
 use Rattle.soc_ledger.specs.declared.event.Event.TheVariants.{Done}
 use Rattle.soc_ledger.specs.State.{id_of}
 use Rattle.soc_store.specs.Stored.{with_row}
-use Rattle.soc_book.proofs.Quiets.{safe_after}
-use Rattle.soc_book.proofs.Turnings.{stands_finished, stands_roomy}
+use Rattle.soc_book.proofs.Quiets.{safe_after, stands_roomy}
+use Rattle.soc_book.proofs.Turnings.{stands_finished}
 use Rattle.soc_book.proofs.book.Book.put_row.Goals as goal
 
 pub invariant_of-self-2 : goal.invariant_of-self-2
@@ -14,7 +14,7 @@ invariant_of-self-2 g c =
 pub returns-clause-puts : goal.returns-clause-puts
 returns-clause-puts g c = λ basis state is_row stands.
     let put = c.in-Ok.ensures.ok ∙ ap (λ row. with_row (c.args.number, row) c.args.self.now.store) c.with_product-row.ensures in
-    stands_finished _ _ _ _ _ _ _ _ stands c.args.number c.args.row c.make_room.new.ledger c.finish.new.self c.put.new.self c.in_ok-make_room.ensures.0 c.finish.ensures put c.requires.within c.requires.due is_row
+    stands_finished stands c.args.number c.args.row c.make_room.new.ledger c.finish.new.self c.put.new.self c.in_ok-make_room.ensures.0 c.finish.ensures put c.requires.within c.requires.due is_row
 
 pub returns-in_default-clause-puts : goal.returns-in_default-clause-puts
-returns-in_default-clause-puts g c = λ basis state is_row stands. (refl, rw c.in_default.ensures.err (stands_roomy _ _ _ _ _ _ _ _ stands c.make_room.new.ledger c.in_ok-make_room.ensures.0))
+returns-in_default-clause-puts g c = λ basis state is_row stands. (refl, rw c.in_default.ensures.err (stands_roomy c.in_ok-make_room.ensures.0 stands))

@@ -6,7 +6,7 @@ pub returns-in-Ok-clause-does : goal.returns-in-Ok-clause-does
 returns-in-Ok-clause-does g c = λ basis state rows stands. (
   state,
   stands,
-  found _ _ _ _ _ _ _ _ stands _ (Looks-none _ (g.met.D.Disk.sound c.args.self.now.vault.disk.now)) c.args.query.now c.in-Ok.answer (rows_tell basis _ rows (g.met.R.Reporter.tells c.args.self.now.reporter.now))
+  found stands _ (Looks-none _ (g.met.D.Disk.sound c.args.self.now.vault.disk.now)) c.args.query.now c.in-Ok.answer (rows_tell basis _ rows (g.met.R.Reporter.tells c.args.self.now.reporter.now))
       c.caller-caller.ensures.granted c.answers_by_what_is_seen.ensures c.answers_in_any_order.ensures c.in-Ok.ensures,
 )
 

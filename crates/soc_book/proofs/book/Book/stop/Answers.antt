@@ -15,6 +15,6 @@ pub returns-clause-does : goal.returns-clause-does
 returns-clause-does g c = λ basis state stands.
     let none = sym c.is_stopped.ensures ∙ c.if-is_stopped.false in (
       record state { log = state.log ++ stop ∷ [] },
-      stands_stopping _ _ _ _ _ _ _ _ stands c.make_room.new.ledger c.stop.new.self c.in_ok-make_room.ensures.0 c.stop.ensures none,
-      stopped_now _ _ _ _ _ _ _ _ stands _ (Looks-none _ (g.met.D.Disk.sound c.args.self.now.vault.disk.now)) c.args.caller.now c.in_ok-check.ensures none,
+      stands_stopping stands c.make_room.new.ledger c.stop.new.self c.in_ok-make_room.ensures.0 c.stop.ensures none,
+      stopped_now stands _ (Looks-none _ (g.met.D.Disk.sound c.args.self.now.vault.disk.now)) c.args.caller.now c.in_ok-check.ensures none,
     )

@@ -6,6 +6,6 @@ pub returns-in-Ok-clause-does : goal.returns-in-Ok-clause-does
 returns-in-Ok-clause-does g c = λ basis state rows stands. (
   state,
   stands,
-  tops_found _ _ _ _ _ _ _ _ stands _ (Looks-none _ (g.met.D.Disk.sound c.args.self.now.vault.disk.now)) c.args.query.now c.in-Ok.tops (rows_tell basis _ rows (g.met.R.Reporter.tells c.args.self.now.reporter.now))
+  tops_found stands _ (Looks-none _ (g.met.D.Disk.sound c.args.self.now.vault.disk.now)) c.args.query.now c.in-Ok.tops (rows_tell basis _ rows (g.met.R.Reporter.tells c.args.self.now.reporter.now))
       c.tops_by_what_is_seen.ensures c.tops_in_any_order.ensures c.in-Ok.ensures,
 )

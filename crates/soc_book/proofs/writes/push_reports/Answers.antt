@@ -1,5 +1,5 @@
 use Rattle.soc_book.proofs.Standing.{adding_begins, adding_ends, adding_next, adding_one}
-use Rattle.soc_book.proofs.book.push_reports.Goals as goal
+use Rattle.soc_book.proofs.writes.push_reports.Goals as goal
 
 pub loop-number-init : goal.loop-number-init
 loop-number-init c = adding_begins c.args.ledger.now c.args.numbers.now c.requires

@@ -5,7 +5,7 @@ use Rattle.soc_raw.specs.RawCrash.{crash_of}
 use Rattle.soc_raw.specs.Record.{Crash}
 use Rattle.soc_raw.proofs.Records.{same_crash}
 use Rattle.soc_ledger.proofs.Lists.{true_is_not_false}
-use Rattle.soc_book.proofs.book.raw_of_record.Goals as goal
+use Rattle.soc_book.proofs.lookup.raw_of_record.Goals as goal
 
 differs : (a b : List ℕ) → true ≡ not (bytes_eq a b) → a ≡ b → ⊥
 differs a b is same = true_is_not_false (is ∙ ap not ((bytes_eq-Decides a b).1 same))
