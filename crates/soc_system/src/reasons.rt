@@ -2,16 +2,18 @@
 use crate::notices::tell;
 
 /// What the line of a refused file begins with.
-const REFUSED: &str = "refused ";
+const REFUSED: &[u8] = b"refused ";
 
 /// The number in the line of a refused file, such as 111 in `refused settings.toml: 111 colour`.
 pub(crate) fn refusal_in(bytes: &[u8]) -> Option<u8> {
-    let line = str::from_utf8(bytes).ok()?.strip_prefix(REFUSED)?;
-    let (_name, why) = line.trim_end().rsplit_once(": ")?;
+    if !bytes.starts_with(REFUSED) {
+        return None;
+    }
+    let (_file, why) = str::from_utf8(bytes).ok()?.trim_end().rsplit_once(": ")?;
     why.split(' ').next()?.parse().ok()
 }
 
-/// How the program ends: its status, and the number of the file that is refused, where one is.
+/// How the program ends: its status, and the number in the last line that it wrote, where that was one of a refused file.
 #[derive(Clone, Copy, Debug, PartialEq, Eq)]
 pub struct Ending {
     pub status: u8,
@@ -29,7 +31,7 @@ impl Ending {
 
     /// Tells on standard error why it ends so, and what the number of a refused file means.
     pub fn tell<R: Eprint>(self, rt: &R) {
-        if let Some(number) = self.refusal {
+        if let (3 | 5, Some(number)) = (self.status, self.refusal) {
             let reason = refusal_reason(number);
             tell(rt, format_args!("socorro: {number} means: {reason}"));
         }

@@ -139,8 +139,8 @@ fn receive<R: Clock>(
         return Err(ErrorKind::Other.into());
     };
     for _ in 0..u64::MAX {
-        let left = left_of(rt, limits.reading, since)?;
-        match read_within(stream, into, left.min(limits.read)) {
+        let left = left_of(rt, limits.all_reads, since)?;
+        match read_within(stream, into, left.min(limits.one_read)) {
             Err(error) if error.kind() == ErrorKind::Interrupted => {}
             answer => return answer,
         }
@@ -161,8 +161,8 @@ fn send_in_time<R: Clock>(
     ensures some { IfOk result (λ count. 0 < length bytes.now → 0 < count) }
 {
     let since = Instant::now(rt)?;
-    let left = limits.writing.saturating_sub(*written);
-    let answer = send(rt, stream, bytes, left.min(limits.write));
+    let left = limits.all_writes.saturating_sub(*written);
+    let answer = send(rt, stream, bytes, left.min(limits.one_write));
     *written = written.saturating_add(since.elapsed(rt)?);
     answer
 }

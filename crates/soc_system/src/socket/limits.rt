@@ -5,13 +5,13 @@ use std::time::Duration;
 #[derive(Clone, Copy, Debug)]
 pub struct SocketLimits {
     /// The longest wait of one read.
-    pub read: Duration,
+    pub one_read: Duration,
+    /// The time after its accept from which a connection isn't read any longer.
+    pub all_reads: Duration,
     /// The longest time that one write may take.
-    pub write: Duration,
+    pub one_write: Duration,
     /// The longest time that all writes of a connection may take together.
-    pub writing: Duration,
-    /// From when after its accept on a connection isn't read any longer.
-    pub reading: Duration,
+    pub all_writes: Duration,
     /// The longest time in which a connection that is closed is read to its end.
     pub linger: Duration,
     /// The most bytes that are read then.
@@ -24,10 +24,10 @@ impl SocketLimits {
     /// Those of the service.
     pub fn of_service() -> SocketLimits {
         SocketLimits {
-            read: Duration::from_secs(10),
-            write: Duration::from_secs(30),
-            writing: Duration::from_secs(60),
-            reading: Duration::from_secs(300),
+            one_read: Duration::from_secs(10),
+            all_reads: Duration::from_secs(300),
+            one_write: Duration::from_secs(30),
+            all_writes: Duration::from_secs(60),
             linger: Duration::from_secs(2),
             linger_bytes: 16 << 20,
             pause: Duration::from_millis(50),

@@ -13,8 +13,8 @@ use std::time::{Duration, Instant};
 fn short() -> SocketLimits {
     let wait = Duration::from_millis(50);
     SocketLimits {
-        read: wait,
-        write: wait,
+        one_read: wait,
+        one_write: wait,
         linger: wait,
         ..SocketLimits::of_service()
     }
@@ -69,7 +69,7 @@ fn a_silent_client_is_not_waited_for(rt: HostRuntime) -> Result<(), Fail> {
 fn a_connection_is_not_read_for_ever(rt: HostRuntime) -> Result<(), Fail> {
     let alarm = Alarm::new()?;
     let limits = SocketLimits {
-        reading: Duration::ZERO,
+        all_reads: Duration::ZERO,
         ..SocketLimits::of_service()
     };
     let (mut client, mut conn) = connected(&rt, &alarm, limits)?;
@@ -102,7 +102,7 @@ fn a_client_that_does_not_read_is_not_waited_for(rt: HostRuntime) -> Result<(), 
 fn all_writes_together_are_waited_for_so_long(rt: HostRuntime) -> Result<(), Fail> {
     let alarm = Alarm::new()?;
     let limits = SocketLimits {
-        writing: Duration::from_millis(50),
+        all_writes: Duration::from_millis(50),
         ..SocketLimits::of_service()
     };
     let (mut client, mut conn) = connected(&rt, &alarm, limits)?;
