@@ -1,6 +1,7 @@
 #!/usr/bin/env python3
 """Prints how much memory `socorro replay` holds at its peak: for nothing, for a submission of 16 MiB whose bulk is one dump,
-for one whose bulk is a JSON part of short keys, and for a body of 16 MiB that no route takes.
+for one whose bulk is a JSON part of short keys, for one whose bulk is a text that isn't UTF-8, of which each byte is kept as
+three, and for a body of 16 MiB that no route takes.
 usage: bench/peak.py     (the program must be built: `cd crates/socorro && rt run`)"""
 import os
 import re
@@ -27,6 +28,12 @@ def of_one_dump():
     front = part("ProductName", "") + b"Firefox\r\n" + part("upload_file_minidump", '; filename="d"')
     back = b"\r\n--b--\r\n"
     return message("/submit", front + b"x" * (LARGEST - len(front) - len(back)) + back)
+
+
+def of_other_bytes():
+    front = part("ProductName", "") + b"Firefox\r\n" + part("Version", "")
+    back = b"\r\n--b--\r\n"
+    return message("/submit", front + b"\xff" * (LARGEST - len(front) - len(back)) + back)
 
 
 def of_short_keys():
@@ -62,6 +69,7 @@ def main():
     for name, body in [
         ("a dump of 16 MiB", of_one_dump()),
         ("a JSON part of short keys", of_short_keys()),
+        ("a text that isn't UTF-8", of_other_bytes()),
         ("16 MiB on no route", message("/nothing", b"x" * LARGEST)),
     ]:
         most, answer = peak(body)
