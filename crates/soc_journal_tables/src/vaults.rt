@@ -153,7 +153,7 @@ pub fn zeroed(alloc: Global, row: &Row<'_>) -> Result<String, Fault> {
     Ok(text)
 }
 
-/// How many bytes an opening finds of so many entries over a disk that reads ahead, and what the disk answers next.
+/// The bodies that an opening finds of so many entries over a disk that reads ahead, and what the disk answers next.
 pub fn one_pass(alloc: Global, row: &Row<'_>) -> Result<String, Fault> {
     let image = disk_of_many(alloc, row.number("entries")?)?;
     let mut disk = empty_disk(alloc, row)?;

@@ -1,21 +1,12 @@
-//! A disk in memory of which nothing is told, and that loses what it was given.
-use soc_edge::{Counted, Device, Disk, Failed, MemDisk};
+//! A disk of which nothing is told, and that gives zeros.
+use soc_edge::{Device, Disk, Failed, MemDisk};
 
-/// Its calls are counted from 0: from one of them on each read gives zeros.
+/// From a call on, counted from 0, each read gives zeros.
 #[derive(Drop)]
-pub(crate) struct Zeroed {
-    disk: MemDisk,
-    from: u64,
-    calls: u64,
-}
-
-/// A disk whose reads give zeros from its call of this number on.
-pub(crate) fn disk_of_zeros(disk: MemDisk, from: u64) -> Counted<Zeroed> {
-    Counted::new(Zeroed {
-        disk,
-        from,
-        calls: 0,
-    })
+pub struct Zeroed {
+    pub disk: MemDisk,
+    pub from: u64,
+    pub calls: u64,
 }
 
 impl Zeroed {

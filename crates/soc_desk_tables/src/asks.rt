@@ -1,0 +1,65 @@
+//! Acts as commands of a book.
+ghost use Rattle.soc_desk.specs.Kinds.{NeedsNothing};
+
+use crate::acts::{command, processed};
+use crate::replies::reply_text;
+use soc_book::Book;
+use soc_desk::{Command, Desk, Receipt, Reply};
+use soc_edge::Disk;
+use soc_schema::Reporter;
+use soc_tables::{Fault, append, word};
+use std::alloc::Global;
+
+/// The receipt of a command that may be asked at any time.
+fn receipt_of<K: Desk>(desk: &mut K, command: Command) -> Receipt
+    requires { NeedsNothing command }
+{
+    desk.ask(command)
+}
+
+/// The reply to an act.
+pub fn reply_to<D: Disk, R: Reporter>(
+    alloc: Global,
+    book: &mut Book<'_, D, R>,
+    act: &str,
+) -> Result<Reply, Fault> {
+    match word(act, 0) {
+        "keep" => Ok(book.keep()),
+        "finish" => Ok(book.finish(processed(alloc, word(act, 1))?)),
+        _ => Ok(receipt_of(book, command(alloc, act)?).reply),
+    }
+}
+
+/// What acts are answered in order.
+pub fn answers<D: Disk, R: Reporter>(
+    alloc: Global,
+    book: &mut Book<'_, D, R>,
+    acts: &str,
+) -> Result<String, Fault> {
+    let mut text = String::new(alloc);
+    for act in acts.split(',') {
+        let reply = reply_to(alloc, book, act)?;
+        append(&mut text, reply_text(alloc, &reply)?.as_str())?;
+    }
+    Ok(text)
+}
+
+/// The receipts of acts in order: the reply, how many changes there are, and whether the log has a stop.
+pub fn receipts<D: Disk, R: Reporter>(
+    alloc: Global,
+    book: &mut Book<'_, D, R>,
+    acts: &str,
+) -> Result<String, Fault> {
+    let mut text = String::new(alloc);
+    for act in acts.split(',') {
+        let receipt = receipt_of(book, command(alloc, act)?);
+        append(&mut text, receipt_text(alloc, &receipt)?.as_str())?;
+    }
+    Ok(text)
+}
+
+fn receipt_text(alloc: Global, receipt: &Receipt) -> Result<String, Fault> {
+    let stopped = if receipt.stopped { ", stopped" } else { "" };
+    let reply = reply_text(alloc, &receipt.reply)?;
+    Ok(format!(in alloc; "{} at {}{stopped}", reply.as_str(), receipt.front)?)
+}
