@@ -52,14 +52,28 @@ fn first_wrong(
     call: u64,
     count: u64,
 ) -> Result<Option<u64>, Fault> {
+    let mut before = None;
     for choice in CHOICES {
         let fails = calls_from(alloc, call, count)?;
         let Left { output, disk, .. } = play_over(alloc, document, case, fails)?;
-        if !holds_just(alloc, case, text_in(&output)?, disk.stop(choice))? {
+        let disk = disk.stop(choice);
+        if is_same(&before, &disk) {
+            continue;
+        }
+        before = Some(disk.bytes().to_vec(alloc)?);
+        if !holds_just(alloc, case, text_in(&output)?, disk)? {
             return Ok(Some(choice));
         }
     }
     Ok(None)
+}
+
+/// Whether a disk holds the same bytes as the one before.
+fn is_same(before: &Option<Vec<u8>>, disk: &MemDisk) -> bool {
+    match before {
+        Some(bytes) => bytes.as_slice() == disk.bytes(),
+        None => false,
+    }
 }
 
 /// The numbers of so many calls from one on.
