@@ -1,4 +1,4 @@
-mod Carried
+pub mod Carried
 mod Growth
 mod Journaled
 mod Later

@@ -1,6 +1,6 @@
 //! Laws of the lives that follow one another on one disk, whatever they are asked and wherever they are stopped.
 ghost use Rattle.soc_lives.specs.Laws.{KeepsChanges, AcknowledgedStays, RepeatsActOnce, RowsAreOfCrashes, KeptReportsStay, WithdrawnStaysHidden};
-ghost use Rattle.soc_lives.specs.Runs.{GroupsAreCarried, KeepingIsCarried, OpensLife, StopsEndLives};
+ghost use Rattle.soc_lives.specs.Runs.{GroupsAreCarried, KeepingIsCarried, OpensLife, RunsAreLives, StopsEndLives};
 
 use soc_edge::Disk;
 
@@ -49,4 +49,9 @@ pub fn actions_are_carried<D: Disk>()
 /// Each stop of a run from the moment on at which its journal stood ends a life.
 pub fn stops_end_lives<D: Disk>()
     ensures { (last : D) → StopsEndLives (D.state last).since }
+{}
+
+/// A run of a desk from the opening of its journal on is a life, with what is carried behind it.
+pub fn runs_are_lives<D: Disk>()
+    ensures { (last : D) → RunsAreLives (D.state last).since }
 {}

@@ -5,5 +5,5 @@ mod laws;
 
 pub use laws::{
     acknowledged_stays, actions_are_carried, keeps_changes, kept_reports_stay, opens_life,
-    repeats_act_once, rows_are_of_crashes, stops_end_lives, withdrawn_stays_hidden,
+    repeats_act_once, rows_are_of_crashes, runs_are_lives, stops_end_lives, withdrawn_stays_hidden,
 };
