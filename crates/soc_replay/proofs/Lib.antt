@@ -5,6 +5,7 @@ pub mod TextLemmas
 pub mod OpeningLemmas
 pub mod FileLemmas
 pub mod ReplayLemmas
+pub mod LifeLemmas
 pub mod RunLemmas
 pub mod ServingLemmas
 pub mod TaskLemmas

@@ -16,13 +16,13 @@ use Rattle.soc_desk.specs.declared.desk.Reply.{Reply}
 use Rattle.soc_desk.proofs.Views.{true_is_not_false}
 use Rattle.soc_desk.specs.Asks.{Asks}
 use Rattle.soc_desk.specs.Basis.{Basis}
-use Rattle.soc_desk.specs.Keeps.{KeepAllows}
+use Rattle.soc_desk.specs.Laws.{HasAll}
 use Rattle.soc_desk.specs.Log.{Change, Kept}
 use Rattle.soc_desk.specs.Opens.{OpensWith, as_told, log_of}
 use Rattle.soc_desk.specs.State.{State, Allowed, entries_of, kept_of, settled}
 use Rattle.soc_book.proofs.Kept.{kept_of-log, told_all}
 use Rattle.soc_book.specs.Openings.{IsBasisOf, OpensBook}
-use Rattle.soc_replay.proofs.RunLemmas.{IsOver, Outlives, Reaches, goes_on, keeping_has, reaches}
+use Rattle.soc_replay.proofs.RunLemmas.{IsOver, Outlives, Reaches, goes_on, has_kept, keeping_has, reaches}
 use Rattle.soc_session.specs.declared.ending.SessionEnd.{SessionEnd}
 use Rattle.soc_session.specs.declared.ending.SessionEnd.TheVariants.{Ended, Closed, Stopped, Refused, ReadFault, WriteFault, TooLong, NoMemory}
 use Rattle.soc_desk.specs.Runs.{DeskAt}
@@ -39,7 +39,7 @@ use Rattle.soc_replay.specs.Ends.{served_status, session_status, status_of}
 use Rattle.soc_replay.specs.Opening.{OpensNot}
 use Rattle.soc_edge.specs.World.{Surroundings, surroundings}
 use Rattle.soc_replay.specs.Replay.{RunsDesk as DeskRuns}
-use Rattle.soc_replay.specs.Serving.{KeepsBy, ServesJournal, Service, SurvivesStops, keep_reply, keeps_reports, service}
+use Rattle.soc_replay.specs.Serving.{KeepLeaves, KeepsBy, ServesJournal, Service, SurvivesStops, keep_reply, keeps_reports, service}
 use Rattle.soc_replay.specs.inner.Serving.{KeepsDisk}
 
 -- ---- the basis of a run
@@ -91,10 +91,19 @@ keep_goes_on basis last disk disk' None kept is = is.1.goes_on
 keep_goes_on basis last disk disk' (Some reply) kept is = is.goes_on
 
 -- what a stop may leave while reports are kept, and afterwards
-keep_survives : (basis : Basis) (last : State) (disk disk' : DiskTold) (said : Option Reply) (kept : State) → KeepsDisk basis last disk said kept disk' → IsTrue basis.is_told
-    → ((image : List ℕ) → disk.images image → Allowed last image) → (image : List ℕ) → disk'.since disk.moment image → KeepAllows last kept image
-keep_survives basis last disk disk' None kept is told allowed image since = inl (allowed image (is.1.any_moment.each image since))
-keep_survives basis last disk disk' (Some reply) kept is told allowed image since = (is.survives told).each image since
+module _ (basis : Basis) (last kept : State) (disk disk' : DiskTold) where
+  leaves_first : (said : Option Reply) → KeepsDisk basis last disk said kept disk' → (image : List ℕ) → Allowed last image → KeepLeaves last said kept image
+  leaves_first None is image allowed = subst (λ (s : State). Allowed s image) (sym is.0) allowed
+  leaves_first (Some reply) is image allowed = inl allowed
+
+  keep_leaves : (said : Option Reply) → KeepsDisk basis last disk said kept disk' → IsTrue basis.is_told
+      → ((image : List ℕ) → disk.images image → Allowed last image) → (image : List ℕ) → disk'.since disk.moment image → KeepLeaves last said kept image
+  keep_leaves None is told allowed image since = leaves_first None is image (allowed image (is.1.any_moment.each image since))
+  keep_leaves (Some reply) is told allowed image since = (is.survives told).each image since
+
+  leaves_kept : (said : Option Reply) → KeepsDisk basis last disk said kept disk' → (image : List ℕ) → KeepLeaves last said kept image → HasAll (kept_of last.log) image
+  leaves_kept None is image leaves = has_kept last image (subst (λ (s : State). Allowed s image) is.0 leaves)
+  leaves_kept (Some reply) is image leaves = keeping_has last kept image leaves
 
 keep_allows : (basis : Basis) (last : State) (disk disk' : DiskTold) (said : Option Reply) (kept : State) → KeepsDisk basis last disk said kept disk' → IsTrue basis.is_told
     → ((image : List ℕ) → disk.images image → Allowed last image) → (image : List ℕ) → disk'.images image → Allowed kept image
@@ -175,18 +184,19 @@ module _ {K : Type 0} (asks : K → Command → Receipt → K → Type 0) (disk_
     allowed_last : IsTrue basis.is_told → (image : List ℕ) → (disk_of second).images image → Allowed reached.last.state image
     allowed_last told image now = reached.over.holds told image ((sound second).counts_now reached.last.moment image reached.over.within now)
 
-    in_keeping : IsTrue basis.is_told → (image : List ℕ) → after.disk.since reached.last.moment image → KeepAllows reached.last.state kept.0 image
+    in_keeping : IsTrue basis.is_told → (image : List ℕ) → after.disk.since reached.last.moment image → KeepLeaves reached.last.state (keep_reply keeping) kept.0 image
     in_keeping told image left = ⊎_elim
-        (λ early. inl (reached.over.holds told image early))
-        (λ late. keep_survives basis reached.last.state (disk_of second) after.disk (keep_reply keeping) kept.0 kept.1 told (allowed_last told) image late)
+        (λ early. leaves_first basis reached.last.state kept.0 (disk_of second) after.disk (keep_reply keeping) kept.1 image (reached.over.holds told image early))
+        (λ late. keep_leaves basis reached.last.state kept.0 (disk_of second) after.disk (keep_reply keeping) kept.1 told (allowed_last told) image late)
         (keep_on.nothing_else reached.last.moment image reached.over.within left)
 
     outlives : Outlives basis after.disk.since reached.last
-    outlives told image left = keeping_has reached.last.state kept.0 image (in_keeping told image left)
+    outlives told image left = leaves_kept basis reached.last.state kept.0 (disk_of second) after.disk (keep_reply keeping) kept.1 image (in_keeping told image left)
 
     survives : (content : Option (List ℕ)) (stands : IfSome content (λ bytes. StandsSince before.disk (disk_of first) bytes opened.entries))
         → (IsTrue (is_some content) → IsTrue basis.is_told)
-        → IfSome content (λ bytes. SurvivesStops before.disk after.disk bytes (opened_at content stands) reached.last kept.0)
+        → IfSome content (λ bytes. SurvivesStops before.disk after.disk bytes (opened_at content stands) reached.last
+        (KeepLeaves reached.last.state (keep_reply keeping) kept.0) kept.0)
     survives None stands is_told = tt
     survives (Some bytes) stands is_told = record {
       begins = stands.begins;

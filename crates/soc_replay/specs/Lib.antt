@@ -3,6 +3,7 @@ pub mod Check
 pub mod Documents
 pub mod Ends
 pub mod Files
+pub mod Lives
 pub mod Opening
 pub mod Refusals
 pub mod Replay

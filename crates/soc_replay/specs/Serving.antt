@@ -62,14 +62,20 @@ KeepsBy basis last faults faults' (Some said) kept = KeepsUnder basis last fault
 
 -- ---- stops
 
+-- what a stop since the session's end leaves: where reports were to be kept what the keeping allows, and else what is kept
+abbrev pub KeepLeaves : State → Option Reply → State → List ℕ → Type 0
+KeepLeaves last None kept image = Allowed kept image
+KeepLeaves last (Some said) kept image = KeepAllows last kept image
+
 -- From the moment on at which the journal stood, its first sync done or the empty journal made, a stop leaves what each answer
--- says, and since the session's end what the keeping allows; until then what might have been left before, or the torn creation.
-pub record SurvivesStops (before after : DiskTold) (bytes : List ℕ) (opened served : DeskAt) (kept : State) : Type 0 where
+-- says, and since the session's end what is left then; until then what might have been left before, or the torn creation.
+pub record SurvivesStops (before after : DiskTold) (bytes : List ℕ) (opened served : DeskAt) (LeftThen : List ℕ → Type 0)
+    (kept : State) : Type 0 where
   pub begins : before.moment ≤ opened.moment
   pub ends : served.moment ≤ after.moment
   pub until : (image : List ℕ) → after.since before.moment image
       → after.since opened.moment image ⊎ FirstLeaves before.images bytes image
-  pub keeping : (image : List ℕ) → after.since served.moment image → KeepAllows served.state kept image
+  pub keeping : (image : List ℕ) → after.since served.moment image → LeftThen image
   pub now : (image : List ℕ) → after.images image → Allowed kept image
 
 -- ---- the whole
@@ -105,4 +111,5 @@ pub record ServesJournal (by : Service) (before after : Surroundings) (end : Ses
   pub blames : RoseBy (store_faults serves.responses) opened.faults served.faults
   pub goes_on : GoesOn before.disk after.disk
   -- every stop
-  pub survives : IfSome before.disk.content (λ bytes. SurvivesStops before.disk after.disk bytes opened served kept)
+  pub survives : IfSome before.disk.content (λ bytes. SurvivesStops before.disk after.disk bytes opened served
+      (KeepLeaves served.state (keep_reply keeping) kept) kept)

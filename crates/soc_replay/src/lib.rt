@@ -4,6 +4,7 @@
 mod check;
 mod documents;
 mod ending;
+mod laws;
 mod opening;
 mod refusal;
 mod replay;
@@ -16,6 +17,7 @@ mod words;
 
 pub use check::push_line;
 pub use ending::{Keeping, RunEnd};
+pub use laws::runs_are_lives;
 pub use opening::open;
 pub use refusal::{FileRefusal, FilesFault};
 pub use replay::refuse_text;
