@@ -10,6 +10,7 @@ use Rattle.soc_hall.specs.Asked.{Closes, HasPart}
 use Rattle.soc_hall.specs.Log.{changes, pieces}
 use Rattle.soc_hall.specs.Seats.{IsNew, known_of}
 use Rattle.soc_hall.proofs.Totals.{closed_total, first_opening}
+use Rattle.soc_desk.specs.declared.desk.Receipt.{Receipt}
 use Rattle.soc_service.specs.declared.change.Change.{Change}
 use Rattle.soc_service.specs.Changes.{counts, events_in, kept_in}
 use Rattle.soc_service.specs.Desks.{HasTurned}
@@ -75,12 +76,12 @@ module _ {S A B : Type 0} where
       omega arith
 
   -- what the seats' turns kept together stands behind the opening
-  pub closed : (basis basis' : B) (opening log : List Change) (kept : ℕ) (seats : List (SeatOf S A B)) → 0 < length seats
-      → AreSeated basis opening kept seats → Closes log basis' (All-known seats) → Ends opening log basis basis' kept
-  closed basis basis' opening log kept [] some seated closes = absurd (let never : ⊥ = omega (arith, some) in never)
-  closed basis basis' opening log kept (seat ∷ seats) some seated closes =
+  pub closed : {answers : B → List Change → A → Receipt → List Change → Type 0} (basis basis' : B) (opening log : List Change) (kept : ℕ) (seats : List (SeatOf S A B)) → 0 < length seats
+      → AreSeated basis opening kept seats → Closes answers log basis' (All-known seats) → Ends opening log basis basis' kept
+  closed {answers} basis basis' opening log kept [] some seated closes = absurd (let never : ⊥ = omega (arith, some) in never)
+  closed {answers} basis basis' opening log kept (seat ∷ seats) some seated closes =
       let own = All-head (Knows basis opening) seat seats seated.each in
-      let part = All-head (HasPart basis' closes.opening closes.entries) (known_of seat) (All-known seats) closes.parts in
+      let part = All-head (HasPart answers basis' closes.opening closes.entries) (known_of seat) (All-known seats) closes.parts in
       let same : closes.opening ≡ opening = sym part.opening_is ∙ own.opening_is in
       let total = closed_total weight closes in
       let seats_total = known_total (seat ∷ seats) in

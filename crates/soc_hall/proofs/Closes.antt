@@ -94,7 +94,7 @@ module _ {T B X C P : Type 0} (log_of : T → List X) (basis_of : T → B) (answ
             record { basis_is = mine.basis_is; opening_is = mine.opening_is; some_part = let q = mine.some_part in omega arith; number_is = mine.number_is; in_log = mine.in_log; in_seen = mine.in_seen };
         stands = f.stands;
         gone = λ k g e. ⊎_elim (λ (o : get_elem? v.gone k ≡ some g). f.gone k g o)
-            (λ (n : (k ≡ length v.gone) × (known w ≡ g)). subst (HasPart basis opening r.log) n.1 record { basis_is = mine_w.basis_is; opening_is = mine_w.opening_is; seen = fw.seen; mine = subst (λ (m : ℕ). changes_by m r.log ≡ pieces w.turns) (sym mine_w.number_is) mine_w.in_log })
+            (λ (n : (k ≡ length v.gone) × (known w ≡ g)). subst (HasPart answers basis opening r.log) n.1 record { basis_is = mine_w.basis_is; opening_is = mine_w.opening_is; seen = fw.seen; mine = subst (λ (m : ℕ). changes_by m r.log ≡ pieces w.turns) (sym mine_w.number_is) mine_w.in_log; turns = fw.stands })
             (at_end v.gone (known w) g k e);
         distinct = λ k l g h ek el same. ⊎_elim
             (λ (ok : get_elem? v.gone k ≡ some g). ⊎_elim
@@ -175,7 +175,7 @@ module _ {T B X C P : Type 0} (log_of : T → List X) (basis_of : T → B) (answ
       let two : u.parts + v.parts ≤ total (λ (z : V). z.parts) s.views = two_total (λ (z : V). z.parts) s.views i id u v e at ne in
       let some_of : 0 < u.parts = sits_part r.log r.drawn r.served i u u.stage (r.each_seat i u e).stage sits in let o = r.few in absurd (omega arith))
 
-  pub closes : (id : ℕ) (v : V) (ws : List ℕ) (xs : List S) (x : S) → v.stage ≡ Idle → v.parts ≡ seats → Final (Seen Rule id v) ws xs → get_elem? xs 0 ≡ some x → Holds (λ y. Closes (log_of y) (basis_of y) (v.gone ++ known v ∷ [])) x
+  pub closes : (id : ℕ) (v : V) (ws : List ℕ) (xs : List S) (x : S) → v.stage ≡ Idle → v.parts ≡ seats → Final (Seen Rule id v) ws xs → get_elem? xs 0 ≡ some x → Holds (λ y. Closes answers (log_of y) (basis_of y) (v.gone ++ known v ∷ [])) x
   closes id v ws xs x idle all fin there =
       let s : St = fin.0 in
       let r : Rule s = fin.1.0 in
@@ -188,17 +188,17 @@ module _ {T B X C P : Type 0} (log_of : T → List X) (basis_of : T → B) (answ
       let it : home.0 ≡ x = some-injective home.0 x (sym (fin.4 0 home.0 (ap (λ (hs : List (Option S)). get_elem? hs 0) home.1)) ∙ there) in
       let others : (k : ℕ) (g : Known B X C P) → get_elem? v.gone k ≡ some g → g.number ≢ v.number = λ k g e same.
       let a = r.away id k v g at e in not_away s.views g.number id a.0 v a.1 a.2 at idle (same ∙ mine.number_is) in
-      holds_map (IsState log_of basis_of (Some basis) opening r.log) (λ y. Closes (log_of y) (basis_of y) (v.gone ++ known v ∷ [])) x
+      holds_map (IsState log_of basis_of (Some basis) opening r.log) (λ y. Closes answers (log_of y) (basis_of y) (v.gone ++ known v ∷ [])) x
       (λ y state. record {
         opening = opening;
         entries = r.log;
         log_is = state.0;
-        parts = all_at (HasPart (basis_of y) opening r.log) (v.gone ++ known v ∷ []) (λ k g e.
-            let part : HasPart basis opening r.log g = ⊎_elim
+        parts = all_at (HasPart answers (basis_of y) opening r.log) (v.gone ++ known v ∷ []) (λ k g e.
+            let part : HasPart answers basis opening r.log g = ⊎_elim
             (λ (o : get_elem? v.gone k ≡ some g). f.gone k g o)
-            (λ (n : (k ≡ length v.gone) × (known v ≡ g)). subst (HasPart basis opening r.log) n.1 record { basis_is = mine.basis_is; opening_is = mine.opening_is; seen = f.seen; mine = subst (λ (n : ℕ). changes_by n r.log ≡ pieces v.turns) (sym mine.number_is) mine.in_log })
+            (λ (n : (k ≡ length v.gone) × (known v ≡ g)). subst (HasPart answers basis opening r.log) n.1 record { basis_is = mine.basis_is; opening_is = mine.opening_is; seen = f.seen; mine = subst (λ (n : ℕ). changes_by n r.log ≡ pieces v.turns) (sym mine.number_is) mine.in_log; turns = f.stands })
             (at_end v.gone (known v) g k e) in
-            record { basis_is = part.basis_is ∙ state.1; opening_is = part.opening_is; seen = part.seen; mine = part.mine });
+            record { basis_is = part.basis_is ∙ state.1; opening_is = part.opening_is; seen = part.seen; mine = part.mine; turns = part.turns });
         owners = λ j. ⊎_elim (λ (e : changes_by j r.log ≡ []). inl e)
             (λ (o : (i : ℕ) × (u : V) × (get_elem? s.views i ≡ some u) × Speaks j u). inr (⊎_elim
             (λ (n : v.number ≡ j). (length v.gone, known v, at_last v.gone (known v) (length v.gone) refl, n))

@@ -88,8 +88,8 @@ module _ {T B X C P : Type 0} (log_of : T → List X) (basis_of : T → B) (answ
   prefix_further : (xs ys zs : List (Entry X)) → IsPrefix xs ys → IsPrefix ys zs → IsPrefix xs zs
   prefix_further xs ys zs p q = (p.0 ++ q.0, sym (append_assoc xs p.0 q.0) ∙ (ap (λ (z : List (Entry X)). z ++ q.0) p.1 ∙ q.1))
 
-  part_stays : (log log' : List (Entry X)) (g : Known B X C P) → IsPrefix log log' → changes_by g.number log' ≡ changes_by g.number log → HasPart basis opening log g → HasPart basis opening log' g
-  part_stays log log' g longer by p = record { basis_is = p.basis_is; opening_is = p.opening_is; seen = prefix_further g.seen log log' p.seen longer; mine = by ∙ p.mine }
+  part_stays : (log log' : List (Entry X)) (g : Known B X C P) → IsPrefix log log' → changes_by g.number log' ≡ changes_by g.number log → HasPart answers basis opening log g → HasPart answers basis opening log' g
+  part_stays log log' g longer by p = record { basis_is = p.basis_is; opening_is = p.opening_is; seen = prefix_further g.seen log log' p.seen longer; mine = by ∙ p.mine; turns = p.turns }
 
   fits_stays : (log log' : List (Entry X)) (drawn drawn' served served' j : ℕ) (v : V) → IsPrefix log log' → changes_by j log' ≡ changes_by j log → drawn ≤ drawn'
       → ((t : ℕ) → HasTicket t v.stage → served ≤ t → served' ≤ t) → (HasTurn v.stage → (log' ≡ log) × (served' ≡ served)) → ((k : ℕ) (g : Known B X C P) → get_elem? v.gone k ≡ some g → changes_by g.number log' ≡ changes_by g.number log) → Fit log drawn served j v → Fit log' drawn' served' j v

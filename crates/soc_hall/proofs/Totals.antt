@@ -76,14 +76,14 @@ module _ {B X C P : Type 0} where
         sum_by-cons f e.change (changes es) ∙ (ap (λ (n : ℕ). f e.change + n) rest ∙ sym more)
 
     -- the log weighs as much as the opening and the pieces of all seats' turns
-    pub closed_total : {log : List X} {basis : B} {seats : List (Known B X C P)} → (c : Closes log basis seats) → sum_by f log ≡ sum_by f c.opening + sum_by (λ v. sum_by f (pieces v.turns)) seats
-    closed_total {log} {basis} {seats} c =
+    pub closed_total : {answers : B → List X → C → P → List X → Type 0} {log : List X} {basis : B} {seats : List (Known B X C P)} → (c : Closes answers log basis seats) → sum_by f log ≡ sum_by f c.opening + sum_by (λ v. sum_by f (pieces v.turns)) seats
+    closed_total {answers} {log} {basis} {seats} c =
         ap (sum_by f) c.log_is
         ∙ (sum_by-append f c.opening (changes c.entries)
         ∙ ap (λ (n : ℕ). sum_by f c.opening + n)
         (all_owned c.entries seats c.owners c.distinct
-        ∙ sum_same (by_seat c.entries) (λ v. sum_by f (pieces v.turns)) seats (All-weaker (HasPart basis c.opening c.entries) (λ v. by_seat c.entries v ≡ sum_by f (pieces v.turns)) (λ v part. ap (sum_by f) part.mine) seats c.parts)))
+        ∙ sum_same (by_seat c.entries) (λ v. sum_by f (pieces v.turns)) seats (All-weaker (HasPart answers basis c.opening c.entries) (λ v. by_seat c.entries v ≡ sum_by f (pieces v.turns)) (λ v part. ap (sum_by f) part.mine) seats c.parts)))
 
   -- the hall opened with the log with which its first seat says that it opened
-  pub first_opening : {log : List X} {basis : B} {v : Known B X C P} {seats : List (Known B X C P)} → (c : Closes log basis (v ∷ seats)) → c.opening ≡ v.opening
-  first_opening {log} {basis} {v} {seats} c = sym (All-head (HasPart basis c.opening c.entries) v seats c.parts).opening_is
+  pub first_opening : {answers : B → List X → C → P → List X → Type 0} {log : List X} {basis : B} {v : Known B X C P} {seats : List (Known B X C P)} → (c : Closes answers log basis (v ∷ seats)) → c.opening ≡ v.opening
+  first_opening {answers} {log} {basis} {v} {seats} c = sym (All-head (HasPart answers basis c.opening c.entries) v seats c.parts).opening_is

@@ -46,20 +46,22 @@ module _ {B X C P : Type 0} where
   abbrev pub Meets : Known B X C P → Known B X C P → Known B X C P → Known B X C P → Type 0
   Meets v w v' w' = (longer : List (Entry X)) × (v' ≡ record v { seen = longer }) × (w' ≡ record w { seen = longer }) × IsLonger longer v.seen w.seen
 
-  -- the seat has seen a beginning of the log, and the changes that bear its number are the pieces of its turns, in order
-  pub record HasPart (basis : B) (opening : List X) (entries : List (Entry X)) (v : Known B X C P) : Type 0 where
+  -- the seat has seen a beginning of the log, in which each of its turns stands, and the changes that bear its number are the
+  -- pieces of its turns, in order
+  pub record HasPart (answers : B → List X → C → P → List X → Type 0) (basis : B) (opening : List X) (entries : List (Entry X)) (v : Known B X C P) : Type 0 where
     pub basis_is : v.basis ≡ Some basis
     pub opening_is : v.opening ≡ opening
     pub seen : IsPrefix v.seen entries
     pub mine : changes_by v.number entries ≡ pieces v.turns
+    pub turns : (k : ℕ) (turn : Turn X C P) → get_elem? v.turns k ≡ some turn → Stands answers v turn
 
   -- Of the closed state: behind the opening its log is the pieces of the turns of these seats, each once.
   -- No change bears a number that is no seat's, and the numbers differ
-  pub record Closes (log : List X) (basis : B) (seats : List (Known B X C P)) : Type 0 where
+  pub record Closes (answers : B → List X → C → P → List X → Type 0) (log : List X) (basis : B) (seats : List (Known B X C P)) : Type 0 where
     pub opening : List X
     pub entries : List (Entry X)
     pub log_is : log ≡ whole opening entries
-    pub parts : All (HasPart basis opening entries) seats
+    pub parts : All (HasPart answers basis opening entries) seats
     pub owners : (number : ℕ) → (changes_by number entries ≡ []) ⊎ ((k : ℕ) × (v : Known B X C P) × (get_elem? seats k ≡ some v) × (v.number ≡ number))
     pub distinct : (j k : ℕ) (v w : Known B X C P) → get_elem? seats j ≡ some v → get_elem? seats k ≡ some w → v.number ≡ w.number → j ≡ k
 

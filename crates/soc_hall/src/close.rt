@@ -31,7 +31,7 @@ impl<T: Logged> Hall<T> {
     fn end(self, chair: Chair<T>) -> T
         requires chair { IsChair self.table.shared.table_id chair }
         requires all { chair.me.0.parts ≡ seats_of self }
-        ensures { Closes (T.log_of result) (T.basis_of result)
+        ensures { Closes T.answers (T.log_of result) (T.basis_of result)
             (chair.me.0.gone ++ known chair.me.0 ∷ []) }
     {
         let Room { table } = self;
@@ -49,7 +49,7 @@ impl<T: Logged> Hall<T> {
     pub fn close(self, seats: Seats<T>) -> T
         requires seats { All (λ seat. IsSeatOf self seat) (seats_in seats) }
         requires all { length (seats_in seats) ≡ seats_of self }
-        ensures { Closes (T.log_of result) (T.basis_of result)
+        ensures { Closes T.answers (T.log_of result) (T.basis_of result)
             (map (λ seat. known_of seat) (seats_in seats)) }
     {
         let HallSeats { list: mut others } = seats;

@@ -94,7 +94,7 @@ module _ {B X C P : Type 0} where
     pub told : IsPrefix v.told log
     pub stage : FitsStage basis opening log drawn served j v v.stage
     pub stands : (k : ℕ) (t : Turn X C P) → get_elem? v.turns k ≡ some t → Stands answers (known v) t
-    pub gone : (k : ℕ) (g : Known B X C P) → get_elem? v.gone k ≡ some g → HasPart basis opening log g
+    pub gone : (k : ℕ) (g : Known B X C P) → get_elem? v.gone k ≡ some g → HasPart answers basis opening log g
     pub distinct : (k l : ℕ) (g h : Known B X C P) → get_elem? v.gone k ≡ some g → get_elem? v.gone l ≡ some h → g.number ≡ h.number → k ≡ l
 
 module _ {T B X C P : Type 0} where
