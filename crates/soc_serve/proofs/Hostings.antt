@@ -1,31 +1,36 @@
 -- The service over a book is one over its log.
-use Rattle.std.proofs.Common.{◌≡◌, ℕ, Bool, IsTrue, List, [], ◌++◌, Option, refl, sym, ap, ◌∙◌, subst, inl, inr, ⊎_elim, append-nil, arith}
+use Rattle.std.proofs.Common.{◌≡◌, ℕ, Bool, IsTrue, List, [], ◌∷◌, ◌++◌, Option, None, Some, IfSome, refl, sym, ap, ◌∙◌, subst, inl, inr, ⊎_elim, append-nil, append_assoc, arith}
 use Rattle.std.specs.Prelude.{is_some}
-use Rattle.std.proofs.Math.Logic.{∥∥₁_elim, ∥∥₁_map₂}
-use Rattle.soc_raw.specs.Record.{Crash}
-use Rattle.soc_schema.specs.declared.value.Cell.{Cell}
+use Rattle.std.proofs.Math.Logic.{∥∥₁_elim, ∥∥₁_map}
+use Rattle.std.proofs.lemmas.List.{append_cancel_left, map-append}
+use Rattle.soc_schema.specs.declared.reporter.Reporter as reporter
 use Rattle.soc_edge.specs.Disk.{DiskTold, IsDisk, GoesOn}
-use Rattle.soc_edge.proofs.Disks.{GoesOn-none, GoesOn-append}
+use Rattle.soc_edge.specs.declared.disk.Disk as disk
+use Rattle.soc_edge.proofs.Disks.{GoesOn-append}
 use Rattle.soc_edge.specs.Told.{Told}
 use Rattle.soc_edge.specs.Ahead.{Outlook}
-use Rattle.soc_journal.specs.States.{JournalState}
-use Rattle.soc_ledger.specs.State.{LedgerState}
-use Rattle.soc_desk.specs.declared.desk.Limits.{Limits}
+use Rattle.soc_vault.specs.Openings.{StandsSince}
+use Rattle.soc_desk.specs.declared.desk.Command.{Command}
+use Rattle.soc_desk.specs.declared.desk.Receipt.{Receipt}
 use Rattle.soc_desk.specs.Basis.{Basis}
+use Rattle.soc_desk.specs.Keeps.{KeepAllows}
+use Rattle.soc_desk.specs.Log.{Change, events}
+use Rattle.soc_desk.specs.Runs.{Answers, DeskAt}
 use Rattle.soc_desk.specs.State.{State, Allowed}
-use Rattle.soc_book.specs.declared.book.Change.{Change as Pending}
+use Rattle.soc_book.specs.declared.book.Book.{Book}
+use Rattle.soc_book.specs.Books.{StandsFor, disk_of, limits_of, reporter_of}
 use Rattle.soc_book.specs.Openings.{IsBasisOf, OpensBook}
-use Rattle.soc_book.specs.inner.Stands.{Stands}
 use Rattle.soc_service.specs.declared.change.Change.{Change as Turned}
-use Rattle.soc_turns.specs.Changes.{body_at, changes_at}
-use Rattle.soc_turns.specs.Grounds.{desk_basis}
-use Rattle.soc_turns.proofs.Logs.{log_is}
-use Rattle.soc_crew.specs.Gains.{Gains}
-use Rattle.soc_replay.proofs.ServingLemmas.{some_told}
+use Rattle.soc_service.specs.Changes.{events_in, kept_in}
+use Rattle.soc_turns.specs.Logs.{change_of, changes_of}
+use Rattle.soc_turns.specs.Runs.{HasRun, RunsTurns}
+use Rattle.soc_turns.proofs.Logs.{events_are, log_is}
+use Rattle.soc_turns.proofs.Runs.{RunsOn, runs_on}
+use Rattle.soc_replay.proofs.RunLemmas.{keeping_has}
 use Rattle.soc_replay.specs.declared.ending.RunEnd.{RunEnd}
 use Rattle.soc_replay.specs.declared.ending.RunEnd.TheVariants as R
 use Rattle.soc_replay.specs.declared.setup.Setup.{Setup}
-use Rattle.soc_replay.specs.Serving.{Service, service}
+use Rattle.soc_replay.specs.Serving.{Service, SurvivesStops, service}
 use Rattle.soc_replay.specs.Ends as run
 use Rattle.soc_replay.specs.Opening.{OpensNot}
 use Rattle.soc_edge.specs.World.{Surroundings, surroundings}
@@ -33,25 +38,24 @@ use Rattle.soc_serve.specs.declared.ending.HostEnd.{HostEnd}
 use Rattle.soc_serve.specs.declared.ending.HostEnd.TheVariants as H
 use Rattle.soc_serve.specs.declared.sweep.SweepFault.TheVariants as S
 use Rattle.soc_serve.specs.Hosts.{Closes, HostsDesk}
-use Rattle.soc_serve.specs.inner.Serving.{ClosesBook, ServesDesk}
-use Rattle.soc_serve.proofs.Sweeps.{later_fault}
+use Rattle.soc_serve.specs.Sweep.{FailsSweep}
+use Rattle.soc_serve.specs.inner.Serving.{ClosesBook, ServesDesk, desk_at}
+use Rattle.soc_serve.specs.inner.Sweeping.{LeavesMore}
+use Rattle.soc_serve.proofs.Begun.{HasTurned, basis as basis_by, begun as begun_by, begun_at, is_basis as is_basis_by, opened as opened_by, run_of}
+use Rattle.soc_serve.proofs.Stops.{nothing_done}
+use Rattle.soc_serve.proofs.Sweeps.{still}
 
 -- ---- the end
 
-closes : (before after : Surroundings) (middle : DiskTold) (end : HostEnd) (basis : Basis) (closed swept : State) → GoesOn before.disk middle
-    → Closes (surroundings before.streams middle before.outlook) after end basis closed swept → Closes before after end basis closed swept
-closes before after middle (H.Before end) basis closed swept on ends = absurd ends
-closes before after middle (H.Swept fault) basis closed swept on ends = (
-  record {
-    behind = ends.0.behind;
-    cause = λ is. ⊎_elim (λ rose. inl (later_fault before.disk middle after.disk on rose)) (λ untold. inr untold) (ends.0.cause is);
-    stage = ends.0.stage;
-  },
-  ends.1,
-)
-closes before after middle (H.Lines fault) basis closed swept on ends = ends
-closes before after middle H.Failed basis closed swept on ends = ends
-closes before after middle H.Done basis closed swept on ends = ends
+-- by a desk whose count of faults is the disk's
+closes : (before after : Surroundings) (middle : DiskTold) (end : HostEnd) (basis : Basis) (served : DeskAt) (swept : State) → served.faults ≡ middle.faults
+    → Closes (surroundings before.streams middle before.outlook) after end basis (desk_at served.state middle) swept → Closes before after end basis served swept
+closes before after middle (H.Before end) basis served swept same ends = absurd ends
+closes before after middle (H.Swept fault) basis served swept same ends =
+    (subst (λ (n : ℕ). FailsSweep basis served.state n fault swept after.disk.faults) (sym same) ends.0, ends.1)
+closes before after middle (H.Lines fault) basis served swept same ends = ends
+closes before after middle H.Failed basis served swept same ends = ends
+closes before after middle H.Done basis served swept same ends = ends
 
 as_served : (by : Service) (kept : ℕ) (before after : Surroundings) (end : HostEnd)
     → ∥ HostsDesk by kept before after end ∥₁ → ServesDesk by kept before after end
@@ -63,94 +67,123 @@ as_served by kept before after H.Done hosts = hosts
 
 -- ---- what was served
 
--- a book's log and basis as all turns have left them, over a disk that ends so
-pub record Ended (row_of : Crash → List Cell) (digest : Option (List ℕ)) (limits : Limits) (opened : DiskTold) (log : List Turned)
-    (row_of' : Crash → List Cell) (digest' : Option (List ℕ)) (limits' : Limits) (opened' : DiskTold) (log' : List Turned) (disk' : DiskTold) (kept : ℕ) : Type 0 where
-  pub gains : Gains log log' kept
-  pub same_rows : row_of' ≡ row_of
-  pub same_digest : digest' ≡ digest
-  pub same_limits : limits' ≡ limits
-  pub from_opened : GoesOn opened' disk' → GoesOn opened disk'
+-- what a run has added to a log
+pub run_added : (basis : Basis) (left : ℕ → List ℕ → Type 0) (turns : List (Command × Receipt)) (first last : DeskAt) → RunsTurns (Answers basis left) first turns last
+    → (added : List Change) × (last.state.log ≡ first.state.log ++ added)
+run_added basis left [] first last runs = ([], ap (λ (d : DeskAt). d.state.log) runs ∙ sym (append-nil first.state.log))
+run_added basis left (turn ∷ turns) first last (between, answers, runs) =
+    let rest = run_added basis left turns between last runs in
+    (answers.gains.piece ++ rest.0, rest.1 ∙ (ap (λ (l : List Change). l ++ rest.0) answers.gains.behind ∙ append_assoc first.state.log answers.gains.piece rest.0))
 
-pub same_basis : (row_of row_of' : Crash → List Cell) (digest digest' : Option (List ℕ)) (told : Bool) (limits limits' : Limits) → row_of' ≡ row_of → digest' ≡ digest → limits' ≡ limits
-    → desk_basis row_of' digest' limits' told ≡ desk_basis row_of digest limits told
-same_basis row_of row_of' digest digest' told limits limits' same_rows same_digest same_limits =
-    ap (λ r. desk_basis r digest' limits' told) same_rows ∙ (ap (λ d. desk_basis row_of d limits' told) same_digest ∙ ap (λ l. desk_basis row_of digest l told) same_limits)
+-- what the threads saw of it has the same kept changes
+same_kept : (basis : Basis) (log added : List Change) (seen : List Turned) (kept : ℕ) → changes_of basis (log ++ added) ≡ changes_of basis log ++ seen → kept_in (events_in seen) ≡ kept
+    → kept_in (events basis added) ≡ kept
+same_kept basis log added seen kept is count =
+    ap (λ l. kept_in l) (sym (events_are basis added))
+    ∙ (ap (λ l. kept_in (events_in l)) (append_cancel_left (changes_of basis log) (changes_of basis added) seen (sym (map-append (change_of basis) log added) ∙ is)) ∙ count)
 
-module _ (row_of row_of' : Crash → List Cell) (digest digest' : Option (List ℕ)) (told : Bool) (setup : Setup) (kept : ℕ) (before after : Surroundings) (end : HostEnd)
-    (steady : is_some before.disk.content ≡ told)
-    (limits limits' : Limits) (ledger ledger' : LedgerState) (rows rows' : List (ℕ × List Cell)) (pending pending' : Option Pending) (journal journal' : JournalState)
-    (first second opened' : DiskTold)
-    (limits_are : limits ≡ setup.limits)
-    (opens : (basis : Basis) → IsBasisOf row_of digest setup.limits before.disk.content basis
-    → OpensBook basis before.disk first (λ state. Stands basis limits ledger rows pending journal first state))
-    (stood : ∥ ((state : State) × Stands (desk_basis row_of' digest' limits' told) limits' ledger' rows' pending' journal' second state) ∥₁)
-    (on : ∥ GoesOn opened' second ∥₁)
-    (ended : ∥ Ended row_of digest limits before.disk (changes_at (body_at told first.content) ledger.log ledger.crashes)
-    row_of' digest' limits' opened' (changes_at (body_at told second.content) ledger'.log ledger'.crashes) second kept ∥₁)
-    (ends : (basis : Basis) (state : State) → basis.row_of ≡ row_of' → basis.digest ≡ digest' → Stands basis limits' ledger' rows' pending' journal' second state
+module _ {D R : Type 0} {d : disk.Ghosts D} {r : reporter.Ghosts R} (told : Bool) (by : R) (setup : Setup) (kept : ℕ) (before after : Surroundings) (end : HostEnd)
+    (steady : is_some before.disk.content ≡ told) (first second : Book D R d r) (reporter_is : reporter_of first ≡ by) (limits_are : limits_of first ≡ setup.limits)
+    (to_opened : GoesOn before.disk (disk_of first))
+    (opens : (basis : Basis) → IsBasisOf (r.row_of by) (r.digest_of by) setup.limits before.disk.content basis → OpensBook basis before.disk (disk_of first) (StandsFor basis first))
+    (ends : (basis : Basis) (state : State) → basis.row_of ≡ r.row_of (reporter_of second) → basis.digest ≡ r.digest_of (reporter_of second) → StandsFor basis second state
     → (swept : State) × (IsTrue basis.is_told → (image : List ℕ) → after.disk.images image → Allowed swept image)
-    × ClosesBook (surroundings before.streams second before.outlook) after end basis state swept) where
+    × ClosesBook (surroundings before.streams (disk_of second) before.outlook) after end basis state swept) where
   abbrev basis : Basis
-  basis = desk_basis row_of digest setup.limits told
+  basis = basis_by told before.disk steady by setup.limits first second reporter_is limits_are opens
 
-  is_basis : IsBasisOf row_of digest setup.limits before.disk.content basis
-  is_basis = record { rows = refl; digest_is = refl; bytes = refl; crashes_are = refl; tells = λ is. some_told before.disk.content (steady ∙ is) }
+  abbrev opened : OpensBook basis before.disk (disk_of first) (StandsFor basis first)
+  opened = opened_by told before.disk steady by setup.limits first second reporter_is limits_are opens
 
-  opened : OpensBook basis before.disk first (λ state. Stands basis limits ledger rows pending journal first state)
-  opened = opens basis is_basis
+  abbrev begun : DeskAt
+  begun = begun_by told before.disk steady by setup.limits first second reporter_is limits_are opens
 
-  abbrev log : List Turned
-  log = changes_at (body_at told first.content) ledger.log ledger.crashes
+  module _ (turned : HasTurned told first second kept) where
+    abbrev ran : HasRun basis first second begun
+    ran = run_of told before.disk steady by setup.limits first second reporter_is limits_are opens kept turned
 
-  abbrev log' : List Turned
-  log' = changes_at (body_at told second.content) ledger'.log ledger'.crashes
+    abbrev state : State
+    state = ran.last.state
 
-  desk_of : (state : State) → Stands (desk_basis row_of' digest' limits' told) limits' ledger' rows' pending' journal' second state → GoesOn opened' second
-      → Ended row_of digest limits before.disk log row_of' digest' limits' opened' log' second kept → HostsDesk (service row_of digest setup) kept before after end
-  desk_of state stands onward e =
-      let here : Stands basis limits' ledger' rows' pending' journal' second state =
-      subst (λ (b : Basis). Stands b limits' ledger' rows' pending' journal' second state)
-      (same_basis row_of row_of' digest digest' told setup.limits limits' e.same_rows e.same_digest (e.same_limits ∙ limits_are)) stands in
-      let over = ends basis state (sym e.same_rows) (sym e.same_digest) here in
-      let to_closed : GoesOn before.disk second = e.from_opened onward in
-      record {
-        opening = record {
-          basis = basis;
-          basis_is = is_basis;
-          told = sym steady;
-          entries = opened.entries;
-          log = opened.log;
-          found = opened.found;
-          opens = opened.opens;
-        };
-        closed = state;
-        legal = here.legal;
-        added = e.gains.piece;
-        behind =
-            sym (log_is here)
-            ∙ (e.gains.behind ∙ ap (λ (l : List Turned). l ++ e.gains.piece) (log_is opened.now));
-        kept_are = e.gains.kept_are;
-        swept = over.0;
-        closes = closes before after second end basis state over.0 to_closed over.2.ends;
-        goes_on = GoesOn-append before.disk second after.disk to_closed over.2.goes_on;
-        allowed = over.1;
-      }
+    abbrev over : (swept : State) × (IsTrue basis.is_told → (image : List ℕ) → after.disk.images image → Allowed swept image)
+        × ClosesBook (surroundings before.streams (disk_of second) before.outlook) after end basis state swept
+    over = ends basis state (ap r.row_of (sym (turned.same_reporter ∙ reporter_is))) (ap r.digest_of (sym (turned.same_reporter ∙ reporter_is))) ran.over.stands
 
-  abbrev Stood : Type 0
-  Stood = (state : State) × Stands (desk_basis row_of' digest' limits' told) limits' ledger' rows' pending' journal' second state
+    abbrev leaves : LeavesMore basis state (disk_of second) over.0 after.disk
+    leaves = over.2.leaves
 
-  pub serves_desk : ServesDesk (service row_of digest setup) kept before after end
-  serves_desk =
-      as_served (service row_of digest setup) kept before after end
-      (∥∥₁_map₂ (∥∥₁_map₂ stood on (λ (s : Stood) (onward : GoesOn opened' second). (s, onward))) ended
-      (λ (known : Stood × GoesOn opened' second) (e : Ended row_of digest limits before.disk log row_of' digest' limits' opened' log' second kept). desk_of known.0.0 known.0.1 known.1 e))
+    from_first : GoesOn (disk_of first) after.disk
+    from_first = GoesOn-append (disk_of first) (disk_of second) after.disk ran.goes_on leaves.goes_on
+
+    keeping : IsTrue basis.is_told → (image : List ℕ) → after.disk.since ran.last.moment image → KeepAllows state over.0 image
+    keeping is image left = ⊎_elim (λ early. inl (ran.over.holds is image early)) (λ late. (leaves.each is).each image late)
+        (leaves.goes_on.nothing_else ran.last.moment image ran.over.within left)
+
+    runs : RunsOn basis (disk_of second) after.disk leaves.goes_on begun ran.turns ran.last
+    runs = runs_on basis (disk_of second) after.disk leaves.goes_on ran.turns begun ran.last ran.runs ran.over.within
+        (λ is image left. keeping_has state over.0 image ((leaves.each is).each image left))
+
+    added : (added : List Change) × (state.log ≡ opened.log ++ added)
+    added = run_added basis (disk_of second).since ran.turns begun ran.last ran.runs
+
+    seen : changes_of basis (opened.log ++ added.0) ≡ changes_of basis opened.log ++ turned.gains.piece
+    seen =
+        ap (changes_of basis) (sym added.1)
+        ∙ (sym (log_is ran.over.stands) ∙ (turned.gains.behind ∙ ap (λ (l : List Turned). l ++ turned.gains.piece) (log_is opened.now)))
+
+    survives : (content : Option (List ℕ)) (stands : IfSome content (λ bytes. StandsSince before.disk (disk_of first) bytes opened.entries)) → (IsTrue (is_some content) → IsTrue told)
+        → IfSome content (λ bytes. SurvivesStops before.disk after.disk bytes (begun_at basis before.disk first opened content stands) ran.last over.0)
+    survives None stands told_so = tt
+    survives (Some bytes) stands told_so = record {
+      begins = stands.begins;
+      ends = let within = ran.over.within in let later = leaves.goes_on.later in omega (arith, within, later);
+      until = λ image left. ⊎_elim
+          (λ early. ⊎_elim (λ was. inl (from_first.keeps stands.moment image stands.ends was)) (λ torn. inr torn) (stands.until image early))
+          (λ late. inl (from_first.wider stands.moment (disk_of first).moment image stands.ends late))
+          (from_first.nothing_else before.disk.moment image to_opened.later left);
+      keeping = keeping (told_so refl);
+      now = over.1 (told_so refl);
+    }
+
+    desk_of : HostsDesk (service (r.row_of by) (r.digest_of by) setup) kept before after end
+    desk_of = record {
+      opening = record {
+        basis = basis;
+        basis_is = is_basis_by told before.disk steady by setup.limits first second reporter_is limits_are opens;
+        told = sym steady;
+        entries = opened.entries;
+        log = opened.log;
+        found = opened.found;
+        opens = opened.opens;
+      };
+      opened = begun;
+      opened_as = refl;
+      served = ran.last;
+      turns = ran.turns;
+      runs = runs.runs;
+      legal = ran.over.stands.legal;
+      added = added.0;
+      behind = added.1;
+      kept_are = same_kept basis opened.log added.0 turned.gains.piece kept seen turned.gains.kept_are;
+      swept = over.0;
+      closes = closes before after (disk_of second) end basis ran.last over.0 ran.over.faults_are over.2.ends;
+      no_fewer = to_opened.faults_never_fall;
+      goes_on = GoesOn-append before.disk (disk_of first) after.disk to_opened from_first;
+      survives = survives before.disk.content opened.stands (λ is. sym steady ∙ is);
+    }
+
+  pub serves_desk : ∥ HasTurned told first second kept ∥₁ → ServesDesk (service (r.row_of by) (r.digest_of by) setup) kept before after end
+  serves_desk turned =
+      as_served (service (r.row_of by) (r.digest_of by) setup) kept before after end (∥∥₁_map turned (λ (t : HasTurned told first second kept). desk_of t))
 
 -- nothing was swept
 pub unswept : (told : Told) (disk : DiskTold) (early late : Outlook) → IsDisk disk → (basis : Basis) (state : State)
+    → (IsTrue basis.is_told → (image : List ℕ) → disk.images image → Allowed state image)
     → ClosesBook (surroundings told disk early) (surroundings told disk late) (H.Swept S.NoMemory) basis state state
-unswept told disk early late is basis state =
-    record { ends = (record { behind = ([], sym (append-nil state.log)); cause = λ is. cc; stage = λ is. cc }, refl); goes_on = GoesOn-none disk is }
+unswept told disk early late is basis state allowed = record {
+  ends = (record { behind = still state; cause = λ is. cc; stage = λ is. cc }, refl);
+  leaves = nothing_done basis state disk is allowed;
+}
 
 -- the disk that was lent ends as this one
 pub served_on : {D : Type 0} (state : D → DiskTold) (final here : D) → final ≡ here

@@ -1,6 +1,9 @@
+pub mod Begun
 pub mod Hosted
 pub mod Hostings
 pub mod Pushed
 pub mod Signatures
+pub mod Stops
 pub mod Storms
 pub mod Sweeps
+pub mod Unreported

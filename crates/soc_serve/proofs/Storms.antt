@@ -1,10 +1,8 @@
 -- A storm over a book in memory is one over its log.
 use Rattle.std.proofs.Common.{◌≡◌, ℕ, true, IsTrue, List, [], ◌++◌, length, Option, Some, Result, Ok, Err, refl, sym, ap, ◌∙◌, subst}
-use Rattle.std.specs.Prelude.{IfOk}
-use Rattle.std.proofs.Math.Logic.{∥∥₁_map, ∥∥₁_map₂}
-use Rattle.soc_raw.specs.Record.{Crash}
+use Rattle.std.specs.Prelude.{IfOk, IfSome, is_some}
+use Rattle.std.proofs.Math.Logic.{∥∥₁_map}
 use Rattle.soc_schema.specs.declared.reporter.Reporter as reporter
-use Rattle.soc_schema.specs.declared.value.Cell.{Cell}
 use Rattle.soc_base.specs.Names.{value_of}
 use Rattle.soc_edge.specs.Calls.{Calls}
 use Rattle.soc_edge.specs.Disk.{DiskTold}
@@ -13,24 +11,28 @@ use Rattle.soc_edge.specs.Memory.{TreeState, tree_told}
 use Rattle.soc_ledger.specs.Events.{held_ids}
 use Rattle.soc_ledger.specs.Reported.{report_count}
 use Rattle.soc_report.specs.Texts.{KitTexts}
+use Rattle.soc_vault.specs.Openings.{AreEntriesOf}
 use Rattle.soc_desk.specs.declared.desk.Limits.{Limits}
 use Rattle.soc_desk.specs.Basis.{Basis}
-use Rattle.soc_desk.specs.Log.{events}
+use Rattle.soc_desk.specs.Log.{Change, events}
 use Rattle.soc_desk.specs.State.{State}
+use Rattle.soc_desk.specs.Runs.{DeskAt}
 use Rattle.soc_book.specs.declared.book.Book.{Book}
-use Rattle.soc_book.specs.Books.{StandsFor, limits_of, reporter_of}
-use Rattle.soc_turns.specs.Grounds.{basis_of, desk_basis}
+use Rattle.soc_book.specs.Books.{StandsFor, disk_of, limits_of, reporter_of}
+use Rattle.soc_book.specs.Openings.{IsBasisOf, OpensBook}
+use Rattle.soc_turns.specs.Runs.{HasRun}
 use Rattle.soc_replay.specs.declared.refusal.FilesFault.{FilesFault}
 use Rattle.soc_replay.specs.declared.setup.Setup.{Setup}
 use Rattle.soc_replay.specs.Files.{Said, Says}
 use Rattle.soc_replay.specs.Replay.{digest_of, rows_of}
 use Rattle.soc_serve.specs.declared.sweep.SweepFault.{SweepFault}
 use Rattle.soc_serve.specs.Lines.{lines_of}
-use Rattle.soc_serve.specs.Storm.{PlaysOut, Subsides, no_files, signatures_of, term_lines}
+use Rattle.soc_serve.specs.Storm.{AreNoReports, PlaysOut, Subsides, no_files, signatures_of, term_lines}
 use Rattle.soc_serve.specs.inner.Storm.{PlaysBy}
 use Rattle.soc_serve.specs.inner.Sweeping.{EndsDrain}
-use Rattle.soc_serve.proofs.Hostings.{same_basis}
+use Rattle.soc_serve.proofs.Begun.{HasTurned, basis as basis_by, begun as begun_by, nothing_opened, opened as opened_by, run_of}
 use Rattle.soc_serve.proofs.Sweeps.{nothing_due}
+use Rattle.soc_serve.proofs.Unreported.{run_none}
 
 -- ---- the end
 
@@ -53,41 +55,51 @@ subsided basis before after disk disk' result count crashes reports text whole i
 
 -- ---- the whole
 
--- what all turns have left of a book's basis
-pub record StaysBased (row_of row_of' : Crash → List Cell) (digest digest' : Option (List ℕ)) (limits limits' : Limits) : Type 0 where
-  pub same_rows : row_of' ≡ row_of
-  pub same_digest : digest' ≡ digest
-  pub same_limits : limits' ≡ limits
+module _ {D R : Type 0} {d : disk.Ghosts D} {r : reporter.Ghosts R} (before : DiskTold) (empty : before.content ≡ Some []) (by : R) (limits : Limits) (count : ℕ)
+    (first second : Book D R d r) (reporter_is : reporter_of first ≡ by) (limits_are : limits_of first ≡ limits)
+    (opens : (basis : Basis) → IsBasisOf (r.row_of by) (r.digest_of by) limits before.content basis → OpensBook basis before (disk_of first) (StandsFor basis first)) where
+  told_all : is_some before.content ≡ true
+  told_all = ap (λ (c : Option (List ℕ)). is_some c) empty
 
-module _ {D R : Type 0} {d : disk.Ghosts D} {r : reporter.Ghosts R} (row_of : Crash → List Cell) (digest : Option (List ℕ)) (limits : Limits) (count : ℕ) (book : Book D R d r) where
   abbrev basis : Basis
-  basis = desk_basis row_of digest limits true
+  basis = basis_by true before told_all by limits first second reporter_is limits_are opens
+
+  abbrev opened : OpensBook basis before (disk_of first) (StandsFor basis first)
+  opened = opened_by true before told_all by limits first second reporter_is limits_are opens
+
+  abbrev begun : DeskAt
+  begun = begun_by true before told_all by limits first second reporter_is limits_are opens
+
+  found : AreEntriesOf [] opened.entries
+  found = subst (λ (c : Option (List ℕ)). IfSome c (λ bytes. AreEntriesOf bytes opened.entries)) empty opened.found
 
   abbrev IsSummed : List ℕ → Type 0
-  IsSummed text = (basis : Basis) (state : State) → basis.row_of ≡ r.row_of (reporter_of book) → IsTrue basis.is_told → StandsFor basis book state → Subsides basis state count text
+  IsSummed text = (basis : Basis) (state : State) → basis.row_of ≡ r.row_of (reporter_of second) → IsTrue basis.is_told → StandsFor basis second state → Subsides basis state count text
 
-  abbrev Stood : Type 0
-  Stood = (state : State) × StandsFor (basis_of true book) book state
-
-  abbrev Based : Type 0
-  Based = StaysBased row_of (r.row_of (reporter_of book)) digest (r.digest_of (reporter_of book)) limits (limits_of book)
-
-  played : (text : List ℕ) → IsSummed text → Stood → Based → PlaysBy row_of digest limits count text
-  played text summed stood based =
-      let here : StandsFor basis book stood.0 =
-      subst (λ (b : Basis). StandsFor b book stood.0) (same_basis row_of _ digest _ true limits _ based.same_rows based.same_digest based.same_limits) stood.1 in
+  played : (kept : ℕ) (text : List ℕ) → IsSummed text → HasTurned true first second kept → PlaysBy (r.row_of by) (r.digest_of by) limits count text
+  played kept text summed turned =
+      let ran : HasRun basis first second begun = run_of true before told_all by limits first second reporter_is limits_are opens kept turned in
+      let none = nothing_opened basis opened.entries opened.log opened.opens found in
       record {
-        basis = basis;
-        basis_is = record { rows = refl; digest_is = refl; bytes = refl; crashes_are = refl; tells = λ is. refl };
-        told = refl;
-        closed = stood.0;
-        legal = here.legal;
-        subsides = summed basis stood.0 (sym based.same_rows) refl here;
+        opening = record {
+          basis = basis;
+          basis_is = record { rows = refl; digest_is = refl; bytes = refl; crashes_are = refl; tells = λ is. refl };
+          told = refl;
+          entries = opened.entries;
+          log = opened.log;
+          found = found;
+          opens = opened.opens;
+        };
+        closed = ran.last.state;
+        legal = ran.over.stands.legal;
+        none_kept = run_none basis (disk_of second).since ran.turns begun ran.last ran.runs (subst (λ (l : List Change). AreNoReports (events basis l)) (sym none) tt) tt;
+        subsides = summed basis ran.last.state (ap r.row_of (sym (turned.same_reporter ∙ reporter_is))) refl ran.over.stands;
       }
 
-  pub plays_ok : {E : Type 0} (result : Result (List ℕ) E) → IfOk result IsSummed → ∥ Stood ∥₁ → ∥ Based ∥₁ → IfOk result (λ text. ∥ PlaysBy row_of digest limits count text ∥₁)
-  plays_ok (Ok text) summed stood based = ∥∥₁_map₂ stood based (λ (s : Stood) (b : Based). played text summed s b)
-  plays_ok (Err error) summed stood based = tt
+  pub plays_ok : {E : Type 0} (kept : ℕ) (result : Result (List ℕ) E) → IfOk result IsSummed → ∥ HasTurned true first second kept ∥₁
+      → IfOk result (λ text. ∥ PlaysBy (r.row_of by) (r.digest_of by) limits count text ∥₁)
+  plays_ok kept (Ok text) summed turned = ∥∥₁_map turned (λ (t : HasTurned true first second kept). played kept text summed t)
+  plays_ok kept (Err error) summed turned = tt
 
 -- by the kit that the texts of a tree without files are seen as
 pub plays_out : (kit texts : KitTexts) (setup : Setup) (count : ℕ) (text : List ℕ) → kit ≡ texts → Says (Some no_files) (Ok (record { setup = setup; texts = texts }))
@@ -96,11 +108,10 @@ plays_out kit texts setup count text same says plays =
     ∥∥₁_map (subst (λ k. ∥ PlaysBy (rows_of k) (digest_of k) setup.limits count text ∥₁) same plays) (λ (p : PlaysBy (rows_of texts) (digest_of texts) setup.limits count text). record {
       said = record { setup = setup; texts = texts };
       says = says;
-      basis = p.basis;
-      basis_is = p.basis_is;
-      told = p.told;
+      opening = p.opening;
       closed = p.closed;
       legal = p.legal;
+      none_kept = p.none_kept;
       subsides = p.subsides;
     })
 

@@ -1,5 +1,5 @@
 -- What the steps of the last sweep do to a desk's state.
-use Rattle.std.proofs.Common.{◌≡◌, ◌⊎◌, ℕ, true, false, List, [], ◌∷◌, ◌++◌, map, Result, Ok, Err, refl, sym, ap, ◌∙◌, inl, inr, ⊎_elim, append_assoc, append-nil, arith, ◌≤◌}
+use Rattle.std.proofs.Common.{◌≡◌, ℕ, true, false, List, [], ◌∷◌, ◌++◌, map, Result, Ok, Err, refl, sym, ap, ◌∙◌, inl, inr, ⊎_elim, append_assoc, append-nil, arith, ◌≤◌}
 use Rattle.std.proofs.lemmas.List.{map-append}
 use Rattle.soc_base.proofs.Folk.{none_is_not_some}
 use Rattle.soc_edge.specs.Disk.{DiskTold, DiskFailed, GoesOn}
@@ -84,10 +84,10 @@ later_fault disk middle disk' on failed = wider_fault disk middle disk' disk' on
 behind_both : (log middle after piece more : List Change) → middle ≡ log ++ piece → after ≡ middle ++ more → after ≡ log ++ (piece ++ more)
 behind_both log middle after piece more first last = last ∙ (ap (λ l. l ++ more) first ∙ append_assoc log piece more)
 
-still : (state : State) → IsBehind state state
+pub still : (state : State) → IsBehind state state
 still state = ([], sym (append-nil state.log))
 
-behind_again : (before middle after : State) → IsBehind before middle → IsBehind middle after → IsBehind before after
+pub behind_again : (before middle after : State) → IsBehind before middle → IsBehind middle after → IsBehind before after
 behind_again before middle after first last =
     (first.0 ++ last.0, behind_both before.log middle.log after.log first.0 last.0 first.1 last.1)
 
@@ -129,7 +129,7 @@ drain_behind basis before disk (Err fault) after disk' ends = ends.behind
 pub ends_both : (basis : Basis) (before first after : State) (disk middle disk' : DiskTold) (result : Result (Unit {0}) SweepFault) (count : ℕ)
     → EndsDrain basis before disk result first middle → GoesOn middle disk' → KeepsAll basis first count after
     → EndsBoth basis before disk result after disk'
-ends_both basis before first after disk middle disk' (Ok over) count ends on keeps = (first, ends.0, count, ends.1, keeps)
+ends_both basis before first after disk middle disk' (Ok done) count ends on keeps = (first, ends.0, count, ends.1, keeps)
 ends_both basis before first after disk middle disk' (Err fault) count ends on keeps = (
   fails_within basis before before first after disk disk middle disk' fault (omega arith) (still before) ends on.faults_never_fall (keeps.piece, keeps.behind),
   λ is. inr (first, count, ends.behind, keeps),
@@ -137,11 +137,11 @@ ends_both basis before first after disk middle disk' (Err fault) count ends on k
 
 -- the first step failed, or the second did
 pub first_failed : (basis : Basis) (before after : State) (disk disk' : DiskTold) (fault : SweepFault) → FailsStep basis before disk fault after disk'
-    → (fault ≡ S.Disk → FailsKeeping basis before after ⊎ (FailsProcessing basis before after ⊎ FailsLate basis before after)) → FailsSweep basis before disk fault after disk'
+    → (fault ≡ S.Disk → FailsKeeping basis before after ⊎ (FailsProcessing basis before after ⊎ FailsLate basis before after)) → FailsSweep basis before disk.faults fault after disk'.faults
 first_failed basis before after disk disk' fault fails stage = record { behind = fails.behind; cause = fails.cause; stage = stage }
 
 pub second_failed : (basis : Basis) (before opened after : State) (disk middle disk' : DiskTold) (fault : SweepFault) (early : ℕ) → GoesOn disk middle
-    → KeepsAll basis before early opened → EndsBoth basis opened middle (Err fault) after disk' → FailsSweep basis before disk fault after disk'
+    → KeepsAll basis before early opened → EndsBoth basis opened middle (Err fault) after disk' → FailsSweep basis before disk.faults fault after disk'.faults
 second_failed basis before opened after disk middle disk' fault early on keeps ends =
     let behind : IsBehind before opened = (keeps.piece, keeps.behind) in
     first_failed basis before after disk disk' fault (fails_behind basis before opened after disk middle disk' fault on behind ends.0)

@@ -1,16 +1,18 @@
 -- The service over a listener, by collectors and processors beside each other. This project's profile.
-use Rattle.std.specs.Prelude.{◌≡◌, ◌⊎◌, ℕ, ◌≤◌, IsTrue, List, ◌++◌, Option, None, Some, Ok}
+use Rattle.std.specs.Prelude.{◌≡◌, ◌⊎◌, ℕ, ◌≤◌, IfSome, List, ◌++◌, Option, None, Some, Ok}
 use Rattle.soc_edge.specs.Disk.{DiskFailed, GoesOn}
 use Rattle.soc_edge.specs.Faults.{Rose}
 use Rattle.soc_edge.specs.Told.{OnlyWrites, WriteFailed, Writes}
 use Rattle.soc_edge.specs.Tree.{OnlyLooks, TreeFailed}
 use Rattle.soc_edge.specs.World.{Outside, Surroundings}
+use Rattle.soc_desk.specs.declared.desk.Command.{Command}
+use Rattle.soc_desk.specs.declared.desk.Receipt.{Receipt}
 use Rattle.soc_desk.specs.Basis.{Basis}
-use Rattle.soc_desk.specs.Log.{events}
-use Rattle.soc_desk.specs.State.{State, IsLegalState, Allowed}
-use Rattle.soc_service.specs.declared.change.Change.{Change as Turned}
-use Rattle.soc_service.specs.Changes.{events_in, kept_in}
-use Rattle.soc_turns.specs.Logs.{changes_of}
+use Rattle.soc_desk.specs.Log.{Change, events}
+use Rattle.soc_desk.specs.Runs.{Answers, DeskAt}
+use Rattle.soc_desk.specs.State.{State, IsLegalState, settled}
+use Rattle.soc_service.specs.Changes.{kept_in}
+use Rattle.soc_turns.specs.Runs.{RunsTurns}
 use Rattle.soc_words.specs.declared.words.Task.{Task}
 use Rattle.soc_words.specs.declared.words.Task.TheVariants as T
 use Rattle.soc_words.specs.declared.words.Words.{Words}
@@ -19,7 +21,7 @@ use Rattle.soc_replay.specs.declared.ending.RunEnd.TheVariants as R
 use Rattle.soc_replay.specs.Files.{Said, Says}
 use Rattle.soc_replay.specs.Opening.{OpensJournal}
 use Rattle.soc_replay.specs.Replay.{Replays, service_of}
-use Rattle.soc_replay.specs.Serving.{Service}
+use Rattle.soc_replay.specs.Serving.{Service, SurvivesStops}
 use Rattle.soc_replay.specs.Tasks.{TellsHow, WantsMemory}
 use Rattle.soc_serve.specs.declared.ending.HostEnd.{HostEnd}
 use Rattle.soc_serve.specs.declared.ending.HostEnd.TheVariants as H
@@ -29,33 +31,41 @@ use Rattle.soc_serve.specs.Sweep.{FailsSweep, Sweeps}
 
 -- ---- once the journal is open
 
--- the last sweep, and the lines behind it, by the service's end
-abbrev pub Closes : Surroundings → Surroundings → HostEnd → Basis → State → State → Type 0
-Closes before after (H.Before end) basis closed swept = ⊥
-Closes before after (H.Swept fault) basis closed swept =
-    FailsSweep basis closed before.disk fault swept after.disk × (after.streams ≡ before.streams)
-Closes before after (H.Lines fault) basis closed swept =
-    Sweeps basis closed swept × CutsLines before.streams after.streams (counts_text (events basis swept.log)) fault
-Closes before after H.Failed basis closed swept =
-    Sweeps basis closed swept × Writes before.streams after.streams (counts_text (events basis swept.log))
-Closes before after H.Done basis closed swept =
-    Sweeps basis closed swept × Writes before.streams after.streams (counts_text (events basis swept.log))
+-- the last sweep since that desk, and the lines behind it, by the service's end
+abbrev pub Closes : Surroundings → Surroundings → HostEnd → Basis → DeskAt → State → Type 0
+Closes before after (H.Before end) basis served swept = ⊥
+Closes before after (H.Swept fault) basis served swept =
+    FailsSweep basis served.state served.faults fault swept after.disk.faults × (after.streams ≡ before.streams)
+Closes before after (H.Lines fault) basis served swept =
+    Sweeps basis served.state swept × CutsLines before.streams after.streams (counts_text (events basis swept.log)) fault
+Closes before after H.Failed basis served swept =
+    Sweeps basis served.state swept × Writes before.streams after.streams (counts_text (events basis swept.log))
+Closes before after H.Done basis served swept =
+    Sweeps basis served.state swept × Writes before.streams after.streams (counts_text (events basis swept.log))
 
--- The journal is opened. What all collectors and processors together have added to its log counts so many kept changes and
--- stops. Then comes the last sweep.
+-- The journal is opened. The turns of all collectors and processors, in their order, are one run of a desk from the opened log,
+-- and what they have added to it counts so many kept changes and stops. Then comes the last sweep.
 pub record HostsDesk (by : Service) (kept : ℕ) (before after : Surroundings) (end : HostEnd) : Type 0 where
   pub opening : OpensJournal by.row_of by.digest by.setup.limits before.disk.content
+  -- the desk when the journal stood, and when all threads had ended
+  pub opened : DeskAt
+  pub opened_as : opened.state ≡ settled opening.log
+  pub served : DeskAt
   -- what was served
-  pub closed : State
-  pub legal : IsLegalState opening.basis closed
-  pub added : List Turned
-  pub behind : changes_of opening.basis closed.log ≡ changes_of opening.basis opening.log ++ added
-  pub kept_are : kept_in (events_in added) ≡ kept
+  pub turns : List (Command × Receipt)
+  pub runs : RunsTurns (Answers opening.basis after.disk.since) opened turns served
+  pub legal : IsLegalState opening.basis served.state
+  pub added : List Change
+  pub behind : served.state.log ≡ opening.log ++ added
+  pub kept_are : kept_in (events opening.basis added) ≡ kept
   -- the sweep and the lines
   pub swept : State
-  pub closes : Closes before after end opening.basis closed swept
+  pub closes : Closes before after end opening.basis served swept
+  -- the disk's time and its faults
+  pub no_fewer : before.disk.faults ≤ opened.faults
   pub goes_on : GoesOn before.disk after.disk
-  pub allowed : IsTrue opening.basis.is_told → (image : List ℕ) → after.disk.images image → Allowed swept image
+  -- every stop
+  pub survives : IfSome before.disk.content (λ bytes. SurvivesStops before.disk after.disk bytes opened served swept)
 
 -- ---- the whole
 

@@ -1,6 +1,7 @@
 -- A storm: crashes that the program makes are submitted to a service over objects in memory, and then it is told what the
 -- service's log has. This project's profile.
-use Rattle.std.specs.Prelude.{◌≡◌, ℕ, zero, suc, ◌%◌, ◌==◌, if◌then◌else◌, IsTrue, List, [], ◌∷◌, ◌++◌, length, codes, Some, Ok}
+use Rattle.std.specs.Prelude.{◌≡◌, ℕ, zero, suc, ◌%◌, ◌==◌, if◌then◌else◌, Bool, true, false, List, [], ◌∷◌, ◌++◌, length, codes, Some, Ok}
+use Rattle.std.specs.List.{AllByRecursion}
 use Rattle.soc_base.specs.Names.{value_of}
 use Rattle.soc_schema.specs.declared.caller.Caller.{Caller}
 use Rattle.soc_schema.specs.declared.caller.Products.TheVariants.{All as AllProducts}
@@ -11,16 +12,18 @@ use Rattle.soc_query.specs.declared.answer.Term.{Term}
 use Rattle.soc_query.specs.Answers.{terms_of}
 use Rattle.soc_schema.specs.Values.{text_in}
 use Rattle.soc_report.specs.Texts.{Files}
+use Rattle.soc_ledger.specs.declared.event.Event.{Event}
+use Rattle.soc_ledger.specs.declared.event.Event.TheVariants as E
 use Rattle.soc_ledger.specs.Due.{due_ids}
 use Rattle.soc_ledger.specs.Events.{held_ids}
 use Rattle.soc_desk.specs.Basis.{Basis}
 use Rattle.soc_desk.specs.Log.{Change, events}
 use Rattle.soc_desk.specs.State.{State, IsLegalState}
 use Rattle.soc_desk.specs.View.{rows_in, view_of}
-use Rattle.soc_book.specs.Openings.{IsBasisOf}
 use Rattle.soc_made.specs.Made.{made_crash}
 use Rattle.soc_replay.specs.Check.{count_line}
 use Rattle.soc_replay.specs.Files.{Said, Says}
+use Rattle.soc_replay.specs.Opening.{OpensJournal}
 use Rattle.soc_edge.specs.World.{Outside, StaysQuiet}
 use Rattle.soc_replay.specs.Replay.{digest_of, rows_of}
 use Rattle.soc_replay.specs.Tasks.{LeavesTexts}
@@ -62,6 +65,14 @@ storm_text basis log = counts_text (events basis log) ++ term_lines (signatures_
 
 -- ---- the end of the service
 
+-- the event is that of a kept report
+abbrev pub is_report : Event → Bool
+is_report (E.Reported id own) = true
+is_report _ = false
+
+abbrev pub AreNoReports : List Event → Type 0
+AreNoReports events = AllByRecursion (λ event. is_report event ≡ false) events
+
 -- what is due is processed; then nothing is due, each of so many crashes is held, and this text tells what the log has
 pub record Subsides (basis : Basis) (closed : State) (count : ℕ) (text : List ℕ) : Type 0 where
   pub processed : ℕ
@@ -77,17 +88,16 @@ pub record Subsides (basis : Basis) (closed : State) (count : ℕ) (text : List 
 abbrev pub no_files : Files
 no_files = value_of []
 
--- The service went by what a tree without files says, over an empty disk that tells its content, and the log that it left is
--- legal.
+-- The service went by what a tree without files says, over an empty disk that tells its content. The log that it left is legal,
+-- and has no report that was kept, so that each was made since.
 pub record PlaysOut (count : ℕ) (text : List ℕ) : Type 0 where
   pub said : Said
   pub says : Says (Some no_files) (Ok said)
-  pub basis : Basis
-  pub basis_is : IsBasisOf (rows_of said.texts) (digest_of said.texts) said.setup.limits (Some []) basis
-  pub told : IsTrue basis.is_told
+  pub opening : OpensJournal (rows_of said.texts) (digest_of said.texts) said.setup.limits (Some [])
   pub closed : State
-  pub legal : IsLegalState basis closed
-  pub subsides : Subsides basis closed count text
+  pub legal : IsLegalState opening.basis closed
+  pub none_kept : AreNoReports (events opening.basis closed.log)
+  pub subsides : Subsides opening.basis closed count text
 
 -- what is told of a storm of so many crashes, whole or cut short
 pub record TellsStorm (count : ℕ) (Tells : List ℕ → Type 0) : Type 0 where

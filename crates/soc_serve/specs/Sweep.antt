@@ -1,7 +1,8 @@
 -- The last sweep over a desk whose log a journal keeps: the reports that are made are kept for later runs, what is due is
 -- processed and its reports are kept too, and what has become due meanwhile is processed. This project's profile.
 use Rattle.std.specs.Prelude.{◌≡◌, ◌⊎◌, ℕ, false, IsTrue, List, [], ◌++◌, Result, Ok, Err}
-use Rattle.soc_edge.specs.Disk.{DiskTold, DiskFailed}
+use Rattle.soc_edge.specs.Disk.{DiskTold}
+use Rattle.soc_edge.specs.Faults.{Rose}
 use Rattle.soc_ledger.specs.Due.{due_ids}
 use Rattle.soc_desk.specs.declared.desk.Refusal.TheVariants.{StoreFault}
 use Rattle.soc_desk.specs.declared.desk.Reply.{Reply}
@@ -68,13 +69,13 @@ FailsProcessing basis before after = (between : State) × (count : ℕ) × IsBeh
 abbrev pub FailsLate : Basis → State → State → Type 0
 FailsLate basis before after = (kept : State) × KeepsTwice basis before kept × IsBehind kept after
 
--- The sweep failed. The disk is blamed only where it failed, or where it tells nothing and gave back other bytes than it was
--- given. A crash that can't be read costs no other crash its report.
-pub record FailsSweep (basis : Basis) (before : State) (disk : DiskTold) (fault : SweepFault) (after : State) (disk' : DiskTold) : Type 0 where
+-- The sweep failed. The disk is blamed only where its count of faults rose in the sweep, or where it tells nothing and gave back
+-- other bytes than it was given. A crash that can't be read costs no other crash its report.
+pub record FailsSweep (basis : Basis) (before : State) (faults : ℕ) (fault : SweepFault) (after : State) (faults' : ℕ) : Type 0 where
   pub behind : IsBehind before after
-  pub cause : fault ≡ F.Disk → DiskFailed disk disk' ⊎ (basis.is_told ≡ false)
+  pub cause : fault ≡ F.Disk → Rose faults faults' ⊎ (basis.is_told ≡ false)
   pub stage : fault ≡ F.Disk → FailsKeeping basis before after ⊎ (FailsProcessing basis before after ⊎ FailsLate basis before after)
 
 abbrev pub EndsSweep : Basis → State → DiskTold → Result (Unit {0}) SweepFault → State → DiskTold → Type 0
 EndsSweep basis before disk (Ok done) after disk' = Sweeps basis before after
-EndsSweep basis before disk (Err fault) after disk' = FailsSweep basis before disk fault after disk'
+EndsSweep basis before disk (Err fault) after disk' = FailsSweep basis before disk.faults fault after disk'.faults

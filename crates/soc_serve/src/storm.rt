@@ -1,6 +1,7 @@
 //! A storm: crashes that the program makes, submitted to a service over objects in memory.
 ghost use Rattle.std.specs.Prelude.{◌≡◌, ◌≤◌, ◌<◌, ◌++◌, ◌+◌, [], map, IfOk, Some};
 ghost use Rattle.soc_edge.specs.Calls.{no_calls};
+ghost use Rattle.soc_edge.specs.DiskLog.{content_of};
 ghost use Rattle.soc_edge.specs.Told.{OnlyWrites, WriteFailed};
 ghost use Rattle.soc_listen.specs.Memory.{fresh_listener};
 ghost use Rattle.soc_words.specs.Words.{LieInRanges};
@@ -137,6 +138,7 @@ fn play_on<'s, R: Threads + Wait + Sync, P: Reporter + Sync, G: Gate + Sync>(
     requires few { words.now.count ≤ 65536 }
     requires crew { (setting.crew.collectors ≡ words.now.collectors)
         × (setting.crew.processors ≡ words.now.processors) }
+    requires empty { content_of disk.old ≡ [] }
     ensures { IfOk result (λ text.
         ∥ PlaysBy (P.row_of setting.entry.reporter.now)
         (P.digest_of setting.entry.reporter.now) limits words.now.count text ∥₁) }
@@ -168,9 +170,10 @@ fn play_on<'s, R: Threads + Wait + Sync, P: Reporter + Sync, G: Gate + Sync>(
     text
 }
 
-/// A disk with room for the entries of so many made crashes.
+/// An empty disk with room for the entries of so many made crashes.
 fn new_disk(alloc: Global, count: u32) -> Result<MemDisk, NoMemory>
     requires few { count ≤ 65536 }
+    ensures { IfOk result (λ disk. content_of disk ≡ []) }
 {
     let room = (u64::from(count) + 1) * ENTRY_BYTES;
     let calls = (count + 1) * ENTRY_CALLS;

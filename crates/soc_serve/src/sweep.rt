@@ -1,11 +1,10 @@
 //! The last sweep.
 ghost use Rattle.std.specs.Prelude.{◌≡◌, Ok, Err};
-ghost use Rattle.soc_edge.specs.Disk.{GoesOn};
 ghost use Rattle.soc_desk.specs.Basis.{Basis};
 ghost use Rattle.soc_desk.specs.State.{State};
 ghost use Rattle.soc_book.specs.Books.{SameSetting, StandsFor, disk_of, lent_to, reporter_of};
 ghost use Rattle.soc_serve.specs.Sweep.{EndsSweep};
-ghost use Rattle.soc_serve.specs.inner.Sweeping.{EndsBoth, EndsDrain, EndsKeep, drained, kept};
+ghost use Rattle.soc_serve.specs.inner.Sweeping.{EndsBoth, EndsDrain, EndsKeep, LeavesMore, LeavesSame, drained, kept};
 
 use soc_book::Book;
 use soc_desk::{Refusal, Reply};
@@ -29,7 +28,7 @@ pub(crate) fn sweep<D: Disk, R: Reporter>(book: &mut Book<'_, D, R>) -> Result<(
         → basis.digest ≡ R.digest_of (reporter_of book.old)
         → StandsFor basis book.old state → (after : State) × StandsFor basis book.new after
         × EndsSweep basis state (disk_of book.old) result after (disk_of book.new)
-        × GoesOn (disk_of book.old) (disk_of book.new) }
+        × LeavesMore basis state (disk_of book.old) after (disk_of book.new) }
 {
     keep(book)?;
     process_and_keep(book)?;
@@ -43,7 +42,7 @@ fn process_and_keep<D: Disk, R: Reporter>(book: &mut Book<'_, D, R>) -> Result<(
         → basis.digest ≡ R.digest_of (reporter_of book.old)
         → StandsFor basis book.old state → (after : State) × StandsFor basis book.new after
         × EndsBoth basis state (disk_of book.old) result after (disk_of book.new)
-        × GoesOn (disk_of book.old) (disk_of book.new) }
+        × LeavesMore basis state (disk_of book.old) after (disk_of book.new) }
 {
     let processed = drain(book);
     keep(book)?;
@@ -56,7 +55,7 @@ pub(crate) fn drain<D: Disk, R: Reporter>(book: &mut Book<'_, D, R>) -> Result<(
     ensures ends { (basis : Basis) (state : State) → basis.row_of ≡ R.row_of (reporter_of book.old)
         → StandsFor basis book.old state → (after : State) × StandsFor basis book.new after
         × EndsDrain basis state (disk_of book.old) result after (disk_of book.new)
-        × GoesOn (disk_of book.old) (disk_of book.new) }
+        × LeavesSame basis state (disk_of book.old) after (disk_of book.new) }
 {
     drained(&book.drain())
 }
@@ -79,7 +78,7 @@ fn keep<D: Disk, R: Reporter>(book: &mut Book<'_, D, R>) -> Result<(), SweepFaul
         → basis.digest ≡ R.digest_of (reporter_of book.old)
         → StandsFor basis book.old state → (after : State) × StandsFor basis book.new after
         × EndsKeep basis state (disk_of book.old) result after (disk_of book.new)
-        × GoesOn (disk_of book.old) (disk_of book.new) }
+        × LeavesMore basis state (disk_of book.old) after (disk_of book.new) }
 {
     kept(&book.keep())
 }

@@ -1,4 +1,5 @@
 pub mod Idle
 pub mod Logs
+pub mod Runs
 pub mod Sharing
 pub mod Crossing

@@ -3,7 +3,7 @@ use Rattle.std.proofs.Common.{◌≡◌, ◌⊎◌, inl, inr, ℕ, ◌<◌, ◌^
 use Rattle.std.specs.Prelude.{bytes_eq, is_some, if◌then◌else◌}
 use Rattle.std.specs.List.{AllByRecursion, find}
 use Rattle.std.specs.Option.{option_map, option_and_then}
-use Rattle.std.proofs.Math.Logic.{∥∥₁_elim, ∥∥₁_map, ∥∥₁_map₂}
+use Rattle.std.proofs.Math.Logic.{∥∥₁_elim, ∥∥₁_map}
 use Rattle.std.proofs.Math.Seq.{take-append_seam}
 use Rattle.std.proofs.lemmas.List.{length-map, map-append, take-append-drop}
 use mathlib.Core.List.{IsPrefix}
@@ -14,9 +14,8 @@ use Rattle.soc_raw.specs.declared.raw_crash.RawCrash.{RawCrash}
 use Rattle.soc_raw.proofs.Records.{same_crash}
 use Rattle.soc_schema.specs.declared.reporter.Reporter as reporter
 use Rattle.soc_schema.specs.declared.value.Cell.{Cell}
-use Rattle.soc_edge.specs.Disk.{DiskTold, GoesOn}
+use Rattle.soc_edge.specs.Disk.{DiskTold, IsDisk}
 use Rattle.soc_edge.specs.declared.disk.Disk as disk
-use Rattle.soc_edge.proofs.Disks.{GoesOn-append}
 use Rattle.soc_journal.specs.Entries.{Entry}
 use Rattle.soc_journal.specs.States.{JournalState}
 use Rattle.soc_ledger.specs.Due.{is_due}
@@ -47,10 +46,12 @@ use Rattle.soc_service.specs.Changes.{events_in, text_in}
 use Rattle.soc_turns.specs.Changes.{body_at, changes_at}
 use Rattle.soc_turns.specs.Logs.{change_of, changes_of}
 use Rattle.soc_turns.specs.Grounds.{basis_of, desk_basis}
+use Rattle.soc_turns.specs.Runs.{RunsFrom}
 use Rattle.soc_service.specs.Answers.{Answers, FetchesText, MayAsk, TellsIdle}
 use Rattle.soc_turns.proofs.Idle.{doubt_counts, tells_idle}
 use Rattle.soc_service.proofs.Codes.{one_log}
 use Rattle.soc_turns.proofs.Logs.{events_are, log_is, text_is}
+use Rattle.soc_turns.proofs.Runs.{turns_on}
 
 -- ---- what may be asked
 
@@ -177,7 +178,7 @@ answers_of basis before after legal log log' disk disk' command receipt is is' a
 prefix_by : (log log' : List Change) → take (length log) log' ≡ log → IsPrefix log log'
 prefix_by log log' front = (drop (length log) log', ap (λ l. l ++ drop (length log) log') (sym front) ∙ take-append-drop (length log) log')
 
-same_basis : {R : Type 0} (rows : R → Crash → List Cell) (digests : R → Option (List ℕ)) (tells : Bool) {by by' : R} {limits limits' : Limits} → by' ≡ by → limits' ≡ limits
+pub same_basis : {R : Type 0} (rows : R → Crash → List Cell) (digests : R → Option (List ℕ)) (tells : Bool) {by by' : R} {limits limits' : Limits} → by' ≡ by → limits' ≡ limits
     → desk_basis (rows by) (digests by) limits tells ≡ desk_basis (rows by') (digests by') limits' tells
 same_basis rows digests tells {by = by} {limits' = limits'} same_reporter same_limits =
     sym (ap (λ x. desk_basis (rows x) (digests x) limits' tells) same_reporter ∙ ap (λ l. desk_basis (rows by) (digests by) l tells) same_limits)
@@ -207,8 +208,10 @@ module _ {D R : Type 0} {d : disk.Ghosts D} {r : reporter.Ghosts R} (tells : Boo
         subst (λ (b : Basis). ∥ ((state : State) × StandsFor b after state) ∥₁) (same_basis r.row_of r.digest_of tells setting.reporter setting.limits)
         (∥∥₁_map known (λ (s : Stood before). let a = asks basis s.0 refl s.1 in (a.0, a.1)))
 
-    pub disk_goes_on : (opened : DiskTold) → ∥ GoesOn opened (disk_of before) ∥₁ → ∥ GoesOn opened (disk_of after) ∥₁
-    disk_goes_on opened on = ∥∥₁_map₂ known on (λ (s : Stood before) (first : GoesOn opened (disk_of before)). GoesOn-append opened (disk_of before) (disk_of after) first (asks basis s.0 refl s.1).2.goes_on)
+    pub runs_still : IsDisk (disk_of after) → (opened : Book D R d r) → ∥ RunsFrom basis opened before ∥₁ → ∥ RunsFrom (basis_of tells after) opened after ∥₁
+    runs_still sound opened runs =
+        subst (λ (b : Basis). ∥ RunsFrom b opened after ∥₁) (same_basis r.row_of r.digest_of tells setting.reporter setting.limits)
+        (∥∥₁_map runs (turns_on basis opened before after sound command receipt (λ state stands. asks basis state refl stands)))
 
     answers_at : Stood before → Answers basis (log_of before) command receipt (log_of after)
     answers_at s =

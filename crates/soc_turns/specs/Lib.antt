@@ -1,3 +1,4 @@
 pub mod Grounds
 pub mod Changes
 pub mod Logs
+pub mod Runs

@@ -2,11 +2,11 @@
 use soc_desk::Limits;
 
 /// What no turn changes. No value of it is made.
-pub struct Grounds<R, D> {
+pub struct Grounds<R, B> {
     pub reporter: R,
     pub limits: Limits,
     /// Which lent disk the book holds.
     pub lent: u64,
-    /// The disk as it was when the book was opened.
-    pub opened: D,
+    /// The book as it was when it was opened.
+    pub opened: B,
 }

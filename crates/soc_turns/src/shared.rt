@@ -1,12 +1,12 @@
 //! A book as the state of a hall.
 ghost use Rattle.std.specs.Prelude.{◌≡◌, slice_get};
-ghost use Rattle.soc_edge.specs.Disk.{GoesOn};
 ghost use Rattle.soc_ledger.specs.Due.{due_ids};
 ghost use Rattle.soc_desk.specs.Basis.{Basis};
 ghost use Rattle.soc_desk.specs.State.{State};
-ghost use Rattle.soc_book.specs.Books.{StandsFor, disk_in, disk_of, lent_to, limits_of, log_in, reporter_of};
+ghost use Rattle.soc_book.specs.Books.{StandsFor, disk_in, lent_to, limits_of, log_in, reporter_of};
 ghost use Rattle.soc_book.specs.Openings.{IsSettled, RestoredFor, Restores};
 ghost use Rattle.soc_turns.specs.Grounds.{basis_of, desk_by};
+ghost use Rattle.soc_turns.specs.Runs.{RunsFrom};
 
 use crate::grounds::Grounds;
 use soc_book::{Book, Prepared, Restored};
@@ -23,11 +23,11 @@ use std::snapshot::Snapshot;
 #[derive(Drop)]
 pub struct SharedBook<'a, D: Telling, R: Reporter> {
     pub(crate) book: Book<'a, D, R>,
-    // The disk as it was when the book was opened.
-    pub(crate) opened: Snapshot<D>,
+    // The book as it was when it was opened.
+    pub(crate) opened: Snapshot<Book<'a, D, R>>,
     ghost stands: { ∥ ((state : State)
         × StandsFor (basis_of D.tells book) book state) ∥₁ },
-    ghost goes_on: { ∥ GoesOn (D.state opened.value) (disk_of book) ∥₁ },
+    ghost runs: { ∥ RunsFrom (basis_of D.tells book) opened.value book ∥₁ },
 }
 
 impl<'a, D: Telling, R: Reporter> SharedBook<'a, D, R> {
@@ -43,7 +43,6 @@ impl<'a, D: Telling, R: Reporter> SharedBook<'a, D, R> {
         requires settled { IsSettled restored }
         requires opens { Restores (R.row_of reporter.now) (R.digest_of reporter.now) limits
             (D.state opened.value) restored (D.state disk.old) }
-        requires goes_on { GoesOn (D.state opened.value) (D.state disk.old) }
         ensures same_disk { lent_to result.book ≡ disk.entry.ghost_name }
         ensures disk { disk_in result.book ≡ disk.old }
         ensures limits { limits_of result.book ≡ limits }
@@ -51,20 +50,19 @@ impl<'a, D: Telling, R: Reporter> SharedBook<'a, D, R> {
         ensures stands { (basis : Basis) (state : State)
             → RestoredFor basis limits restored (D.state disk.old) state
             → StandsFor basis result.book state }
-        ensures opened { result.opened.value ≡ opened.value }
+        ensures opened { result.opened.value ≡ result.book }
     {
-        let book = Book::over(alloc, disk, reporter, limits, restored);
-        SharedBook::new(book, opened)
+        let _ = opened;
+        SharedBook::new(Book::over(alloc, disk, reporter, limits, restored))
     }
 
-    /// A book to be shared, over a disk that was so when the book was opened.
-    fn new(book: Book<'a, D, R>, opened: Snapshot<D>) -> SharedBook<'a, D, R>
-        requires stands { (state : State)
-            × StandsFor (basis_of D.tells book) book state }
-        requires goes_on { GoesOn (D.state opened.value) (disk_of book) }
+    /// A book to be shared.
+    fn new(book: Book<'a, D, R>) -> SharedBook<'a, D, R>
+        requires { (state : State) × StandsFor (basis_of D.tells book) book state }
         ensures book { result.book ≡ book.entry }
-        ensures opened { result.opened.value ≡ opened.value }
+        ensures opened { result.opened.value ≡ result.book }
     {
+        let opened = Snapshot::of(&book);
         SharedBook { book, opened }
     }
 
@@ -100,7 +98,7 @@ impl<'a, D: Telling, R: Reporter> Logged for SharedBook<'a, D, R> {
 
     type Change = Change;
 
-    type Basis = Grounds<R, D>;
+    type Basis = Grounds<R, Book<'a, D, R>>;
 
     ghost log_of = { λ s. changes_at
         (body_at D.tells (disk_of s.book).content) (log_in s.book) (crashes_in s.book) };

@@ -1,8 +1,9 @@
 -- The service over a desk, by its end.
 use Rattle.std.specs.Prelude.{◌≡◌, ℕ}
-use Rattle.soc_edge.specs.Disk.{DiskFailed, GoesOn}
+use Rattle.soc_edge.specs.Disk.{DiskTold, DiskFailed}
 use Rattle.soc_edge.specs.World.{Surroundings}
 use Rattle.soc_desk.specs.Basis.{Basis}
+use Rattle.soc_desk.specs.Runs.{DeskAt}
 use Rattle.soc_desk.specs.State.{State}
 use Rattle.soc_replay.specs.declared.ending.RunEnd.{RunEnd}
 use Rattle.soc_replay.specs.Ends as run
@@ -11,11 +12,16 @@ use Rattle.soc_replay.specs.Serving.{Service}
 use Rattle.soc_serve.specs.declared.ending.HostEnd.{HostEnd}
 use Rattle.soc_serve.specs.declared.ending.HostEnd.TheVariants as H
 use Rattle.soc_serve.specs.Hosts.{Closes, HostsDesk}
+use Rattle.soc_serve.specs.inner.Sweeping.{LeavesMore}
+
+-- the desk over the disk as it is now
+abbrev pub desk_at : State → DiskTold → DeskAt
+desk_at state disk = record { state = state; moment = disk.moment; faults = disk.faults }
 
 -- the end of the service over a disk
 pub record ClosesBook (before after : Surroundings) (end : HostEnd) (basis : Basis) (closed swept : State) : Type 0 where
-  pub ends : Closes before after end basis closed swept
-  pub goes_on : GoesOn before.disk after.disk
+  pub ends : Closes before after end basis (desk_at closed before.disk) swept
+  pub leaves : LeavesMore basis closed before.disk swept after.disk
 
 -- the journal wasn't opened, and the disk is blamed only where it failed
 pub record EndsOpening (before after : Surroundings) (end : RunEnd) : Type 0 where

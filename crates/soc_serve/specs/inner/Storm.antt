@@ -1,5 +1,5 @@
 -- The steps of a storm.
-use Rattle.std.specs.Prelude.{ℕ, IsTrue, List, [], ◌∷◌, Option, Some, codes}
+use Rattle.std.specs.Prelude.{ℕ, List, [], ◌∷◌, Option, Some, codes}
 use Rattle.std.specs.declared.cmp.Ordering.{Ordering}
 use Rattle.soc_raw.specs.Record.{Crash}
 use Rattle.soc_schema.specs.declared.value.Cell.{Cell}
@@ -8,10 +8,10 @@ use Rattle.soc_schema.specs.Orders.{value_cmp}
 use Rattle.soc_query.specs.declared.answer.Term.{Term}
 use Rattle.soc_query.specs.Queries.{Asked, default_columns}
 use Rattle.soc_desk.specs.declared.desk.Limits.{Limits}
-use Rattle.soc_desk.specs.Basis.{Basis}
+use Rattle.soc_desk.specs.Log.{events}
 use Rattle.soc_desk.specs.State.{State, IsLegalState}
-use Rattle.soc_book.specs.Openings.{IsBasisOf}
-use Rattle.soc_serve.specs.Storm.{Subsides, onlooker}
+use Rattle.soc_replay.specs.Opening.{OpensJournal}
+use Rattle.soc_serve.specs.Storm.{AreNoReports, Subsides, onlooker}
 
 abbrev pub by_value : Term → Term → Ordering
 by_value t u = value_cmp t.value u.value
@@ -35,9 +35,8 @@ signature_pairs =
 
 -- the service over an empty disk, by a reporter
 pub record PlaysBy (row_of : Crash → List Cell) (digest : Option (List ℕ)) (limits : Limits) (count : ℕ) (text : List ℕ) : Type 0 where
-  pub basis : Basis
-  pub basis_is : IsBasisOf row_of digest limits (Some []) basis
-  pub told : IsTrue basis.is_told
+  pub opening : OpensJournal row_of digest limits (Some [])
   pub closed : State
-  pub legal : IsLegalState basis closed
-  pub subsides : Subsides basis closed count text
+  pub legal : IsLegalState opening.basis closed
+  pub none_kept : AreNoReports (events opening.basis closed.log)
+  pub subsides : Subsides opening.basis closed count text

@@ -1,8 +1,9 @@
 -- The steps of the last sweep.
-use Rattle.std.specs.Prelude.{◌≡◌, ◌⊎◌, ℕ, false, Result, Ok, Err}
-use Rattle.soc_edge.specs.Disk.{DiskTold, DiskFailed}
+use Rattle.std.specs.Prelude.{◌≡◌, ◌⊎◌, ℕ, false, IsTrue, Result, Ok, Err}
+use Rattle.soc_edge.specs.Disk.{DiskTold, DiskFailed, GoesOn, LeavesOnly}
 use Rattle.soc_desk.specs.Basis.{Basis}
-use Rattle.soc_desk.specs.State.{State}
+use Rattle.soc_desk.specs.Keeps.{KeepAllows}
+use Rattle.soc_desk.specs.State.{State, Allowed, kept_of}
 use Rattle.soc_desk.specs.declared.desk.Reply.{Reply}
 use Rattle.soc_desk.specs.declared.desk.Reply.TheVariants as R
 use Rattle.soc_desk.specs.declared.desk.Refusal.TheVariants as F
@@ -20,6 +21,24 @@ abbrev pub kept : Reply → Result (Unit {0}) SweepFault
 kept (R.Kept count) = Ok tt
 kept (R.Refused F.NoMemory) = Err S.NoMemory
 kept _ = Err S.Disk
+
+-- the journal's changes and the doubt stay
+pub record SameJournal (before after : State) : Type 0 where
+  pub kept : kept_of after.log ≡ kept_of before.log
+  pub doubt : after.doubt ≡ before.doubt
+
+-- crashes were processed: where the disk tells its content, each stop meanwhile leaves what was allowed before
+pub record LeavesSame (basis : Basis) (before : State) (disk : DiskTold) (after : State) (disk' : DiskTold) : Type 0 where
+  pub goes_on : GoesOn disk disk'
+  pub behind : IsBehind before after
+  pub same : IsTrue basis.is_told → SameJournal before after
+  pub each : IsTrue basis.is_told → LeavesOnly disk disk' (Allowed before)
+
+-- reports were kept too: each stop meanwhile leaves what was allowed before, or some of the reports in order
+pub record LeavesMore (basis : Basis) (before : State) (disk : DiskTold) (after : State) (disk' : DiskTold) : Type 0 where
+  pub goes_on : GoesOn disk disk'
+  pub behind : IsBehind before after
+  pub each : IsTrue basis.is_told → LeavesOnly disk disk' (KeepAllows before after)
 
 -- a step that failed
 pub record FailsStep (basis : Basis) (before : State) (disk : DiskTold) (fault : SweepFault) (after : State) (disk' : DiskTold) : Type 0 where

@@ -3,7 +3,7 @@ use Rattle.std.proofs.Common.{◌≡◌, sym, ap, subst, ◌∙◌}
 use Rattle.std.specs.Prelude.{None}
 use Rattle.std.specs.Coded.{Coded-set, coded_ℕ}
 use Rattle.std.proofs.Crossing.{crosses}
-use Rattle.std.proofs.Math.Logic.{∥∥₁_elim, ∥∥₁_map}
+use Rattle.std.proofs.Math.Logic.{∥∥₁_elim, ∥∥₁_map₂}
 use Rattle.soc_edge.specs.Ahead.{Outlook, outlook}
 use Rattle.soc_edge.specs.Disk.{GoesOn}
 use Rattle.soc_desk.specs.Basis.{Basis}
@@ -11,6 +11,8 @@ use Rattle.soc_desk.specs.State.{State}
 use Rattle.soc_book.specs.Books.{StandsFor}
 use Rattle.soc_book.proofs.Openings.{opens_over}
 use Rattle.soc_book.proofs.Standing.{allowed_in}
+use Rattle.soc_turns.specs.Grounds.{basis_of}
+use Rattle.soc_turns.specs.Runs.{RunsFrom}
 use Rattle.soc_turns.proofs.Crossing.{shared_send}
 use Rattle.soc_edge.specs.World.{surroundings}
 use Rattle.soc_serve.specs.inner.Serving.{ClosesBook}
@@ -51,23 +53,13 @@ returns-clause-serves g c =
     ∥∥₁_elim together (Coded-set coded_ℕ _ _) (λ t. ap (λ basis. basis.lent) t.same_basis) in
     let lent = sym e.same_disk ∙ (sym kept ∙ (sym (ap (λ book. book.vault.disk.ghost_name) c.into_book-book.ensures) ∙ (sym c.close-end.ensures.same_disk ∙ sym c.into_disk-disk.ensures.same_disk))) in
     served_on g.D.Disk.state _ c.close-end.new.book.vault.disk.now (c.disk-1.given.1 lent ∙ c.into_disk-disk.ensures.disk) _ _ _ (g.K.Tells.told c.close-end.new.output) after _
-    (serves_desk (g.Q.Reporter.row_of c.args.purpose.now.reporter.now) (g.Q.Reporter.row_of second.reporter.now) (g.Q.Reporter.digest_of c.args.purpose.now.reporter.now) (g.Q.Reporter.digest_of second.reporter.now) g.D.Telling.tells
-    c.args.purpose.now.setup.now c.serve_together-book.result.served.kept
+    (serves_desk g.D.Telling.tells c.args.purpose.now.reporter.now c.args.purpose.now.setup.now c.serve_together-book.result.served.kept
     (surroundings (g.K.Tells.told c.args.output.now) (g.D.Disk.state c.args.disk.now) before)
     (surroundings (g.K.Tells.told c.close-end.new.output) (g.D.Disk.state c.close-end.new.book.vault.disk.now) after)
     end ((g.met.D.Telling g.world.𝓛 g.world.𝓜 g.world.𝓡 ((λ s x. x), (λ x. x), (λ x. x), λ x. x)).steady c.args.disk.now)
-    first.limits second.limits first.ledger second.ledger first.store second.store first.doubt second.doubt first.vault.journal second.vault.journal
-    (g.D.Disk.state first.vault.disk.now) (g.D.Disk.state second.vault.disk.now) (g.D.Disk.state shared.opened.value)
-    e.limits
+    first second e.reporter e.limits
+    (subst (λ d. GoesOn (g.D.Disk.state c.args.disk.now) (g.D.Disk.state d)) (sym e.disk) c.open.ensures.goes_on)
     (λ basis is. opens_over g.D.Disk.state e.disk (e.stands basis) (c.in-Ok-open.ensures.opens basis is))
-    shared.stands shared.goes_on
-    (∥∥₁_map together (λ t. record {
-      gains = t.gains;
-      same_rows = ap (λ basis. g.Q.Reporter.row_of basis.reporter) t.same_basis ∙ ap g.Q.Reporter.row_of e.reporter;
-      same_digest = ap (λ basis. g.Q.Reporter.digest_of basis.reporter) t.same_basis ∙ ap g.Q.Reporter.digest_of e.reporter;
-      same_limits = ap (λ basis. basis.limits) t.same_basis;
-      from_opened = λ on. subst (λ d. GoesOn (g.D.Disk.state d) (g.D.Disk.state second.vault.disk.now)) (ap (λ basis. basis.opened) t.same_basis ∙ (e.opened ∙ c.of-opened.ensures)) on;
-    }))
     (λ basis state rows digest stands.
     let over =
     subst (λ book. (basis : Basis) (state : State) → basis.row_of ≡ g.Q.Reporter.row_of book.reporter.now → basis.digest ≡ g.Q.Reporter.digest_of book.reporter.now
@@ -81,4 +73,10 @@ returns-clause-serves g c =
       subst (λ o. ClosesBook (surroundings (g.K.Tells.told o) (g.D.Disk.state second.vault.disk.now) before)
           (surroundings (g.K.Tells.told c.close-end.new.output) (g.D.Disk.state c.close-end.new.book.vault.disk.now) after) end basis state over.0)
           c.in-Ok-open.ensures.output (over.2 before after),
-    )))
+    ))
+    (∥∥₁_map₂ shared.runs together (λ runs t. record {
+      runs = subst (λ opened. RunsFrom (basis_of g.D.Telling.tells second) opened second) (ap (λ basis. basis.opened) t.same_basis ∙ e.opened) runs;
+      gains = t.gains;
+      same_reporter = ap (λ basis. basis.reporter) t.same_basis;
+      same_limits = ap (λ basis. basis.limits) t.same_basis;
+    })))

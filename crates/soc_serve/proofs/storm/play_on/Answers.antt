@@ -1,11 +1,15 @@
 use denote.Param.Send.{sendable}
-use Rattle.std.proofs.Common.{◌≡◌, IsTrue, ap, ◌∙◌, subst}
-use Rattle.std.specs.Prelude.{IfOk}
+use Rattle.std.proofs.Common.{◌≡◌, true, IsTrue, ap, ◌∙◌, subst}
+use Rattle.std.specs.Prelude.{IfOk, Some}
 use Rattle.std.proofs.Crossing.{crosses}
-use Rattle.std.proofs.Math.Logic.{∥∥₁_map}
+use Rattle.std.proofs.Math.Logic.{∥∥₁_map₂}
+use Rattle.soc_edge.specs.DiskLog.{disk_told}
 use Rattle.soc_desk.specs.Basis.{Basis}
 use Rattle.soc_desk.specs.State.{State}
 use Rattle.soc_book.specs.Books.{StandsFor, reporter_of}
+use Rattle.soc_book.proofs.Openings.{opens_over}
+use Rattle.soc_turns.specs.Grounds.{basis_of}
+use Rattle.soc_turns.specs.Runs.{RunsFrom}
 use Rattle.soc_turns.proofs.Crossing.{shared_send}
 use Rattle.soc_serve.specs.Storm.{Subsides}
 use Rattle.soc_serve.proofs.Storms.{plays_ok}
@@ -22,12 +26,17 @@ serve_together-book-requires-send-T g c κs within =
 pub returns : goal.returns
 returns g c =
     let shared = c.serve_together-book.result.desk in
-    plays_ok (g.P.Reporter.row_of c.args.setting.reporter.now) (g.P.Reporter.digest_of c.args.setting.reporter.now) c.args.limits c.args.words.now.count shared.book c.sum_up-text.result
+    let first = c.over-book.result.book in
+    let second = shared.book in
+    let e = c.over-book.ensures in
+    plays_ok (disk_told c.args.disk.now) (ap (λ bytes. Some bytes) c.requires.empty) c.args.setting.reporter.now c.args.limits c.args.words.now.count first second e.reporter e.limits
+    (λ basis is. opens_over disk_told e.disk (e.stands basis) (c.in-Ok.ensures.opens basis is))
+    c.serve_together-book.result.served.kept c.sum_up-text.result
     (subst (λ b. IfOk c.sum_up-text.result (λ text. (basis : Basis) (state : State) → basis.row_of ≡ g.P.Reporter.row_of (reporter_of b) → IsTrue basis.is_told → StandsFor basis b state → Subsides basis state c.args.words.now.count text))
     c.into_book-book.ensures c.sum_up-text.ensures.subsides)
-    shared.stands
-    (∥∥₁_map c.serve_together-book.ensures.ends (λ t. record {
-      same_rows = ap (λ basis. g.P.Reporter.row_of basis.reporter) t.same_basis ∙ ap g.P.Reporter.row_of c.over-book.ensures.reporter;
-      same_digest = ap (λ basis. g.P.Reporter.digest_of basis.reporter) t.same_basis ∙ ap g.P.Reporter.digest_of c.over-book.ensures.reporter;
-      same_limits = ap (λ basis. basis.limits) t.same_basis ∙ c.over-book.ensures.limits;
+    (∥∥₁_map₂ shared.runs c.serve_together-book.ensures.ends (λ runs t. record {
+      runs = subst (λ opened. RunsFrom (basis_of true second) opened second) (ap (λ basis. basis.opened) t.same_basis ∙ e.opened) runs;
+      gains = t.gains;
+      same_reporter = ap (λ basis. basis.reporter) t.same_basis;
+      same_limits = ap (λ basis. basis.limits) t.same_basis;
     }))

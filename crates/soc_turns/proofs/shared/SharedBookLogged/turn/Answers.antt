@@ -1,4 +1,4 @@
-use Rattle.soc_turns.proofs.Sharing.{allowed, answers_now, disk_goes_on, log_goes_on, stands_still}
+use Rattle.soc_turns.proofs.Sharing.{allowed, answers_now, log_goes_on, runs_still, stands_still}
 use Rattle.soc_turns.proofs.shared.SharedBookLogged.turn.Goals as goal
 
 pub ask_prepared-requires : goal.ask_prepared-requires
@@ -10,9 +10,11 @@ pub invariant_of-self-clause-stands : goal.invariant_of-self-clause-stands
 invariant_of-self-clause-stands g c =
     stands_still g.D.Telling.tells c.args.self.now.book c.ask_prepared.new.self c.ask_prepared.ensures.setting c.args.command c.ask_prepared.result c.ask_prepared.ensures.asks c.args.self.now.stands
 
-pub invariant_of-self-clause-goes_on : goal.invariant_of-self-clause-goes_on
-invariant_of-self-clause-goes_on g c =
-    disk_goes_on g.D.Telling.tells c.args.self.now.book c.ask_prepared.new.self c.ask_prepared.ensures.setting c.args.command c.ask_prepared.result c.ask_prepared.ensures.asks c.args.self.now.stands (g.D.Disk.state c.args.self.now.opened.value) c.args.self.now.goes_on
+pub invariant_of-self-clause-runs : goal.invariant_of-self-clause-runs
+invariant_of-self-clause-runs g c =
+    let n = c.ask_prepared.new.self in
+    runs_still g.D.Telling.tells c.args.self.now.book n c.ask_prepared.ensures.setting c.args.command c.ask_prepared.result c.ask_prepared.ensures.asks c.args.self.now.stands
+    (g.met.D.Disk.sound n.vault.disk.now) c.args.self.now.opened.value c.args.self.now.runs
 
 pub returns-clause-log : goal.returns-clause-log
 returns-clause-log g c =
