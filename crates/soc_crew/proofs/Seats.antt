@@ -1,7 +1,8 @@
 -- What seats know once their threads have ended, and what they tell of the closed hall's log.
-use Rattle.std.proofs.Common.{◌≡◌, ℕ, suc, ◌+◌, ◌<◌, Bool, true, false, List, [], ◌∷◌, ◌++◌, length, map, Some, All, sum_by, refl, sym, ◌∙◌, ap, subst, arith}
+use Rattle.std.proofs.Common.{◌≡◌, inl, ℕ, suc, ◌+◌, ◌<◌, Bool, true, false, List, [], ◌∷◌, ◌++◌, length, map, Some, All, sum_by, refl, sym, ◌∙◌, ap, subst, arith}
 use Rattle.std.specs.Prelude.{if◌then◌else◌}
 use mathlib.Core.List.{append-nil}
+use mathlib.Core.Option.{some-ne-none}
 use Rattle.std.proofs.Math.Logic.{∥∥₁_map₂}
 use Rattle.std.proofs.lemmas.List.Elements.{All-head, All-push, All-same}
 use Rattle.std.proofs.lemmas.List.Sums.{sum_by-append, sum_by-cons}
@@ -77,7 +78,7 @@ module _ {S A B : Type 0} where
 
   -- what the seats' turns kept together stands behind the opening
   pub closed : {answers : B → List Change → A → Receipt → List Change → Type 0} (basis basis' : B) (opening log : List Change) (kept : ℕ) (seats : List (SeatOf S A B)) → 0 < length seats
-      → AreSeated basis opening kept seats → Closes answers log basis' (All-known seats) → Ends opening log basis basis' kept
+      → AreSeated basis opening kept seats → Closes answers log basis' (All-known seats) → Ends answers opening log basis basis' kept
   closed {answers} basis basis' opening log kept [] some seated closes = absurd (let never : ⊥ = omega (arith, some) in never)
   closed {answers} basis basis' opening log kept (seat ∷ seats) some seated closes =
       let own = All-head (Knows basis opening) seat seats seated.each in
@@ -96,11 +97,25 @@ module _ {S A B : Type 0} where
           kept_are = omega arith;
         };
         same_basis = some-injective (sym part.basis_is ∙ own.basis_is);
+        seats = All-known (seat ∷ seats);
+        closes = closes;
+        opened = same;
       }
 
 -- a desk that nobody was served at
-pub stays_as : {A B : Type 0} {x y : A} → y ≡ x → (log : A → List Change) (basis : A → B) (kept : ℕ) → kept ≡ 0 → Ends (log x) (log y) (basis x) (basis y) kept
-stays_as is log basis kept none = record {
+pub stays_as : {T A B : Type 0} {answers : B → List Change → A → Receipt → List Change → Type 0} {x y : T} → y ≡ x → (log : T → List Change) (basis : T → B) (kept : ℕ) → kept ≡ 0
+    → Ends answers (log x) (log y) (basis x) (basis y) kept
+stays_as {y = y} is log basis kept none = record {
   gains = record { piece = []; behind = ap log is ∙ sym (append-nil _); kept_are = sym none };
   same_basis = ap basis is;
+  seats = [];
+  closes = record {
+    opening = log y;
+    entries = [];
+    log_is = sym (append-nil (log y));
+    parts = λ k d less. absurd (let never : ⊥ = omega (arith, less) in never);
+    owners = λ number. inl refl;
+    distinct = λ j k v w at. absurd (some-ne-none v (sym at));
+  };
+  opened = ap log is;
 }

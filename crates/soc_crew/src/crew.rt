@@ -74,7 +74,7 @@ pub fn serve_together<
     requires collectors { (0 < setting.crew.collectors) × (setting.crew.collectors ≤ 8) }
     requires processors { (0 < setting.crew.processors) × (setting.crew.processors ≤ 8) }
     requires reporter { (T.desk_of (T.basis_of desk)).row_of ≡ P.row_of setting.reporter.now }
-    ensures ends { ∥ Ends (T.log_of desk) (T.log_of result.desk)
+    ensures ends { ∥ Ends T.answers (T.log_of desk) (T.log_of result.desk)
         (T.basis_of desk) (T.basis_of result.desk) result.served.kept ∥₁ }
     ensures handed { (L.told result.listener).handed
         ≡ (L.told listener).handed + result.served.connections }
@@ -127,7 +127,7 @@ fn serve_with<
         × (blanks.0.parts ≡ setting.crew.collectors + 1) }
     requires refused { (blanks.1.name ≡ M.name) × (blanks.1.parts ≡ M.parts)
         × (blanks.1.parts ≡ setting.crew.collectors + 1) }
-    ensures ends { ∥ Ends (T.log_of desk) (T.log_of result.desk)
+    ensures ends { ∥ Ends T.answers (T.log_of desk) (T.log_of result.desk)
         (T.basis_of desk) (T.basis_of result.desk) result.served.kept ∥₁ }
     ensures handed { (L.told result.listener).handed
         ≡ (L.told listener).handed + result.served.connections }

@@ -10,6 +10,8 @@ use Rattle.soc_journal.specs.Entries.{Entry, header}
 use Rattle.soc_journal.specs.Text.{JournalText, version_of}
 use Rattle.soc_ledger.proofs.Lists.{true_is_not_false}
 use Rattle.soc_vault.specs.Openings.{AreEntriesOf, StandsSince}
+use Rattle.soc_hall.specs.Asked.{Closes}
+use Rattle.soc_desk.specs.declared.desk.Command.{Command}
 use Rattle.soc_desk.specs.declared.desk.Limits.{Limits}
 use Rattle.soc_desk.specs.Basis.{Basis}
 use Rattle.soc_desk.specs.Log.{Change, Kept}
@@ -21,11 +23,13 @@ use Rattle.soc_book.specs.Books.{StandsFor, crashes_in, disk_of, limits_of, log_
 use Rattle.soc_book.specs.Openings.{IsBasisOf, OpensBook}
 use Rattle.soc_book.proofs.Kept.{kept_of-log, told_all}
 use Rattle.soc_service.specs.declared.change.Change.{Change as Turned}
+use Rattle.soc_service.specs.Turns.{Knows}
 use Rattle.soc_crew.specs.Gains.{Gains}
 use Rattle.soc_turns.specs.Changes.{body_at, changes_at}
 use Rattle.soc_turns.specs.Grounds.{basis_of, desk_basis}
 use Rattle.soc_turns.specs.Runs.{HasRun, IsOver, RunsFrom}
 use Rattle.soc_turns.proofs.Sharing.{same_basis}
+use Rattle.soc_serve.specs.Hosts.{IsRight}
 use Rattle.soc_serve.proofs.Stops.{map_none}
 
 allowed_by : (b : Bool) (kept : List Kept) (entries : List Entry) (image : List ℕ) → IsTrue b → entries ≡ entries_of kept → JournalText entries image
@@ -67,17 +71,20 @@ module _ {D R : Type 0} {d : disk.Ghosts D} {r : reporter.Ghosts R} (basis : Bas
 
 -- ---- the run
 
-module _ {D R : Type 0} {d : disk.Ghosts D} {r : reporter.Ghosts R} (told : Bool) (first second : Book D R d r) where
+module _ {D R : Type 0} {d : disk.Ghosts D} {r : reporter.Ghosts R} (told : Bool) where
   -- what threads see of a book's log
   abbrev log_by : Book D R d r → List Turned
   log_by book = changes_at (body_at told (disk_of book).content) (log_in book) (crashes_in book)
 
   -- turns have led from the one book to the other
-  pub record HasTurned (kept : ℕ) : Type 0 where
+  pub record HasTurned (first second : Book D R d r) (kept : ℕ) : Type 0 where
     pub runs : RunsFrom (basis_of told second) first second
     pub gains : Gains (log_by first) (log_by second) kept
     pub same_reporter : reporter_of second ≡ reporter_of first
     pub same_limits : limits_of second ≡ limits_of first
+    pub seats : List (Knows Command Basis)
+    pub closes : Closes IsRight (log_by second) (basis_of told second) seats
+    pub opened : closes.opening ≡ log_by first
 
 module _ {D R : Type 0} {d : disk.Ghosts D} {r : reporter.Ghosts R} (told : Bool) (before : DiskTold) (steady : is_some before.content ≡ told) (by : R) (limits : Limits)
     (first second : Book D R d r) (reporter_is : reporter_of first ≡ by) (limits_are : limits_of first ≡ limits)
@@ -94,11 +101,20 @@ module _ {D R : Type 0} {d : disk.Ghosts D} {r : reporter.Ghosts R} (told : Bool
   abbrev pub begun : DeskAt
   begun = begun_at basis before first opened before.content opened.stands
 
-  pub run_of : (kept : ℕ) → HasTurned told first second kept → HasRun basis first second begun
-  run_of kept turned =
-      subst (λ (b : Basis). RunsFrom b first second)
-      (sym (same_basis r.row_of r.digest_of told (turned.same_reporter ∙ reporter_is) (turned.same_limits ∙ limits_are))) turned.runs
-      begun (over_begun basis before first opened before.content opened.stands (λ is. steady ∙ is))
+  module _ (kept : ℕ) (turned : HasTurned told first second kept) where
+    basis_stays : basis_of told second ≡ basis
+    basis_stays = sym (same_basis r.row_of r.digest_of told (turned.same_reporter ∙ reporter_is) (turned.same_limits ∙ limits_are))
+
+    pub run_of : HasRun basis first second begun
+    run_of =
+        subst (λ (b : Basis). RunsFrom b first second) basis_stays turned.runs
+        begun (over_begun basis before first opened before.content opened.stands (λ is. steady ∙ is))
+
+    pub seated_of : (log log' : List Turned) → log_by told first ≡ log → log_by told second ≡ log'
+        → (closes : Closes IsRight log' basis turned.seats) × (closes.opening ≡ log)
+    seated_of log log' was is =
+        subst (λ (l : List Turned). (closes : Closes IsRight l basis turned.seats) × (closes.opening ≡ log)) is
+        (subst (λ (b : Basis). (closes : Closes IsRight (log_by told second) b turned.seats) × (closes.opening ≡ log)) basis_stays (turned.closes, turned.opened ∙ was))
 
 -- ---- an empty disk
 

@@ -10,6 +10,7 @@ use Rattle.soc_edge.proofs.Disks.{GoesOn-append}
 use Rattle.soc_edge.specs.Told.{Told}
 use Rattle.soc_edge.specs.Ahead.{Outlook}
 use Rattle.soc_vault.specs.Openings.{StandsSince}
+use Rattle.soc_hall.specs.Asked.{Closes as ClosesHall}
 use Rattle.soc_desk.specs.declared.desk.Command.{Command}
 use Rattle.soc_desk.specs.declared.desk.Receipt.{Receipt}
 use Rattle.soc_desk.specs.Basis.{Basis}
@@ -37,11 +38,11 @@ use Rattle.soc_edge.specs.World.{Surroundings, surroundings}
 use Rattle.soc_serve.specs.declared.ending.HostEnd.{HostEnd}
 use Rattle.soc_serve.specs.declared.ending.HostEnd.TheVariants as H
 use Rattle.soc_serve.specs.declared.sweep.SweepFault.TheVariants as S
-use Rattle.soc_serve.specs.Hosts.{Closes, HostsDesk}
+use Rattle.soc_serve.specs.Hosts.{Closes, HostsDesk, IsRight}
 use Rattle.soc_serve.specs.Sweep.{FailsSweep}
 use Rattle.soc_serve.specs.inner.Serving.{ClosesBook, ServesDesk, desk_at}
 use Rattle.soc_serve.specs.inner.Sweeping.{LeavesMore}
-use Rattle.soc_serve.proofs.Begun.{HasTurned, basis as basis_by, begun as begun_by, begun_at, is_basis as is_basis_by, opened as opened_by, run_of}
+use Rattle.soc_serve.proofs.Begun.{HasTurned, basis as basis_by, begun as begun_by, begun_at, is_basis as is_basis_by, opened as opened_by, run_of, seated_of}
 use Rattle.soc_serve.proofs.Stops.{nothing_done}
 use Rattle.soc_serve.proofs.Sweeps.{still}
 
@@ -126,13 +127,18 @@ module _ {D R : Type 0} {d : disk.Ghosts D} {r : reporter.Ghosts R} (told : Bool
     added : (added : List Change) × (state.log ≡ opened.log ++ added)
     added = run_added basis (disk_of second).since ran.turns begun ran.last ran.runs
 
+    seated : (closes : ClosesHall IsRight (changes_of basis state.log) basis turned.seats) × (closes.opening ≡ changes_of basis opened.log)
+    seated =
+        seated_of told before.disk steady by setup.limits first second reporter_is limits_are opens kept turned
+        (changes_of basis opened.log) (changes_of basis state.log) (log_is opened.now) (log_is ran.over.stands)
+
     seen : changes_of basis (opened.log ++ added.0) ≡ changes_of basis opened.log ++ turned.gains.piece
     seen =
         ap (changes_of basis) (sym added.1)
         ∙ (sym (log_is ran.over.stands) ∙ (turned.gains.behind ∙ ap (λ (l : List Turned). l ++ turned.gains.piece) (log_is opened.now)))
 
     survives : (content : Option (List ℕ)) (stands : IfSome content (λ bytes. StandsSince before.disk (disk_of first) bytes opened.entries)) → (IsTrue (is_some content) → IsTrue told)
-        → IfSome content (λ bytes. SurvivesStops before.disk after.disk bytes (begun_at basis before.disk first opened content stands) ran.last over.0)
+        → IfSome content (λ bytes. SurvivesStops before.disk after.disk bytes (begun_at basis before.disk first opened content stands) ran.last (KeepAllows state over.0) over.0)
     survives None stands told_so = tt
     survives (Some bytes) stands told_so = record {
       begins = stands.begins;
@@ -165,6 +171,9 @@ module _ {D R : Type 0} {d : disk.Ghosts D} {r : reporter.Ghosts R} (told : Bool
       added = added.0;
       behind = added.1;
       kept_are = same_kept basis opened.log added.0 turned.gains.piece kept seen turned.gains.kept_are;
+      seats = turned.seats;
+      seated = seated.0;
+      seated_from = seated.1;
       swept = over.0;
       closes = closes before after (disk_of second) end basis ran.last over.0 ran.over.faults_are over.2.ends;
       no_fewer = to_opened.faults_never_fall;

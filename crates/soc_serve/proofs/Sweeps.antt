@@ -1,5 +1,5 @@
 -- What the steps of the last sweep do to a desk's state.
-use Rattle.std.proofs.Common.{◌≡◌, ℕ, true, false, List, [], ◌∷◌, ◌++◌, map, Result, Ok, Err, refl, sym, ap, ◌∙◌, inl, inr, ⊎_elim, append_assoc, append-nil, arith, ◌≤◌}
+use Rattle.std.proofs.Common.{◌≡◌, ◌⊎◌, ℕ, true, false, List, [], ◌∷◌, ◌++◌, map, Result, Ok, Err, refl, sym, ap, ◌∙◌, inl, inr, ⊎_elim, append_assoc, append-nil, arith, ◌≤◌}
 use Rattle.std.proofs.lemmas.List.{map-append}
 use Rattle.soc_base.proofs.Folk.{none_is_not_some}
 use Rattle.soc_edge.specs.Disk.{DiskTold, DiskFailed, GoesOn}
@@ -78,9 +78,6 @@ wider_fault : (disk from to disk' : DiskTold) → disk.faults ≤ from.faults �
 wider_fault disk from to disk' first last (inl rose) = inl (omega (arith, first, last, rose))
 wider_fault disk from to disk' first last (inr stands) = inr (omega (arith, last, stands))
 
-pub later_fault : (disk middle disk' : DiskTold) → GoesOn disk middle → DiskFailed middle disk' → DiskFailed disk disk'
-later_fault disk middle disk' on failed = wider_fault disk middle disk' disk' on.faults_never_fall (omega arith) failed
-
 behind_both : (log middle after piece more : List Change) → middle ≡ log ++ piece → after ≡ middle ++ more → after ≡ log ++ (piece ++ more)
 behind_both log middle after piece more first last = last ∙ (ap (λ l. l ++ more) first ∙ append_assoc log piece more)
 
@@ -120,16 +117,10 @@ pub fails_behind : (basis : Basis) (before from after : State) (disk middle disk
 fails_behind basis before from after disk middle disk' fault on behind fails =
     fails_within basis before from after after disk middle disk' disk' fault on.faults_never_fall behind fails (omega arith) (still after)
 
--- whatever a drain answered, it only added to the log
-pub drain_behind : (basis : Basis) (before : State) (disk : DiskTold) (result : Result (Unit {0}) SweepFault) (after : State) (disk' : DiskTold)
-    → EndsDrain basis before disk result after disk' → IsBehind before after
-drain_behind basis before disk (Ok over) after disk' ends = (ends.1.piece, ends.1.behind)
-drain_behind basis before disk (Err fault) after disk' ends = ends.behind
-
 pub ends_both : (basis : Basis) (before first after : State) (disk middle disk' : DiskTold) (result : Result (Unit {0}) SweepFault) (count : ℕ)
     → EndsDrain basis before disk result first middle → GoesOn middle disk' → KeepsAll basis first count after
     → EndsBoth basis before disk result after disk'
-ends_both basis before first after disk middle disk' (Ok done) count ends on keeps = (first, ends.0, count, ends.1, keeps)
+ends_both basis before first after disk middle disk' (Ok over) count ends on keeps = (first, ends.0, count, ends.1, keeps)
 ends_both basis before first after disk middle disk' (Err fault) count ends on keeps = (
   fails_within basis before before first after disk disk middle disk' fault (omega arith) (still before) ends on.faults_never_fall (keeps.piece, keeps.behind),
   λ is. inr (first, count, ends.behind, keeps),

@@ -5,13 +5,19 @@ use Rattle.soc_edge.specs.Faults.{Rose}
 use Rattle.soc_edge.specs.Told.{OnlyWrites, WriteFailed, Writes}
 use Rattle.soc_edge.specs.Tree.{OnlyLooks, TreeFailed}
 use Rattle.soc_edge.specs.World.{Outside, Surroundings}
+use Rattle.soc_hall.specs.Asked.{Closes as ClosesHall}
 use Rattle.soc_desk.specs.declared.desk.Command.{Command}
 use Rattle.soc_desk.specs.declared.desk.Receipt.{Receipt}
 use Rattle.soc_desk.specs.Basis.{Basis}
+use Rattle.soc_desk.specs.Keeps.{KeepAllows}
 use Rattle.soc_desk.specs.Log.{Change, events}
 use Rattle.soc_desk.specs.Runs.{Answers, DeskAt}
 use Rattle.soc_desk.specs.State.{State, IsLegalState, settled}
+use Rattle.soc_service.specs.declared.change.Change.{Change as Turned}
+use Rattle.soc_service.specs.Answers.{Answers as AnswersTurn}
 use Rattle.soc_service.specs.Changes.{kept_in}
+use Rattle.soc_service.specs.Turns.{Knows}
+use Rattle.soc_turns.specs.Logs.{changes_of}
 use Rattle.soc_turns.specs.Runs.{RunsTurns}
 use Rattle.soc_words.specs.declared.words.Task.{Task}
 use Rattle.soc_words.specs.declared.words.Task.TheVariants as T
@@ -43,6 +49,10 @@ Closes before after H.Failed basis served swept =
 Closes before after H.Done basis served swept =
     Sweeps basis served.state swept × Writes before.streams after.streams (counts_text (events basis swept.log))
 
+-- a turn's receipt is right for the log before it and the one after it
+abbrev pub IsRight : Basis → List Turned → Command → Receipt → List Turned → Type 0
+IsRight basis log command receipt log' = ∥ AnswersTurn basis log command receipt log' ∥₁
+
 -- The journal is opened. The turns of all collectors and processors, in their order, are one run of a desk from the opened log,
 -- and what they have added to it counts so many kept changes and stops. Then comes the last sweep.
 pub record HostsDesk (by : Service) (kept : ℕ) (before after : Surroundings) (end : HostEnd) : Type 0 where
@@ -58,6 +68,10 @@ pub record HostsDesk (by : Service) (kept : ℕ) (before after : Surroundings) (
   pub added : List Change
   pub behind : served.state.log ≡ opening.log ++ added
   pub kept_are : kept_in (events opening.basis added) ≡ kept
+  -- each seat's turns stand there with their receipts, and nothing else does
+  pub seats : List (Knows Command Basis)
+  pub seated : ClosesHall IsRight (changes_of opening.basis served.state.log) opening.basis seats
+  pub seated_from : seated.opening ≡ changes_of opening.basis opening.log
   -- the sweep and the lines
   pub swept : State
   pub closes : Closes before after end opening.basis served swept
@@ -65,7 +79,8 @@ pub record HostsDesk (by : Service) (kept : ℕ) (before after : Surroundings) (
   pub no_fewer : before.disk.faults ≤ opened.faults
   pub goes_on : GoesOn before.disk after.disk
   -- every stop
-  pub survives : IfSome before.disk.content (λ bytes. SurvivesStops before.disk after.disk bytes opened served swept)
+  pub survives : IfSome before.disk.content (λ bytes. SurvivesStops before.disk after.disk bytes opened served
+      (KeepAllows served.state swept) swept)
 
 -- ---- the whole
 

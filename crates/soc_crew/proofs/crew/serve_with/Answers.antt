@@ -273,7 +273,7 @@ returns-clause-ends g c =
     let end = c.close-desk.result in
     let kept = c.leave_collectors-served.result.kept in
     subst
-    (λ b. ∥ Ends (g.T.Logged.log_of b) (g.T.Logged.log_of end) (g.T.Logged.basis_of b) (g.T.Logged.basis_of end) kept ∥₁)
+    (λ b. ∥ Ends g.T.Logged.answers (g.T.Logged.log_of b) (g.T.Logged.log_of end) (g.T.Logged.basis_of b) (g.T.Logged.basis_of end) kept ∥₁)
     c.of-opened.ensures
     (∥∥₁_map (c.leave_processors.ensures.seated kept c.leave_collectors-served.ensures.seated)
     (λ seated. closed basis (g.T.Logged.basis_of end) opening (g.T.Logged.log_of end) kept (seats_in c.leave_processors.new.seats) some_seat seated c.close-desk.ensures))

@@ -1,5 +1,5 @@
 use denote.Param.Send.{sendable}
-use Rattle.std.proofs.Common.{◌≡◌, sym, ap, subst, ◌∙◌}
+use Rattle.std.proofs.Common.{◌≡◌, map, sym, ap, subst, ◌∙◌}
 use Rattle.std.specs.Prelude.{None}
 use Rattle.std.specs.Coded.{Coded-set, coded_ℕ}
 use Rattle.std.proofs.Crossing.{crosses}
@@ -11,9 +11,11 @@ use Rattle.soc_desk.specs.State.{State}
 use Rattle.soc_book.specs.Books.{StandsFor}
 use Rattle.soc_book.proofs.Openings.{opens_over}
 use Rattle.soc_book.proofs.Standing.{allowed_in}
-use Rattle.soc_turns.specs.Grounds.{basis_of}
+use Rattle.soc_turns.specs.Grounds.{basis_of, desk_by}
 use Rattle.soc_turns.specs.Runs.{RunsFrom}
 use Rattle.soc_turns.proofs.Crossing.{shared_send}
+use Rattle.soc_serve.specs.Hosts.{IsRight}
+use Rattle.soc_serve.proofs.Seats.{closes_by, opening_by, told_by}
 use Rattle.soc_edge.specs.World.{surroundings}
 use Rattle.soc_serve.specs.inner.Serving.{ClosesBook}
 use Rattle.soc_serve.proofs.Hostings.{not_served, serves_desk, served_on}
@@ -79,4 +81,7 @@ returns-clause-serves g c =
       gains = t.gains;
       same_reporter = ap (λ basis. basis.reporter) t.same_basis;
       same_limits = ap (λ basis. basis.limits) t.same_basis;
+      seats = map (told_by (desk_by g.Q.Reporter.row_of g.Q.Reporter.digest_of g.D.Telling.tells)) t.seats;
+      closes = closes_by (desk_by g.Q.Reporter.row_of g.Q.Reporter.digest_of g.D.Telling.tells) (λ basis. IsRight (desk_by g.Q.Reporter.row_of g.Q.Reporter.digest_of g.D.Telling.tells basis)) IsRight (λ basis log command receipt log' right. right) _ _ t.seats t.closes;
+      opened = opening_by (desk_by g.Q.Reporter.row_of g.Q.Reporter.digest_of g.D.Telling.tells) (λ basis. IsRight (desk_by g.Q.Reporter.row_of g.Q.Reporter.digest_of g.D.Telling.tells basis)) IsRight (λ basis log command receipt log' right. right) _ _ t.seats t.closes _ t.opened;
     })))

@@ -1,5 +1,5 @@
 use denote.Param.Send.{sendable}
-use Rattle.std.proofs.Common.{◌≡◌, true, IsTrue, ap, ◌∙◌, subst}
+use Rattle.std.proofs.Common.{◌≡◌, map, true, IsTrue, ap, ◌∙◌, subst}
 use Rattle.std.specs.Prelude.{IfOk, Some}
 use Rattle.std.proofs.Crossing.{crosses}
 use Rattle.std.proofs.Math.Logic.{∥∥₁_map₂}
@@ -8,9 +8,11 @@ use Rattle.soc_desk.specs.Basis.{Basis}
 use Rattle.soc_desk.specs.State.{State}
 use Rattle.soc_book.specs.Books.{StandsFor, reporter_of}
 use Rattle.soc_book.proofs.Openings.{opens_over}
-use Rattle.soc_turns.specs.Grounds.{basis_of}
+use Rattle.soc_turns.specs.Grounds.{basis_of, desk_by}
 use Rattle.soc_turns.specs.Runs.{RunsFrom}
 use Rattle.soc_turns.proofs.Crossing.{shared_send}
+use Rattle.soc_serve.specs.Hosts.{IsRight}
+use Rattle.soc_serve.proofs.Seats.{closes_by, opening_by, told_by}
 use Rattle.soc_serve.specs.Storm.{Subsides}
 use Rattle.soc_serve.proofs.Storms.{plays_ok}
 use Rattle.soc_serve.proofs.storm.play_on.Goals as goal
@@ -39,4 +41,7 @@ returns g c =
       gains = t.gains;
       same_reporter = ap (λ basis. basis.reporter) t.same_basis;
       same_limits = ap (λ basis. basis.limits) t.same_basis;
+      seats = map (told_by (desk_by g.P.Reporter.row_of g.P.Reporter.digest_of true)) t.seats;
+      closes = closes_by (desk_by g.P.Reporter.row_of g.P.Reporter.digest_of true) (λ basis. IsRight (desk_by g.P.Reporter.row_of g.P.Reporter.digest_of true basis)) IsRight (λ basis log command receipt log' right. right) _ _ t.seats t.closes;
+      opened = opening_by (desk_by g.P.Reporter.row_of g.P.Reporter.digest_of true) (λ basis. IsRight (desk_by g.P.Reporter.row_of g.P.Reporter.digest_of true basis)) IsRight (λ basis log command receipt log' right. right) _ _ t.seats t.closes _ t.opened;
     }))
