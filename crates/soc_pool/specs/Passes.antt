@@ -1,14 +1,17 @@
 -- What the calls of a ring say of its passes.
-use Rattle.std.specs.Prelude.{◌≡◌, ℕ, zero, suc, ◌+◌, ◌-◌, ◌^◌, min, false, List, [], ◌∷◌, ◌++◌}
+use Rattle.std.specs.Prelude.{◌≡◌, ℕ, zero, suc, ◌+◌, ◌-◌, ◌^◌, min, List, [], ◌∷◌, ◌++◌, vec_capacity}
 use Rattle.crossbeam_queue.specs.Passes as kit
+use Rattle.soc_pool.specs.declared.jobs.Job.{Job}
 use Rattle.soc_pool.specs.declared.rule.Seen.{Seen}
+use Rattle.soc_pool.specs.declared.rule.View.{View}
 use Rattle.soc_pool.specs.declared.pass.Pass.{Pass}
 use Rattle.soc_pool.specs.declared.pass.Passes.{Passes}
+use Rattle.soc_pool.specs.declared.pass.RingEnd.{RingEnd}
 use Rattle.soc_pool.specs.declared.jobs.Jobs.{Jobs}
 
 -- what the pass has seen
 abbrev pub seen_of : Pass → Seen
-seen_of pass = kit.view pass.ring
+seen_of pass = (kit.view pass.ring).seen
 
 -- how often it met a full and an empty ring
 abbrev pub fulls_of : Pass → ℕ
@@ -20,13 +23,32 @@ empties_of pass = pass.empties
 abbrev pub passes_in : Passes → List Pass
 passes_in passes = passes.list.items
 
+-- for how many passes there is room
+abbrev pub room_of : Passes → ℕ
+room_of passes = vec_capacity passes.list
+
+-- the roll of all passes of their ring, and how many they are
+abbrev pub roll_of : Passes → kit.Pass Job View
+roll_of passes = passes.roll
+
+abbrev pub all_of : Passes → ℕ
+all_of passes = (kit.view (roll_of passes)).seen.number
+
 -- it is a pass of this ring
 abbrev pub IsPassOf : Jobs → Pass → Type 0
 IsPassOf ring pass = kit.IsPassOf ring.ring pass.ring
 
+-- the roll is of this ring
+abbrev pub IsRollOf : Jobs → Passes → Type 0
+IsRollOf ring passes = kit.IsPassOf ring.ring (roll_of passes)
+
+-- what each pass of a ring that has ended had seen
+abbrev pub seen_in : RingEnd → List Seen
+seen_in end = (kit.view end.roll).gone
+
 -- a pass that has seen, put and taken nothing
 pub record IsNew (pass : Pass) : Type 0 where
-  pub seen : seen_of pass ≡ record { number = (seen_of pass).number; makes = false; put = []; taken = []; puts = []; takes = [] }
+  pub seen : seen_of pass ≡ record { number = (seen_of pass).number; put = []; taken = []; puts = []; takes = [] }
   pub fulls : fulls_of pass ≡ 0
   pub empties : empties_of pass ≡ 0
 

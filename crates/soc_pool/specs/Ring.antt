@@ -1,6 +1,8 @@
--- What a put and a take say: of the lists of jobs put and taken, which only grow, and of which what was taken is a front of what was put.
-use Rattle.std.specs.Prelude.{◌≡◌, ℕ, ◌==◌, cond, List, [], ◌∷◌, ◌++◌, length}
+-- What a put and a take say: of the lists of jobs put and taken, which only grow, and of which what was taken is a front of what was put. And what all passes say when the ring ends.
+use Rattle.std.specs.Prelude.{◌⊎◌, ◌≡◌, ℕ, ◌==◌, cond, List, [], ◌∷◌, ◌++◌, length, All}
+use mathlib.Core.Option.{some}
 use mathlib.Core.List.{IsPrefix}
+use lib.ListN.{get_elem?}
 use Rattle.soc_pool.specs.declared.jobs.Job.{Job}
 use Rattle.soc_pool.specs.declared.rule.Entry.{Entry}
 use Rattle.soc_pool.specs.declared.rule.Seen.{Seen}
@@ -50,3 +52,20 @@ IsContent v held = (put : List Entry) × (taken : List Entry) × Begins v put ta
 -- at a moment in the call the ring held so many jobs
 abbrev pub WasHolding : ℕ → Seen → Type 0
 WasHolding n v = (held : List Job) × (length held ≡ n) × IsContent v held
+
+-- the pass has seen a front of both lists, and its puts and takes are the entries that bear its number
+pub record HasPart (put taken : List Entry) (v : Seen) : Type 0 where
+  pub begins : Begins v put taken
+  pub puts : jobs_by v.number put ≡ v.puts
+  pub takes : jobs_by v.number taken ≡ v.takes
+
+-- Of all passes of a ring that has ended: there is one list of the jobs put, in order, of which those taken are a front. Each
+-- pass has a part of its own of both, no two have one number, and no entry bears a number that is no pass's.
+pub record Closes (passes : List Seen) : Type 0 where
+  pub put : List Entry
+  pub taken : List Entry
+  pub left : List Job
+  pub in_order : jobs put ≡ jobs taken ++ left
+  pub parts : All (HasPart put taken) passes
+  pub owners : (number : ℕ) → ((jobs_by number put ≡ []) × (jobs_by number taken ≡ [])) ⊎ ((k : ℕ) × (v : Seen) × (get_elem? passes k ≡ some v) × (v.number ≡ number))
+  pub distinct : (j k : ℕ) (v w : Seen) → get_elem? passes j ≡ some v → get_elem? passes k ≡ some w → v.number ≡ w.number → j ≡ k

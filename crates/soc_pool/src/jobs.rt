@@ -2,9 +2,10 @@
 ghost use Rattle.std.specs.Prelude.{◌≡◌, ◌<◌, ◌≤◌, [], length, map, All, vec_capacity, IfOk, IfErr, IfSome, IfNone, MatchResult};
 ghost use Rattle.crossbeam_queue.specs.Passes.{ruled_capacity};
 ghost use Rattle.soc_pool.specs.declared.jobs.TheConstants.{PLACES};
+ghost use Rattle.soc_pool.specs.declared.rule.Role.TheVariants.{Makes};
 
-use crate::pass::{Pass, Passes};
-use crate::rule::{Another, OneRing, Put, Seen, Take};
+use crate::pass::{Pass, Passes, RingEnd};
+use crate::rule::{Another, Close, Gather, OneRing, Put, Take, View};
 use crossbeam_queue::RuledArrayQueue;
 use soc_base::NoMemory;
 use soc_raw::CrashId;
@@ -26,7 +27,7 @@ pub enum Job {
 /// A ring of jobs.
 #[derive(Drop)]
 pub struct Jobs {
-    ring: RuledArrayQueue<Job, Seen, OneRing>,
+    ring: RuledArrayQueue<Job, View, OneRing>,
     // How many jobs were put, modulo 2^64. Who finds the ring empty sleeps until it changes.
     puts: AtomicU64,
     ghost places: { ruled_capacity ring ≡ PLACES },
@@ -35,25 +36,28 @@ pub struct Jobs {
 impl Jobs {
     ghost use Rattle.crossbeam_queue.specs.Passes as kit;
     ghost use Rattle.soc_pool.specs.Ring.{Puts, Takes, WasHolding};
-    ghost use Rattle.soc_pool.specs.Passes.{seen_of, fulls_of, empties_of, passes_in, numbers_below, once_more, IsPassOf, IsNew};
-    ghost use Rattle.soc_pool.specs.inner.Rule.{maker_at};
+    ghost use Rattle.soc_pool.specs.Passes.{seen_of, fulls_of, empties_of, passes_in, room_of, all_of, seen_in, numbers_below, once_more, IsPassOf, IsRollOf, IsNew};
+    ghost use Rattle.soc_pool.specs.inner.Rule.{maker};
 
     /// A ring that holds no job, and its passes.
     pub fn new(alloc: Global, passes: u32) -> Result<(Jobs, Passes), NoMemory>
         requires { (0 < passes) × (passes ≤ 64) }
-        ensures count { IfOk result (λ made. length (passes_in made.1) ≡ passes) }
+        ensures count { IfOk result (λ made. (length (passes_in made.1) ≡ passes)
+            × (passes ≤ room_of made.1)) }
         ensures each { IfOk result (λ made.
             All (λ pass. IsPassOf made.0 pass × IsNew pass) (passes_in made.1)) }
+        ensures roll { IfOk result (λ made. IsRollOf made.0 made.1
+            × (all_of made.1 ≡ passes)) }
         ensures numbers { IfOk result (λ made.
             map (λ pass. (seen_of pass).number) (passes_in made.1) ≡ numbers_below passes) }
     {
         let list = Vec::with_capacity(alloc, passes as usize)?;
-        let (ring, maker) = RuledArrayQueue::ruled(alloc, PLACES)?;
+        let (ring, roll) = RuledArrayQueue::ruled(alloc, PLACES)?;
         let jobs = Jobs {
             ring,
             puts: AtomicU64::new(0),
         };
-        let passes = jobs.fill(list, maker, passes);
+        let passes = jobs.fill(list, roll, passes);
         Ok((jobs, passes))
     }
 
@@ -61,25 +65,26 @@ impl Jobs {
     fn fill(
         &self,
         mut list: Vec<Pass>,
-        mut maker: crossbeam_queue::Pass<Job, Seen>,
+        mut roll: crossbeam_queue::Pass<Job, View>,
         passes: u32,
     ) -> Passes
         requires list { (list.items ≡ []) × (passes ≤ vec_capacity list) }
-        requires maker { kit.IsPassOf self.now.ring maker × (kit.view maker ≡ maker_at 0) }
-        ensures count { length (passes_in result) ≡ passes }
+        requires roll { kit.IsPassOf self.now.ring roll × (kit.view roll ≡ maker) }
+        ensures count { (length (passes_in result) ≡ passes) × (passes ≤ room_of result) }
         ensures each { All (λ pass. IsPassOf self.now pass × IsNew pass) (passes_in result) }
+        ensures roll { IsRollOf self.now result × (all_of result ≡ passes) }
         ensures numbers { map (λ pass. (seen_of pass).number) (passes_in result)
             ≡ numbers_below passes }
     {
         for _number in 0..passes {
-            let ring = self.ring.another::<Another>(&mut maker);
+            let ring = self.ring.another::<Another>(&mut roll);
             list.push_reserved(Pass {
                 ring,
                 fulls: 0,
                 empties: 0,
             });
         }
-        Passes { list }
+        Passes { list, roll }
     }
 
     /// Puts the job last. The error gives it back where the ring was full.
@@ -144,5 +149,38 @@ impl Jobs {
             self.puts.park(rt, (puts & 0xffff_ffff) as u32);
         }
         unreachable!()
+    }
+
+    // The roll takes these passes back.
+    fn gather(
+        &self,
+        mut roll: crossbeam_queue::Pass<Job, View>,
+        list: Vec<Pass>,
+    ) -> crossbeam_queue::Pass<Job, View>
+        requires roll { kit.IsPassOf self.now.ring roll × ((kit.view roll).role ≡ Makes)
+            × ((kit.view roll).gone ≡ []) }
+        requires list { All (λ pass. IsPassOf self.now pass) list.items }
+        ensures roll { kit.IsPassOf self.now.ring result × ((kit.view result).role ≡ Makes)
+            × ((kit.view result).seen ≡ (kit.view roll).seen) }
+        ensures gone { (kit.view result).gone ≡ map (λ pass. seen_of pass) list.items }
+    {
+        for pass in list {
+            let Pass { ring, .. } = pass;
+            self.ring.absorb::<Gather>(&mut roll, ring);
+        }
+        roll
+    }
+
+    /// Ends the ring. The passes are all of the ring's.
+    pub fn close(self, passes: Passes) -> RingEnd
+        requires roll { IsRollOf self passes }
+        requires each { All (λ pass. IsPassOf self pass) (passes_in passes) }
+        requires all { length (passes_in passes) ≡ all_of passes }
+        ensures { seen_in result ≡ map (λ pass. seen_of pass) (passes_in passes) }
+    {
+        let Passes { list, roll } = passes;
+        let mut roll = self.gather(roll, list);
+        self.ring.learn_as::<Close>(&mut roll);
+        RingEnd { roll }
     }
 }

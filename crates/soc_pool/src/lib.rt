@@ -8,5 +8,5 @@ mod rule;
 mod tests;
 
 pub use jobs::{Job, Jobs, PLACES};
-pub use pass::{Pass, Passes};
-pub use rule::{Entry, OneRing, Seen};
+pub use pass::{Pass, Passes, RingEnd};
+pub use rule::{Entry, OneRing, Role, Seen, View};

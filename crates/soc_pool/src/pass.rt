@@ -1,23 +1,35 @@
 //! Passes of a ring.
-ghost use Rattle.std.specs.Prelude.{◌≡◌, false, [], ◌∷◌, ◌++◌, MatchOption};
+ghost use Rattle.std.specs.Prelude.{◌≡◌, ◌<◌, [], ◌∷◌, ◌++◌, length, MatchOption};
 ghost use Rattle.crossbeam_queue.specs.Passes.{view};
+ghost use Rattle.soc_pool.specs.declared.rule.Role.TheVariants.{Makes, Works};
+ghost use Rattle.soc_pool.specs.Ring.{Closes};
 
 use crate::jobs::Job;
-use crate::rule::Seen;
+use crate::rule::View;
 
 /// A thread's right to put and to take, and what it has seen.
 #[derive(Drop)]
 pub struct Pass {
-    pub(crate) ring: crossbeam_queue::Pass<Job, Seen>,
+    pub(crate) ring: crossbeam_queue::Pass<Job, View>,
     pub(crate) fulls: u64,
     pub(crate) empties: u64,
-    ghost makes_none: { (view ring).makes ≡ false },
+    ghost works: { (view ring).role ≡ Works },
 }
 
 /// Passes that nobody has now.
 #[derive(Drop)]
 pub struct Passes {
     pub(crate) list: Vec<Pass>,
+    // All passes were made of it.
+    pub(crate) roll: crossbeam_queue::Pass<Job, View>,
+    ghost makes: { ((view roll).role ≡ Makes) × ((view roll).gone ≡ []) },
+}
+
+/// What a ring leaves: it knows what each of the passes put and took. It has no bytes.
+#[derive(Drop)]
+pub struct RingEnd {
+    pub(crate) roll: crossbeam_queue::Pass<Job, View>,
+    ghost closes: { ∥ Closes (view roll).gone ∥₁ },
 }
 
 impl Pass {
@@ -39,13 +51,26 @@ impl Pass {
 }
 
 impl Passes {
-    ghost use Rattle.soc_pool.specs.Passes.{passes_in};
+    ghost use Rattle.soc_pool.specs.Passes.{passes_in, roll_of, room_of};
 
     /// The last of them.
     pub fn pop(&mut self) -> Option<Pass>
-        ensures { MatchOption result ((passes_in self.old ≡ []) × (passes_in self.new ≡ []))
+        ensures popped { MatchOption result
+            ((passes_in self.old ≡ []) × (passes_in self.new ≡ []))
             (λ pass. passes_in self.old ≡ passes_in self.new ++ pass ∷ []) }
+        ensures same { (roll_of self.new ≡ roll_of self.old)
+            × (room_of self.new ≡ room_of self.old) }
     {
         self.list.pop()
+    }
+
+    /// Takes no memory: there is room for all passes of the ring.
+    pub fn push(&mut self, pass: Pass)
+        requires { length (passes_in self.old) < room_of self.old }
+        ensures pushed { passes_in self.new ≡ passes_in self.old ++ pass ∷ [] }
+        ensures same { (roll_of self.new ≡ roll_of self.old)
+            × (room_of self.new ≡ room_of self.old) }
+    {
+        self.list.push_reserved(pass);
     }
 }

@@ -1,9 +1,8 @@
 //! The rule of the ring: what was taken is a front of what was put, and each job bears the number of the pass that put or took it.
-ghost use Rattle.soc_pool.specs.Ring.{Puts, Takes, IsContent};
-ghost use Rattle.soc_pool.specs.inner.Rule.{IsRing, maker, next_maker, newcomer};
+ghost use Rattle.soc_pool.specs.inner.Rule.{IsRing, maker, next_maker, newcomer, gathering, spent, puts_in, takes_in, has_content, has_closed};
 
 use crate::jobs::Job;
-use crossbeam_queue::protocol::{Lesson, Outcome, Protocol, Split};
+use crossbeam_queue::protocol::{Join, Lesson, Outcome, Protocol, Split};
 use std::collections::LinkedList;
 
 /// A job, and the number of the pass that put it or took it. No value of it is made.
@@ -15,18 +14,34 @@ pub struct Entry {
 /// What a pass knows: its number, the jobs put into the ring and taken from it that it has seen, and its own puts and takes. No value of it is made.
 pub struct Seen {
     pub number: u64,
-    /// The pass that new passes are made of. It puts and takes nothing.
-    pub makes: bool,
     pub put: LinkedList<Entry>,
     pub taken: LinkedList<Entry>,
     pub puts: LinkedList<Job>,
     pub takes: LinkedList<Job>,
 }
 
+/// What a pass of the ring is for.
+pub enum Role {
+    /// New passes are made of it, and it has the number of the next one. In the end it takes them back.
+    Makes,
+    /// It puts and takes.
+    Works,
+    /// It was taken back.
+    Spent,
+}
+
+/// What the rule knows of a pass. No value of it is made.
+pub struct View {
+    pub seen: Seen,
+    pub role: Role,
+    /// What the passes knew that it has taken back.
+    pub gone: LinkedList<Seen>,
+}
+
 /// The rule of the ring.
 pub struct OneRing;
 
-impl Protocol<Job, Seen> for OneRing {
+impl Protocol<Job, View> for OneRing {
     ghost holds = { IsRing };
 
     ghost first = { maker };
@@ -35,28 +50,44 @@ impl Protocol<Job, Seen> for OneRing {
 /// A new pass has the next number.
 pub(crate) struct Another;
 
-impl Split<Seen> for Another {
+impl Split<View> for Another {
     ghost left = { next_maker };
 
     ghost right = { newcomer };
 }
 
-pub(crate) struct Put;
+/// A pass is taken back.
+pub(crate) struct Gather;
 
-impl Outcome<Job, Seen> for Put {
-    ghost then = { Puts };
+impl Join<View> for Gather {
+    ghost both = { gathering };
+
+    ghost spent = { spent };
 }
 
-impl Lesson<Job, Seen> for Put {
-    ghost fact = { IsContent };
+/// All passes were taken back.
+pub(crate) struct Close;
+
+impl Lesson<Job, View> for Close {
+    ghost fact = { has_closed };
+}
+
+pub(crate) struct Put;
+
+impl Outcome<Job, View> for Put {
+    ghost then = { puts_in };
+}
+
+impl Lesson<Job, View> for Put {
+    ghost fact = { has_content };
 }
 
 pub(crate) struct Take;
 
-impl Outcome<Job, Seen> for Take {
-    ghost then = { Takes };
+impl Outcome<Job, View> for Take {
+    ghost then = { takes_in };
 }
 
-impl Lesson<Job, Seen> for Take {
-    ghost fact = { IsContent };
+impl Lesson<Job, View> for Take {
+    ghost fact = { has_content };
 }

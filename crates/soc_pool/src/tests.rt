@@ -72,6 +72,13 @@ fn a_ring_holds_its_places(rt: HostRuntime) -> Result<(), Fail> {
     Ok(())
 }
 
+#[test]
+fn a_ring_ends_with_all_passes(rt: HostRuntime) -> Result<(), Fail> {
+    let (jobs, passes) = Jobs::new(rt.alloc(), 3)?;
+    let _end = jobs.close(passes);
+    Ok(())
+}
+
 // A thread's pass, the first number that it puts, and the numbers that it took.
 #[derive(Drop)]
 struct Worker<P> {

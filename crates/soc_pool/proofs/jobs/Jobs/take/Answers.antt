@@ -1,6 +1,7 @@
-use Rattle.soc_pool.specs.Passes.{seen_of}
+use Rattle.crossbeam_queue.specs.Passes.{view}
 use Rattle.soc_pool.proofs.Keeps.{takes, learns}
 use Rattle.soc_pool.proofs.jobs.Jobs.take.Goals as goal
 
 pub pop_as-job-requires-clause-rule : goal.pop_as-job-requires-clause-rule
-pop_as-job-requires-clause-rule g c = (takes c.args.pass.ring.id (seen_of c.args.pass) c.args.pass.makes_none, learns c.args.pass.ring.id (seen_of c.args.pass))
+pop_as-job-requires-clause-rule g c =
+    let pass = c.args.pass in (takes pass.ring.id (view pass.ring) pass.works, learns pass.ring.id (view pass.ring) pass.works)
