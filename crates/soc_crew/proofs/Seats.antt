@@ -4,7 +4,7 @@ use Rattle.std.specs.Prelude.{if◌then◌else◌}
 use mathlib.Core.List.{append-nil}
 use mathlib.Core.Option.{some-ne-none}
 use Rattle.std.proofs.Math.Logic.{∥∥₁_map₂}
-use Rattle.std.proofs.lemmas.List.Elements.{All-head, All-push, All-same}
+use Rattle.std.proofs.lemmas.List.Elements.{All-head, All-push}
 use Rattle.std.proofs.lemmas.List.Sums.{sum_by-append, sum_by-cons}
 use Rattle.soc_base.proofs.Folk.{some-injective}
 use Rattle.soc_hall.specs.Asked.{Closes, HasPart}
@@ -16,7 +16,7 @@ use Rattle.soc_service.specs.declared.change.Change.{Change}
 use Rattle.soc_service.specs.Changes.{counts, events_in, kept_in}
 use Rattle.soc_service.specs.Desks.{HasTurned}
 use Rattle.soc_service.specs.Turns.{Knows as Knowledge, SeatOf}
-use Rattle.soc_crew.specs.Gains.{Ends, Gains}
+use Rattle.soc_crew.specs.Gains.{Ends}
 use Rattle.soc_crew.specs.inner.Seated.{AreSeated, Knows, kept_of}
 
 module _ {S A B : Type 0} where

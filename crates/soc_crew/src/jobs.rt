@@ -1,18 +1,24 @@
 //! The jobs that are put before the threads start, and when they are to end.
-ghost use Rattle.soc_pool.specs.Passes.{IsPassOf};
+ghost use Rattle.std.specs.Prelude.{◌≡◌, ◌<◌};
+ghost use Rattle.soc_ledger.specs.Due.{due_ids};
+ghost use Rattle.soc_pool.specs.Passes.{IsPassOf, seen_of};
+ghost use Rattle.soc_service.specs.Changes.{events_in};
+ghost use Rattle.soc_crew.specs.Jobs.{PutsDue, PutsEnds, left_after};
 
-use soc_pool::{Job, Jobs, Pass};
+use soc_pool::{Job, Jobs, PLACES, Pass};
 use soc_service::SharedDesk;
 use std::sync::Wait;
 
-/// Puts a job for each crash that is due, until the ring is full. What doesn't fit is left to the last sweep.
+/// Puts jobs of crashes that are due, the first ones in order, as many as a ring has places, or until it is full. What
+/// doesn't fit is left to the last sweep.
 pub(crate) fn put_due<T: SharedDesk, R: Wait>(rt: &R, jobs: &Jobs, mut pass: Pass, desk: &T) -> Pass
     requires { IsPassOf jobs.now pass }
-    ensures { IsPassOf jobs.now result }
+    ensures pass { IsPassOf jobs.now result }
+    ensures due { PutsDue (due_ids (events_in (T.log_of desk.now))) (seen_of pass) (seen_of result) }
 {
-    for place in 0..u32::MAX {
+    for place in 0..PLACES as u32 {
         let Some(id) = desk.due_at(place) else {
-            break;
+            return pass;
         };
         match jobs.put(rt, pass, Job::Crash(id)) {
             Ok(after) => pass = after,
@@ -22,30 +28,47 @@ pub(crate) fn put_due<T: SharedDesk, R: Wait>(rt: &R, jobs: &Jobs, mut pass: Pas
     pass
 }
 
-/// Puts so many `End`s. Where the ring is full a job is taken out first, and where that one was an `End` it is put again.
-/// A crash whose job is taken out so is left to the last sweep.
+/// Puts so many `End`s, and one more for each that it takes out of a full ring.
 pub(crate) fn put_ends<R: Wait>(rt: &R, jobs: &Jobs, mut pass: Pass, ends: usize) -> Pass
     requires { IsPassOf jobs.now pass }
-    ensures { IsPassOf jobs.now result }
+    ensures pass { IsPassOf jobs.now result }
+    ensures ends { PutsEnds ends 0 (seen_of pass) (seen_of result) }
 {
     let mut left = ends;
     for _ in rt.forever() {
         if left == 0 {
-            break;
+            return pass;
         }
-        match jobs.put(rt, pass, Job::End) {
-            Ok(after) => {
-                pass = after;
-                left -= 1;
-            }
-            Err((after, _)) => {
-                let (after, taken) = jobs.take(rt, after);
-                pass = after;
-                if taken == Some(Job::End) {
-                    left = left.saturating_add(1);
-                }
-            }
+        let (after, still) = put_end(rt, jobs, pass, left);
+        pass = after;
+        left = still;
+    }
+    unreachable!()
+}
+
+/// Puts one of so many `End`s, and says how many are left then. Where the ring is full it takes a job out instead: a crash
+/// whose job is taken out so is left to the last sweep, and an `End` is to be put again.
+fn put_end<R: Wait>(rt: &R, jobs: &Jobs, pass: Pass, left: usize) -> (Pass, usize)
+    requires pass { IsPassOf jobs.now pass }
+    requires some { 0 < left }
+    ensures pass { IsPassOf jobs.now result.0 }
+    ensures ends { PutsEnds left result.1 (seen_of pass) (seen_of result.0) }
+{
+    match jobs.put(rt, pass, Job::End) {
+        Ok(after) => (after, left - 1),
+        Err((after, _)) => {
+            let (after, taken) = jobs.take(rt, after);
+            (after, left_after(left, taken))
         }
     }
-    pass
+}
+
+/// How many `End`s are left to put where this job was taken out.
+fn left_after(left: usize, taken: Option<Job>) -> usize
+    ensures { result ≡ left_after left taken }
+{
+    match taken {
+        Some(Job::End) => left.saturating_add(1),
+        _ => left,
+    }
 }

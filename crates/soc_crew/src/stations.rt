@@ -2,7 +2,7 @@
 ghost use Rattle.std.specs.Prelude.{◌≡◌, ◌+◌, ◌≤◌, ◌<◌, ◌++◌, [], ◌∷◌, length, All, IfOk, IfSome, IsSomeAnd, Some, vec_capacity, vec_len};
 ghost use Rattle.soc_collect.specs.Tallies.{nothing_served};
 ghost use Rattle.soc_hall.specs.Seats.{IsNew, IsSeatOf, known_of, room_of, seats_in};
-ghost use Rattle.soc_pool.specs.Passes.{IsPassOf, passes_in};
+ghost use Rattle.soc_pool.specs.Passes.{IsNew as IsNewPass, IsPassOf, IsRollOf, all_of, passes_in, roll_of, room_of as pass_room};
 
 use crate::collector::Collector;
 use crate::crew::Crew;
@@ -33,10 +33,13 @@ pub(crate) struct Stock {
 impl Stock {
     pub(crate) fn new(alloc: Global, crew: Crew) -> Result<Stock, NoMemory>
         requires { (crew.collectors ≤ 8) × (crew.processors ≤ 8) }
-        ensures own { IfOk result (λ stock. IsPassOf stock.jobs stock.own) }
+        ensures own { IfOk result (λ stock. IsPassOf stock.jobs stock.own × IsNewPass stock.own) }
         ensures passes { IfOk result (λ stock.
-            All (λ pass. IsPassOf stock.jobs pass) (passes_in stock.passes)
+            All (λ pass. IsPassOf stock.jobs pass × IsNewPass pass) (passes_in stock.passes)
             × (length (passes_in stock.passes) ≡ crew.collectors + crew.processors)) }
+        ensures roll { IfOk result (λ stock. IsRollOf stock.jobs stock.passes
+            × (all_of stock.passes ≡ crew.collectors + crew.processors + 1)
+            × (crew.collectors + crew.processors + 1 ≤ pass_room stock.passes)) }
         ensures buffers { IfOk result (λ stock. vec_len stock.buffers ≡ crew.collectors) }
     {
         let (jobs, mut passes) = Jobs::new(alloc, crew.collectors + crew.processors + 1)?;
@@ -71,11 +74,32 @@ fn station<T: SharedDesk>(seats: &mut Seats<T>, passes: &mut Passes) -> (Seat<T>
     ensures seat { (seats_in seats.old ≡ seats_in seats.new ++ result.0 ∷ [])
         × (room_of seats.new ≡ room_of seats.old) }
     ensures pass { passes_in passes.old ≡ passes_in passes.new ++ result.1 ∷ [] }
+    ensures roll { (roll_of passes.new ≡ roll_of passes.old)
+        × (pass_room passes.new ≡ pass_room passes.old) }
 {
     let (Some(seat), Some(pass)) = (seats.pop(), passes.pop()) else {
         unreachable!()
     };
     (seat, pass)
+}
+
+/// Gives a seat and a pass back.
+pub(crate) fn give_back<T: SharedDesk>(
+    seats: &mut Seats<T>,
+    passes: &mut Passes,
+    seat: Seat<T>,
+    pass: Pass,
+)
+    requires seats { length (seats_in seats.old) < room_of seats.old }
+    requires passes { length (passes_in passes.old) < pass_room passes.old }
+    ensures seat { (seats_in seats.new ≡ seats_in seats.old ++ seat ∷ [])
+        × (room_of seats.new ≡ room_of seats.old) }
+    ensures pass { passes_in passes.new ≡ passes_in passes.old ++ pass ∷ [] }
+    ensures roll { (roll_of passes.new ≡ roll_of passes.old)
+        × (pass_room passes.new ≡ pass_room passes.old) }
+{
+    seats.push(seat);
+    passes.push(pass);
 }
 
 /// A collector for each buffer.
@@ -92,7 +116,8 @@ pub(crate) fn collectors<'h, T: SharedDesk, G: Gate, R: Wait, X: Conn, N: Ledger
     requires seats { All (λ seat. IsSeatOf site.now.hall.now seat
         × IsNew (T.basis_of opened.now.value) (T.log_of opened.now.value) (known_of seat))
         (seats_in seats.old) }
-    requires passes { All (λ pass. IsPassOf site.now.jobs.now pass) (passes_in passes.old) }
+    requires passes { All (λ pass. IsPassOf site.now.jobs.now pass × IsNewPass pass)
+        (passes_in passes.old) }
     requires enough { (vec_len buffers ≤ length (seats_in seats.old))
         × (vec_len buffers ≤ length (passes_in passes.old))
         × (vec_len buffers < ticket.old.handed.parts)
@@ -104,11 +129,16 @@ pub(crate) fn collectors<'h, T: SharedDesk, G: Gate, R: Wait, X: Conn, N: Ledger
         (known_of c.desk.began.value)
         × (c.served ≡ nothing_served) × (c.desk.kept ≡ 0)
         × (c.ticket.handed.parts ≡ 1) × (c.ticket.refused.parts ≡ 1) × (c.ticket.handed.amount ≡ 0)
-        × (c.ticket.refused.amount ≡ 0)) result.items }
+        × (c.ticket.refused.amount ≡ 0)
+        × (c.desk.jobs.now ≡ site.now.jobs.now) × IsSomeAnd c.desk.pass (λ q. IsNewPass q))
+        result.items }
     ensures seats { All (λ seat. IsSeatOf site.now.hall.now seat
         × IsNew (T.basis_of opened.now.value) (T.log_of opened.now.value) (known_of seat))
         (seats_in seats.new) }
-    ensures passes { All (λ pass. IsPassOf site.now.jobs.now pass) (passes_in passes.new) }
+    ensures passes { All (λ pass. IsPassOf site.now.jobs.now pass × IsNewPass pass)
+        (passes_in passes.new) }
+    ensures roll { (roll_of passes.new ≡ roll_of passes.old)
+        × (pass_room passes.new ≡ pass_room passes.old) }
     ensures left { (length (seats_in seats.new) + vec_len buffers ≡ length (seats_in seats.old))
         × (room_of seats.new ≡ room_of seats.old)
         × (length (passes_in passes.new) + vec_len buffers ≡ length (passes_in passes.old)) }
@@ -142,21 +172,26 @@ pub(crate) fn processors<'h, T: SharedDesk, P: Reporter, G: Gate, R: Wait>(
     requires seats { All (λ seat. IsSeatOf site.now.hall.now seat
         × IsNew (T.basis_of opened.now.value) (T.log_of opened.now.value) (known_of seat))
         (seats_in seats.old) }
-    requires passes { All (λ pass. IsPassOf site.now.jobs.now pass) (passes_in passes.old) }
+    requires passes { All (λ pass. IsPassOf site.now.jobs.now pass × IsNewPass pass)
+        (passes_in passes.old) }
     requires enough { (count ≤ length (seats_in seats.old))
         × (count ≤ length (passes_in passes.old)) }
     requires reporter { (T.desk_of (T.basis_of opened.now.value)).row_of ≡ P.row_of reporter.now }
     ensures count { vec_len result ≡ count }
     ensures each { All (λ p. ((p.seat ≡ Some p.began.value)
         × IsSeatOf p.site.now.hall.now p.began.value
-        × IsSomeAnd p.pass (λ q. IsPassOf p.site.now.jobs.now q)
+        × IsSomeAnd p.pass (λ q. IsPassOf p.site.now.jobs.now q × IsNewPass q)
         × IfSome (known_of p.began.value).basis
         (λ basis. (T.desk_of basis).row_of ≡ P.row_of p.reporter.now))
         × (p.site.now.hall.now ≡ site.now.hall.now)
-        × IsNew (T.basis_of opened.now.value) (T.log_of opened.now.value) (known_of p.began.value))
+        × IsNew (T.basis_of opened.now.value) (T.log_of opened.now.value) (known_of p.began.value)
+        × (p.site.now.jobs.now ≡ site.now.jobs.now))
         result.items }
+    ensures roll { (roll_of passes.new ≡ roll_of passes.old)
+        × (pass_room passes.new ≡ pass_room passes.old) }
     ensures left { (length (seats_in seats.new) + count ≡ length (seats_in seats.old))
-        × (room_of seats.new ≡ room_of seats.old) }
+        × (room_of seats.new ≡ room_of seats.old)
+        × (length (passes_in passes.new) + count ≡ length (passes_in passes.old)) }
 {
     for made in 0..count {
         let (seat, pass) = station(seats, passes);

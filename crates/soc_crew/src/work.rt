@@ -1,9 +1,10 @@
 //! Collectors and processors beside each other.
-ghost use Rattle.std.specs.Prelude.{◌≡◌, ◌⊎◌, ◌^◌, ◌<◌, List, true, All};
+ghost use Rattle.std.specs.Prelude.{◌≡◌, ◌⊎◌, ◌^◌, ◌<◌, List, true, All, vec_len};
 ghost use Rattle.std.specs.List.{AllZip};
 ghost use Rattle.soc_collect.specs.Asked.{AsksAll, Step};
 ghost use Rattle.soc_collect.specs.Tallies.{nothing_served};
-ghost use Rattle.soc_pool.specs.Passes.{IsPassOf};
+ghost use Rattle.soc_pool.specs.Passes.{IsPassOf, seen_of};
+ghost use Rattle.soc_crew.specs.Jobs.{PutsEnds};
 
 use crate::beside::side_by_side;
 use crate::collector::Collector;
@@ -38,7 +39,7 @@ pub(crate) fn work<
     collectors: Vec<Collector<K, L::Conn, N, M>>,
     processors: Vec<T>,
     shared: &Shared<L, N, M, J, C, W>,
-) -> (Vec<Collector<K, L::Conn, N, M>>, Vec<T>)
+) -> (Vec<Collector<K, L::Conn, N, M>>, Vec<T>, Pass)
     requires collectors { All (λ c. (c.served ≡ nothing_served) × (K.added c.desk ≡ 0)
         × (c.ticket.handed.parts ≡ 1) × (c.ticket.refused.parts ≡ 1) × (c.ticket.handed.amount ≡ 0)
         × (c.ticket.refused.amount ≡ 0)) collectors.items }
@@ -52,9 +53,11 @@ pub(crate) fn work<
         × ((after.served.stopped ≡ true) ⊎ (0 < after.ticket.refused.amount))) collectors.items
         result.0.items }
     ensures processors { AllZip T.Did processors.items result.1.items }
+    ensures own { IsPassOf jobs.now result.2
+        × PutsEnds (vec_len processors) 0 (seen_of own) (seen_of result.2) }
 {
     let ends = processors.len();
-    let (collectors, processors, _own) = side_by_side(
+    let (collectors, processors, own) = side_by_side(
         rt,
         collectors,
         processors,
@@ -81,7 +84,9 @@ pub(crate) fn work<
         { processor.run() },
         || -> Pass
             requires { IsPassOf jobs.now own }
+            ensures { IsPassOf jobs.entry.now result
+                × PutsEnds ends 0 (seen_of own) (seen_of result) }
         { put_ends(rt, jobs, own, ends) },
     );
-    (collectors, processors)
+    (collectors, processors, own)
 }

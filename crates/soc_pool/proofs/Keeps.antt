@@ -18,7 +18,7 @@ use Rattle.soc_pool.specs.declared.rule.Seen.{Seen}
 use Rattle.soc_pool.specs.declared.rule.View.{View}
 use Rattle.soc_pool.specs.Passes.{numbers_below}
 use Rattle.soc_pool.specs.Ring.{entry, jobs, jobs_by, HasPart, Closes}
-use Rattle.soc_pool.specs.inner.Rule.{maker, next_maker, newcomer, gathering, spent, puts_in, takes_in, has_content, has_closed, unseen, Lives, works, total, Fits, IsOwned, IsRing}
+use Rattle.soc_pool.specs.inner.Rule.{maker, next_maker, newcomer, gathering, spent, puts_in, takes_in, has_content, has_closed, Lives, works, total, Fits, IsRing}
 
 -- ---- lists of entries
 

@@ -115,6 +115,7 @@ pub(crate) fn serve<
         listener,
         failed,
         served: counted,
+        ..
     } = serve_together(purpose.site.rt, setting, book, listener, clock, draws);
     *served = counted;
     let mut book = book.into_book();

@@ -128,6 +128,7 @@ fn served_by<R: Threads + Wait + Sync>(
         listener,
         failed,
         served,
+        ..
     } = serve_together(rt, setting, book, listener, &mut clock, &mut draws);
     Ok(Served {
         served,

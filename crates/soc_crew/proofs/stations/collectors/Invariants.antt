@@ -1,7 +1,7 @@
-use Rattle.std.proofs.Common.{◌≡◌, ◌+◌, ◌≤◌, length, All}
+use Rattle.std.proofs.Common.{◌≡◌, ◌+◌, ◌≤◌, length, All, IsSomeAnd}
 use Rattle.std.specs.Prelude.{vec_capacity, vec_len}
 use Rattle.soc_hall.specs.Seats.{IsNew, IsSeatOf, known_of, room_of, seats_in}
-use Rattle.soc_pool.specs.Passes.{IsPassOf, passes_in}
+use Rattle.soc_pool.specs.Passes.{IsNew as IsNewPass, IsPassOf, passes_in, roll_of, room_of as pass_room}
 use Rattle.soc_collect.specs.Tallies.{nothing_served}
 use Rattle.soc_crew.proofs.stations.collectors.Given as goal
 
@@ -11,7 +11,8 @@ invariant-loop-buffer g l = record {
   capacity : vec_len l.fn.buffers ≤ vec_capacity l.list;
   seats : All (λ seat. IsSeatOf l.site.hall.now seat × IsNew (g.T.Logged.basis_of l.opened.value)
       (g.T.Logged.log_of l.opened.value) (known_of seat)) (seats_in l.seats);
-  passes : All (λ pass. IsPassOf l.site.jobs.now pass) (passes_in l.passes);
+  passes : All (λ pass. IsPassOf l.site.jobs.now pass × IsNewPass pass) (passes_in l.passes);
+  roll : (roll_of l.passes ≡ roll_of l.fn.passes) × (pass_room l.passes ≡ pass_room l.fn.passes);
   left : length (seats_in l.seats) + vec_len l.list ≡ length (seats_in l.fn.seats);
   room : room_of l.seats ≡ room_of l.fn.seats;
   left_passes : length (passes_in l.passes) + vec_len l.list ≡ length (passes_in l.fn.passes);
@@ -22,7 +23,8 @@ invariant-loop-buffer g l = record {
   each : All (λ c. (c.desk.hall.now ≡ l.site.hall.now) × IsNew (g.T.Logged.basis_of l.opened.value)
       (g.T.Logged.log_of l.opened.value) (known_of c.desk.began.value)
       × (c.served ≡ nothing_served) × (c.desk.kept ≡ 0)
-      × (c.ticket.handed.parts ≡ 1) × (c.ticket.refused.parts ≡ 1) × (c.ticket.handed.amount ≡ 0) × (c.ticket.refused.amount ≡ 0)) l.list.items;
+      × (c.ticket.handed.parts ≡ 1) × (c.ticket.refused.parts ≡ 1) × (c.ticket.handed.amount ≡ 0) × (c.ticket.refused.amount ≡ 0)
+      × (c.desk.jobs.now ≡ l.site.jobs.now) × IsSomeAnd c.desk.pass (λ q. IsNewPass q)) l.list.items;
 }
 
 abbrev pub decreases-loop-buffer : goal.decreases-loop-buffer

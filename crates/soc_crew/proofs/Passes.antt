@@ -1,0 +1,246 @@
+-- What passes put and take, one call after another.
+use Rattle.std.proofs.Common.{◌≡◌, ◌⊎◌, inl, inr, ℕ, ◌+◌, ◌<◌, ◌≤◌, ◌^◌, List, [], ◌∷◌, ◌++◌, length, map, take, Option, None, Some, IfSome, IsSomeAnd, All, refl, sym, ◌∙◌, ap, subst, ⊎_elim, arith, append_assoc, length-append}
+use Rattle.std.specs.Prelude.{IfNone, min}
+use Rattle.std.specs.List.{AllByRecursion, slice_get}
+use mathlib.Core.List.{append-nil}
+use Rattle.std.proofs.Math.Nat.{min_comm, min-eq_left}
+use Rattle.std.proofs.lemmas.Bool.{cases_lt}
+use Rattle.std.proofs.lemmas.List.{map-append, length-map, take_more}
+use Rattle.std.proofs.lemmas.List.Elements.{All-map}
+use Rattle.std.proofs.lemmas.Option.{get_or_from_slice_get, slice_get-get_or, slice_get_within}
+use Rattle.soc_base.proofs.Folk.{none_is_not_some}
+use Rattle.soc_pool.specs.declared.jobs.Job.{Job}
+use Rattle.soc_pool.specs.declared.jobs.Job.TheVariants as J
+use Rattle.soc_pool.specs.declared.jobs.TheConstants.{PLACES}
+use Rattle.soc_pool.specs.declared.pass.Pass.{Pass}
+use Rattle.soc_pool.specs.declared.rule.Seen.{Seen}
+use Rattle.soc_pool.specs.Passes.{IsNew, empties_of, once_more, seen_of}
+use Rattle.soc_pool.specs.Ring.{Puts, Takes, WasHolding}
+use Rattle.soc_desk.specs.declared.desk.Command.{Command}
+use Rattle.soc_desk.specs.declared.desk.Receipt.{Receipt}
+use Rattle.soc_collect.specs.Asked.{AsksAll, Step}
+use Rattle.soc_service.specs.Desks.{PutsJob}
+use Rattle.soc_service.specs.Works.{crash_jobs}
+use Rattle.soc_service.proofs.Options.{at_some}
+use Rattle.soc_service.proofs.Worked.{crashes_more}
+use Rattle.soc_crew.specs.Jobs.{OnlyPuts, OnlyTakes, PutsDue, PutsEnds, Shares, Starts, ends_in, left_after}
+
+-- ---- the jobs of crashes that are due
+
+due_more : (due : List (List ℕ)) (n : ℕ) (id : List ℕ) → slice_get due n ≡ Some id → crash_jobs (take (n + 1) due) ≡ crash_jobs (take n due) ++ J.Crash id ∷ []
+due_more due n id is =
+    ap crash_jobs (take_more due n id (slice_get_within due n id is) ∙ ap (λ x. take n due ++ x ∷ []) (get_or_from_slice_get due n id id is)) ∙ crashes_more (take n due) id
+
+past : (due : List (List ℕ)) (n : ℕ) → slice_get due n ≡ None → length due ≤ n
+past due n none = ⊎_elim (λ (within : n < length due). absurd (none_is_not_some (sym none ∙ slice_get-get_or due n [] within))) (λ (over : length due ≤ n). over) (cases_lt n (length due))
+
+-- the first of them were put so far
+pub record HasPut (due : List (List ℕ)) (n : ℕ) (v w : Seen) : Type 0 where
+  pub within : n ≤ length due
+  pub puts : w.puts ≡ v.puts ++ crash_jobs (take n due)
+  pub takes : w.takes ≡ v.takes
+
+pub put_none : (due : List (List ℕ)) (v w : Seen) → w ≡ v → HasPut due 0 v w
+put_none due v w is = record { within = omega arith; puts = ap (λ s. s.puts) is ∙ sym (append-nil v.puts); takes = ap (λ s. s.takes) is }
+
+pub put_more : (due : List (List ℕ)) (n : ℕ) (id : List ℕ) (v u w : Seen) → slice_get due n ≡ Some id → HasPut due n v u → Puts u (J.Crash id) w → HasPut due (n + 1) v w
+put_more due n id v u w is has puts = record {
+  within = let below = slice_get_within due n id is in omega arith;
+  puts = ap (λ s. s.puts) puts.is_now ∙ (ap (λ l. l ++ J.Crash id ∷ []) has.puts ∙ (append_assoc v.puts (crash_jobs (take n due)) (J.Crash id ∷ []) ∙ ap (λ l. v.puts ++ l) (sym (due_more due n id is))));
+  takes = ap (λ s. s.takes) puts.is_now ∙ has.takes;
+}
+
+all_put : (n m k : ℕ) → n ≡ m → m ≤ k → n ≡ min m k
+all_put n m k is few = is ∙ sym (min-eq_left few)
+
+most_put : (n m k : ℕ) → n ≡ k → k ≤ m → n ≡ min m k
+most_put n m k is few = is ∙ (sym (min-eq_left few) ∙ min_comm k m)
+
+-- no further one is due
+pub put_all : (due : List (List ℕ)) (n : ℕ) (v w : Seen) → n ≤ PLACES → slice_get due n ≡ None → HasPut due n v w → PutsDue due v w
+put_all due n v w few none has = record { count = n; puts = has.puts; takes = has.takes; all = inl (let over = past due n none in let within = has.within in all_put n (length due) PLACES (omega arith) (omega arith)) }
+
+-- a ring has no place for further ones
+pub put_most : (due : List (List ℕ)) (n : ℕ) (v w : Seen) → n ≡ PLACES → HasPut due n v w → PutsDue due v w
+put_most due n v w is has = record { count = n; puts = has.puts; takes = has.takes; all = inl (let within = has.within in most_put n (length due) PLACES is (omega arith)) }
+
+-- the ring is full
+pub put_full : (due : List (List ℕ)) (n : ℕ) (v u w : Seen) → w ≡ u → WasHolding PLACES u → HasPut due n v u → PutsDue due v w
+put_full due n v u w is full has = subst (λ s. PutsDue due v s) (sym is) record { count = n; puts = has.puts; takes = has.takes; all = inr full }
+
+-- ---- the ends
+
+ends_both : (jobs more : List Job) → ends_in (jobs ++ more) ≡ ends_in jobs + ends_in more
+ends_both [] more = omega arith
+ends_both (J.End ∷ jobs) more = let both = ends_both jobs more in omega arith
+ends_both (J.Crash id ∷ jobs) more = ends_both jobs more
+
+all_both : (P : Job → Type 0) (jobs more : List Job) → AllByRecursion P jobs → AllByRecursion P more → AllByRecursion P (jobs ++ more)
+all_both P [] more all rest = rest
+all_both P (job ∷ jobs) more all rest = (all.0, all_both P jobs more all.1 rest)
+
+pub ends_none : (ends : ℕ) (v : Seen) → PutsEnds ends ends v v
+ends_none ends v = record { put = []; out = []; puts = sym (append-nil v.puts); only = tt; takes = sym (append-nil v.takes); enough = λ few. omega arith }
+
+-- an `End` was put
+pub end_put : (left left' : ℕ) (v w : Seen) → left' + 1 ≡ left → Puts v J.End w → PutsEnds left left' v w
+end_put left left' v w one puts = record {
+  put = J.End ∷ [];
+  out = [];
+  puts = ap (λ s. s.puts) puts.is_now;
+  only = (refl, tt);
+  takes = ap (λ s. s.takes) puts.is_now ∙ sym (append-nil v.takes);
+  enough = λ few. omega arith;
+}
+
+-- where the ring was full, a job was taken out, if there was one then
+pub taken_out : (left left' : ℕ) (v : Seen) (p q : Pass) (taken : Option Job) → seen_of p ≡ v → IfSome taken (λ job. Takes (seen_of p) job (seen_of q) × (empties_of q ≡ empties_of p))
+    → IfNone taken ((seen_of q ≡ seen_of p) × WasHolding 0 (seen_of p) × (empties_of q ≡ once_more (empties_of p))) → left' ≡ left_after left taken → PutsEnds left left' v (seen_of q)
+taken_out left left' v p q (Some J.End) same takes none is = subst (λ s. PutsEnds left left' s (seen_of q)) same record {
+  put = [];
+  out = J.End ∷ [];
+  puts = ap (λ s. s.puts) takes.0.is_now ∙ sym (append-nil (seen_of p).puts);
+  only = tt;
+  takes = ap (λ s. s.takes) takes.0.is_now;
+  enough = λ few. let within : left + 1 ≤ 2 ^ 64 - 1 = omega (arith, few) in let more : left' ≡ left + 1 = is ∙ min-eq_left within in omega (arith, more);
+}
+taken_out left left' v p q (Some (J.Crash id)) same takes none is = subst (λ s. PutsEnds left left' s (seen_of q)) same record {
+  put = [];
+  out = J.Crash id ∷ [];
+  puts = ap (λ s. s.puts) takes.0.is_now ∙ sym (append-nil (seen_of p).puts);
+  only = tt;
+  takes = ap (λ s. s.takes) takes.0.is_now;
+  enough = λ few. omega (arith, is);
+}
+taken_out left left' v p q None same takes none is =
+    subst (λ s. PutsEnds left left' v s) (sym (none.0 ∙ same)) (subst (λ n. PutsEnds left n v v) (sym is) (ends_none left v))
+
+pub ends_more : (ends left left' : ℕ) (v u w : Seen) → PutsEnds ends left v u → PutsEnds left left' u w → PutsEnds ends left' v w
+ends_more ends left left' v u w first next = record {
+  put = first.put ++ next.put;
+  out = first.out ++ next.out;
+  puts = next.puts ∙ (ap (λ l. l ++ next.put) first.puts ∙ append_assoc v.puts first.put next.put);
+  only = all_both (λ job. job ≡ J.End) first.put next.put first.only next.only;
+  takes = next.takes ∙ (ap (λ l. l ++ next.out) first.takes ∙ append_assoc v.takes first.out next.out);
+  enough = λ few.
+      let both = ends_both first.out next.out in
+      let long = length-append first.put next.put in
+      let few_first : ends + ends_in first.out < 2 ^ 64 = omega arith in
+      let a = first.enough few_first in
+      let few_next : left + ends_in next.out < 2 ^ 64 = omega arith in
+      let b = next.enough few_next in
+      omega arith;
+}
+
+-- ---- collectors
+
+-- a desk's pass puts jobs of crashes and takes none
+pub record PutsCrashes (v w : Seen) : Type 0 where
+  pub ids : List (List ℕ)
+  pub puts : w.puts ≡ v.puts ++ crash_jobs ids
+  pub takes : w.takes ≡ v.takes
+
+crashes_both : (ids more : List (List ℕ)) → crash_jobs (ids ++ more) ≡ crash_jobs ids ++ crash_jobs more
+crashes_both [] more = refl
+crashes_both (id ∷ ids) more = ap (λ l. J.Crash id ∷ l) (crashes_both ids more)
+
+crashes_none : (v w : Seen) → w ≡ v → PutsCrashes v w
+crashes_none v w is = record { ids = []; puts = ap (λ s. s.puts) is ∙ sym (append-nil v.puts); takes = ap (λ s. s.takes) is }
+
+crashes_then : (v u w : Seen) → PutsCrashes v u → PutsCrashes u w → PutsCrashes v w
+crashes_then v u w first next = record {
+  ids = first.ids ++ next.ids;
+  puts = next.puts ∙ (ap (λ l. l ++ crash_jobs next.ids) first.puts ∙ (append_assoc v.puts (crash_jobs first.ids) (crash_jobs next.ids) ∙ ap (λ l. v.puts ++ l) (sym (crashes_both first.ids next.ids))));
+  takes = next.takes ∙ first.takes;
+}
+
+by_job : (due : Option (List ℕ)) (before after : Pass) → PutsJob due before after → PutsCrashes (seen_of before) (seen_of after)
+by_job None before after is = crashes_none _ _ (ap (λ p. seen_of p) is)
+by_job (Some id) before after (inl put, same) = record { ids = id ∷ []; puts = ap (λ s. s.puts) put.0.is_now; takes = ap (λ s. s.takes) put.0.is_now }
+by_job (Some id) before after (inr full, same) = crashes_none _ _ full.0
+
+module _ {K : Type 0} (asks : K → Command → Receipt → K → Type 0) (pass_of : K → Option Pass) (due_of : Command → Receipt → Option (List ℕ))
+    (each : (k : K) (command : Command) (receipt : Receipt) (l : K) → asks k command receipt l → IsSomeAnd (pass_of k) (λ p. IsSomeAnd (pass_of l) (λ q. PutsJob (due_of command receipt) p q))) where
+  one_pass : (o : Option Pass) (Q : Pass → Type 0) → IsSomeAnd o Q → (q : Pass) × (o ≡ Some q) × Q q
+  one_pass None Q never = absurd never
+  one_pass (Some q) Q known = (q, refl, known)
+
+  -- what each command does to a pass, all commands do
+  pub asks_put : (steps : List Step) (before after : K) (p : Pass) → pass_of before ≡ Some p → AsksAll asks before steps after → IsSomeAnd (pass_of after) (λ q. PutsCrashes (seen_of p) (seen_of q))
+  asks_put [] before after p at is = subst (λ o. IsSomeAnd o (λ q. PutsCrashes (seen_of p) (seen_of q))) (sym (ap pass_of is ∙ at)) (crashes_none _ _ refl)
+  asks_put (step ∷ steps) before after p at (between, asked, rest) =
+      let now = at_some (λ x. IsSomeAnd (pass_of between) (λ q. PutsJob (due_of step.command step.receipt) x q)) (pass_of before) p at (each before step.command step.receipt between asked) in
+      let next = one_pass (pass_of between) (λ q. PutsJob (due_of step.command step.receipt) p q) now in
+      let last = one_pass (pass_of after) (λ q. PutsCrashes (seen_of next.0) (seen_of q)) (asks_put steps between after next.0 next.1 rest) in
+      subst (λ o. IsSomeAnd o (λ q. PutsCrashes (seen_of p) (seen_of q))) (sym last.1) (crashes_then _ _ _ (by_job _ p next.0 next.2) last.2)
+
+  -- so a pass that was new has only put
+  pub asks_only_put : (steps : List Step) (before after : K) → IsSomeAnd (pass_of before) (λ p. IsNew p) → AsksAll asks before steps after → IsSomeAnd (pass_of after) (λ q. OnlyPuts (seen_of q))
+  asks_only_put steps before after new asked =
+      let first = one_pass (pass_of before) (λ p. IsNew p) new in
+      let last = one_pass (pass_of after) (λ q. PutsCrashes (seen_of first.0) (seen_of q)) (asks_put steps before after first.0 first.1 asked) in
+      subst (λ o. IsSomeAnd o (λ q. OnlyPuts (seen_of q))) (sym last.1) (
+        last.2.ids,
+        last.2.puts ∙ ap (λ l. l ++ crash_jobs last.2.ids) (ap (λ s. s.puts) first.2.seen),
+        last.2.takes ∙ ap (λ s. s.takes) first.2.seen,
+      )
+
+-- ---- processors
+
+-- a processor took jobs of crashes so far, and put none
+pub record TakesCrashes (v w : Seen) : Type 0 where
+  pub ids : List (List ℕ)
+  pub takes : w.takes ≡ v.takes ++ crash_jobs ids
+  pub puts : w.puts ≡ v.puts
+
+pub took_nothing : (v w : Seen) → w ≡ v → TakesCrashes v w
+took_nothing v w is = record { ids = []; takes = ap (λ s. s.takes) is ∙ sym (append-nil v.takes); puts = ap (λ s. s.puts) is }
+
+pub took_more : (v u w : Seen) (ids : List (List ℕ)) (last : List Job) → last ≡ [] → TakesCrashes v u → w.takes ≡ u.takes ++ (crash_jobs ids ++ last) → w.puts ≡ u.puts → TakesCrashes v w
+took_more v u w ids last none so_far takes puts = record {
+  ids = so_far.ids ++ ids;
+  takes = takes ∙ (ap (λ l. u.takes ++ (crash_jobs ids ++ l)) none ∙ (ap (λ l. u.takes ++ l) (append-nil (crash_jobs ids)) ∙ (ap (λ l. l ++ crash_jobs ids) so_far.takes ∙ (append_assoc v.takes (crash_jobs so_far.ids) (crash_jobs ids) ∙ ap (λ l. v.takes ++ l) (sym (crashes_both so_far.ids ids))))));
+  puts = puts ∙ so_far.puts;
+}
+
+pub took_end : (p : Pass) (u w : Seen) (ids : List (List ℕ)) (last : List Job) → last ≡ J.End ∷ [] → IsNew p → TakesCrashes (seen_of p) u → w.takes ≡ u.takes ++ (crash_jobs ids ++ last) → w.puts ≡ u.puts → OnlyTakes w
+took_end p u w ids last is new so_far takes puts = (
+  so_far.ids ++ ids,
+  takes ∙ (ap (λ l. u.takes ++ (crash_jobs ids ++ l)) is ∙ (sym (append_assoc u.takes (crash_jobs ids) (J.End ∷ []))
+      ∙ ap (λ l. l ++ J.End ∷ []) (ap (λ l. l ++ crash_jobs ids) (so_far.takes ∙ ap (λ l. l ++ crash_jobs so_far.ids) (ap (λ s. s.takes) new.seen)) ∙ sym (crashes_both so_far.ids ids)))),
+  puts ∙ (so_far.puts ∙ ap (λ s. s.puts) new.seen),
+)
+
+-- ---- all of them
+
+pub shared : (Own : Seen → Type 0) (passes collecting processing : List Pass) (own : Pass) (collectors processors : ℕ)
+    → passes ≡ (collecting ++ processing) ++ own ∷ [] → length collecting ≡ collectors → length processing ≡ processors
+    → All (λ q. OnlyPuts (seen_of q)) collecting → All (λ q. OnlyTakes (seen_of q)) processing → Own (seen_of own)
+    → Shares Own collectors processors (map (λ pass. seen_of pass) passes)
+shared Own passes collecting processing own collectors processors is c p put took started = record {
+  collecting = map (λ pass. seen_of pass) collecting;
+  processing = map (λ pass. seen_of pass) processing;
+  own = seen_of own;
+  passes_are =
+      ap (map (λ pass. seen_of pass)) is
+      ∙ (map-append (λ pass. seen_of pass) (collecting ++ processing) (own ∷ []) ∙ ap (λ l. l ++ seen_of own ∷ []) (map-append (λ pass. seen_of pass) collecting processing));
+  collectors_are = length-map collecting (λ pass. seen_of pass) ∙ c;
+  processors_are = length-map processing (λ pass. seen_of pass) ∙ p;
+  put = All-map OnlyPuts (λ pass. seen_of pass) collecting put;
+  took = All-map OnlyTakes (λ pass. seen_of pass) processing took;
+  started = started;
+}
+
+-- the same with what was put at the start
+pub started : (due : List (List ℕ)) (p : Pass) (u : Seen) (collectors processors : ℕ) (passes : List Seen) → IsNew p → PutsDue due (seen_of p) u → Shares (PutsEnds processors 0 u) collectors processors passes → Shares (Starts due processors) collectors processors passes
+started due p u collectors processors passes new puts shares = record {
+  collecting = shares.collecting;
+  processing = shares.processing;
+  own = shares.own;
+  passes_are = shares.passes_are;
+  collectors_are = shares.collectors_are;
+  processors_are = shares.processors_are;
+  put = shares.put;
+  took = shares.took;
+  started = (seen_of p, u, ap (λ s. s.puts) new.seen, ap (λ s. s.takes) new.seen, puts, shares.started);
+}

@@ -1,0 +1,59 @@
+-- What the threads of a crew do with its ring of jobs.
+use Rattle.std.specs.Prelude.{◌⊎◌, ◌≡◌, ℕ, zero, suc, ◌+◌, ◌-◌, ◌<◌, ◌^◌, min, Option, Some, List, [], ◌∷◌, ◌++◌, length, take, All}
+use Rattle.std.specs.List.{AllByRecursion}
+use Rattle.soc_pool.specs.declared.jobs.Job.{Job}
+use Rattle.soc_pool.specs.declared.jobs.Job.TheVariants as J
+use Rattle.soc_pool.specs.declared.jobs.TheConstants.{PLACES}
+use Rattle.soc_pool.specs.declared.rule.Seen.{Seen}
+use Rattle.soc_pool.specs.Ring.{WasHolding}
+use Rattle.soc_service.specs.Works.{crash_jobs}
+
+-- The jobs of crashes that are due were put, the first ones in order: as many as a ring has places, or until it was full.
+pub record PutsDue (due : List (List ℕ)) (v w : Seen) : Type 0 where
+  pub count : ℕ
+  pub puts : w.puts ≡ v.puts ++ crash_jobs (take count due)
+  pub takes : w.takes ≡ v.takes
+  pub all : (count ≡ min (length due) PLACES) ⊎ WasHolding PLACES w
+
+abbrev pub ends_in : List Job → ℕ
+ends_in [] = zero
+ends_in (J.End ∷ jobs) = suc (ends_in jobs)
+ends_in (J.Crash id ∷ jobs) = ends_in jobs
+
+-- So many `End`s, and one more for each that was taken out, were put, but for those that are left.
+pub record PutsEnds (ends left : ℕ) (v w : Seen) : Type 0 where
+  pub put : List Job
+  pub out : List Job
+  pub puts : w.puts ≡ v.puts ++ put
+  pub only : AllByRecursion (λ job. job ≡ J.End) put
+  pub takes : w.takes ≡ v.takes ++ out
+  pub enough : ends + ends_in out < 2 ^ 64 → length put + left ≡ ends + ends_in out
+
+-- how many are left to put where this job was taken out of a full ring
+abbrev pub left_after : ℕ → Option Job → ℕ
+left_after left (Some J.End) = min (left + 1) (2 ^ 64 - 1)
+left_after left _ = left
+
+-- who starts a crew puts jobs of crashes that are due, and at the end an `End` for each processor
+abbrev pub Starts : List (List ℕ) → ℕ → Seen → Type 0
+Starts due processors w = (v : Seen) × (u : Seen) × (v.puts ≡ []) × (v.takes ≡ []) × PutsDue due v u × PutsEnds processors 0 u w
+
+-- a collector puts jobs of crashes and takes none
+abbrev pub OnlyPuts : Seen → Type 0
+OnlyPuts v = (ids : List (List ℕ)) × (v.puts ≡ crash_jobs ids) × (v.takes ≡ [])
+
+-- a processor puts none, and takes jobs of crashes and at the end an `End`
+abbrev pub OnlyTakes : Seen → Type 0
+OnlyTakes v = (ids : List (List ℕ)) × (v.takes ≡ crash_jobs ids ++ J.End ∷ []) × (v.puts ≡ [])
+
+-- what all passes of a crew's ring have seen: those of its collectors, those of its processors, and the one of who started it
+pub record Shares (Own : Seen → Type 0) (collectors processors : ℕ) (passes : List Seen) : Type 0 where
+  pub collecting : List Seen
+  pub processing : List Seen
+  pub own : Seen
+  pub passes_are : passes ≡ (collecting ++ processing) ++ own ∷ []
+  pub collectors_are : length collecting ≡ collectors
+  pub processors_are : length processing ≡ processors
+  pub put : All OnlyPuts collecting
+  pub took : All OnlyTakes processing
+  pub started : Own own
