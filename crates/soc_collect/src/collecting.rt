@@ -4,9 +4,8 @@ ghost use Rattle.soc_collect.specs.Asked.{AsksAll, Step};
 ghost use Rattle.soc_collect.specs.Tallies.{nothing_served};
 
 use crate::door::Naming;
-use crate::serving::serve_one;
+use crate::serving::{Tally, serve_one};
 use crate::shared::{Shared, SharedClock, SharedDraws};
-use crate::tally::Tally;
 use crate::ticket::Ticket;
 use soc_desk::KeepingDesk;
 use soc_edge::{Clock, Draws};

@@ -8,14 +8,12 @@ mod door;
 mod serving;
 mod shared;
 mod shut;
-mod tally;
 mod ticket;
 mod watch;
 
 pub use collecting::collect;
 pub use door::{Door, Naming};
-pub use serving::serve_one;
+pub use serving::{Tally, serve_one};
 pub use shared::{Shared, SharedClock, SharedDraws};
 pub use shut::Shut;
-pub use tally::Tally;
 pub use ticket::Ticket;

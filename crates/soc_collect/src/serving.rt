@@ -7,8 +7,9 @@ ghost use Rattle.soc_desk.specs.declared.desk.Receipt.{Receipt};
 ghost use Rattle.soc_session.specs.Session.{around};
 ghost use Rattle.soc_collect.specs.Serving.{ServesOne, Tallied, WasPokedWhere, no_crash};
 
+mod tally;
+
 use crate::shut::Shut;
-use crate::tally::Tally;
 use crate::watch::Watched;
 use soc_desk::{Command, Desk, KeepingDesk};
 use soc_edge::{Clock, Draws, Sink, Source};
@@ -16,6 +17,7 @@ use soc_http::Buffer;
 use soc_listen::Conn;
 use soc_raw::CrashId;
 use soc_session::{SessionEnd, Setting, session};
+pub use tally::Tally;
 
 /// The id by which a turn looks whether the desk has stopped. No drawn id is this one, since a draw gives version 4.
 const NO_CRASH: &str = "00000000-0000-0000-0000-000000000101";

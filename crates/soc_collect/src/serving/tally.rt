@@ -68,7 +68,7 @@ impl<X> Tally<X> {
     }
 
     /// One more connection was served.
-    pub(crate) fn count(&mut self, kept: u64, stopped: bool)
+    pub(super) fn count(&mut self, kept: u64, stopped: bool)
         requires connections { self.old.connections + 1 < 2 ^ 64 }
         requires kept { self.old.kept + kept < 2 ^ 64 }
         ensures { self.new ≡ with_one self.old kept stopped }
