@@ -1,5 +1,5 @@
 -- Of lists whose items threads work on.
-use Rattle.std.proofs.Common.{◌≡◌, ℕ, suc, ◌<◌, List, [], ◌∷◌, ◌++◌, ◌+◌, length, Some, All, ◌∙◌, ap, subst, arith, length-append}
+use Rattle.std.proofs.Common.{◌≡◌, ℕ, suc, ◌<◌, List, [], ◌∷◌, ◌++◌, ◌+◌, length, Some, All, ◌∙◌, ap, subst, arith, length-append, Option, IsSomeAnd}
 use Rattle.std.specs.Prelude.{slice_index_or}
 use Rattle.std.specs.List.{AllZip}
 use Rattle.std.specs.Fork.{ChangesAt, ChangesEach}
@@ -40,3 +40,7 @@ module _ {X : Type 0} (xs ys : List X) (x : X) where
   -- a list to which one was added
   pub push_all : xs ≡ ys ++ x ∷ [] → (P : X → Type 0) → All P ys → P x → All P xs
   push_all is P all here = All-same P xs (ys ++ x ∷ []) is (All-push P ys x all here)
+
+-- what holds of an optional value holds of the value that it is
+pub at_some : {A : Type 0} (Q : A → Type 0) (o : Option A) (x : A) → o ≡ Some x → IsSomeAnd o Q → Q x
+at_some Q o x is known = subst (λ p. IsSomeAnd p Q) is known

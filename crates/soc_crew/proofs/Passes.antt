@@ -1,5 +1,5 @@
 -- What passes put and take, one call after another.
-use Rattle.std.proofs.Common.{◌≡◌, ◌⊎◌, inl, inr, ℕ, ◌+◌, ◌<◌, ◌≤◌, ◌^◌, List, [], ◌∷◌, ◌++◌, length, map, take, Option, None, Some, IfSome, IsSomeAnd, All, refl, sym, ◌∙◌, ap, subst, ⊎_elim, arith, append_assoc, length-append}
+use Rattle.std.proofs.Common.{◌≡◌, ◌⊎◌, inl, inr, ℕ, ◌+◌, ◌-◌, ◌<◌, ◌≤◌, ◌^◌, List, [], ◌∷◌, ◌++◌, length, map, take, Option, None, Some, IfSome, IsSomeAnd, All, refl, sym, ◌∙◌, ap, subst, ⊎_elim, arith, append_assoc, length-append}
 use Rattle.std.specs.Prelude.{IfNone, min}
 use Rattle.std.specs.List.{AllByRecursion, slice_get}
 use mathlib.Core.List.{append-nil}
@@ -21,15 +21,18 @@ use Rattle.soc_desk.specs.declared.desk.Receipt.{Receipt}
 use Rattle.soc_collect.specs.Asked.{AsksAll, Step}
 use Rattle.soc_service.specs.Desks.{PutsJob}
 use Rattle.soc_service.specs.Works.{crash_jobs}
-use Rattle.soc_service.proofs.Options.{at_some}
-use Rattle.soc_service.proofs.Worked.{crashes_more}
+use Rattle.soc_crew.proofs.Lists.{at_some}
 use Rattle.soc_crew.specs.Jobs.{OnlyPuts, OnlyTakes, PutsDue, PutsEnds, Shares, Starts, ends_in, left_after}
 
 -- ---- the jobs of crashes that are due
 
+crashes_both : (ids more : List (List ℕ)) → crash_jobs (ids ++ more) ≡ crash_jobs ids ++ crash_jobs more
+crashes_both [] more = refl
+crashes_both (id ∷ ids) more = ap (λ l. J.Crash id ∷ l) (crashes_both ids more)
+
 due_more : (due : List (List ℕ)) (n : ℕ) (id : List ℕ) → slice_get due n ≡ Some id → crash_jobs (take (n + 1) due) ≡ crash_jobs (take n due) ++ J.Crash id ∷ []
 due_more due n id is =
-    ap crash_jobs (take_more due n id (slice_get_within due n id is) ∙ ap (λ x. take n due ++ x ∷ []) (get_or_from_slice_get due n id id is)) ∙ crashes_more (take n due) id
+    ap crash_jobs (take_more due n id (slice_get_within due n id is) ∙ ap (λ x. take n due ++ x ∷ []) (get_or_from_slice_get due n id id is)) ∙ crashes_both (take n due) (id ∷ [])
 
 past : (due : List (List ℕ)) (n : ℕ) → slice_get due n ≡ None → length due ≤ n
 past due n none = ⊎_elim (λ (within : n < length due). absurd (none_is_not_some (sym none ∙ slice_get-get_or due n [] within))) (λ (over : length due ≤ n). over) (cases_lt n (length due))
@@ -139,10 +142,6 @@ pub record PutsCrashes (v w : Seen) : Type 0 where
   pub ids : List (List ℕ)
   pub puts : w.puts ≡ v.puts ++ crash_jobs ids
   pub takes : w.takes ≡ v.takes
-
-crashes_both : (ids more : List (List ℕ)) → crash_jobs (ids ++ more) ≡ crash_jobs ids ++ crash_jobs more
-crashes_both [] more = refl
-crashes_both (id ∷ ids) more = ap (λ l. J.Crash id ∷ l) (crashes_both ids more)
 
 crashes_none : (v w : Seen) → w ≡ v → PutsCrashes v w
 crashes_none v w is = record { ids = []; puts = ap (λ s. s.puts) is ∙ sym (append-nil v.puts); takes = ap (λ s. s.takes) is }

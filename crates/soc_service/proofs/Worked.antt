@@ -265,7 +265,7 @@ module _ {T A B : Type 0} (desk : Shared T A B) (command_of : A → Command) whe
 
 -- ---- the takes
 
-pub crashes_more : (ids : List (List ℕ)) (id : List ℕ) → crash_jobs (ids ++ id ∷ []) ≡ crash_jobs ids ++ J.Crash id ∷ []
+crashes_more : (ids : List (List ℕ)) (id : List ℕ) → crash_jobs (ids ++ id ∷ []) ≡ crash_jobs ids ++ J.Crash id ∷ []
 crashes_more [] id = refl
 crashes_more (first ∷ ids) id = ap (λ l. J.Crash first ∷ l) (crashes_more ids id)
 

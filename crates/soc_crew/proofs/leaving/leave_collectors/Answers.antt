@@ -3,10 +3,9 @@ use Rattle.std.proofs.Math.Logic.{∥∥₁_map, ∥∥₁_map₂}
 use Rattle.soc_base.proofs.Folk.{or_second}
 use Rattle.soc_hall.specs.Seats.{IsNew, IsSeatOf, known_of, seats_in}
 use Rattle.soc_pool.specs.Passes.{IsPassOf, seen_of}
-use Rattle.soc_service.proofs.Options.{at_some}
 use Rattle.soc_crew.specs.Jobs.{OnlyPuts}
 use Rattle.soc_crew.specs.inner.Seated.{AreSeated}
-use Rattle.soc_crew.proofs.Lists.{one_more, pop_all, push_all}
+use Rattle.soc_crew.proofs.Lists.{at_some, one_more, pop_all, push_all}
 use Rattle.soc_crew.proofs.Seats.{more_seated}
 use Rattle.soc_crew.proofs.leaving.leave_collectors.Goals as goal
 

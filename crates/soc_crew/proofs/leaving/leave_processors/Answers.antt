@@ -4,11 +4,10 @@ use Rattle.soc_hall.specs.Seats.{IsNew, IsSeatOf, known_of, seats_in}
 use mathlib.Core.List.{append-nil}
 use Rattle.std.proofs.lemmas.List.Elements.{All-nil, All-push}
 use Rattle.soc_pool.specs.Passes.{IsPassOf, seen_of}
-use Rattle.soc_service.proofs.Options.{at_some}
 use Rattle.soc_crew.specs.Jobs.{OnlyTakes}
 use Rattle.soc_service.specs.Desks.{HasTurned}
 use Rattle.soc_crew.specs.inner.Seated.{AreSeated}
-use Rattle.soc_crew.proofs.Lists.{one_more, pop_all, push_all}
+use Rattle.soc_crew.proofs.Lists.{at_some, one_more, pop_all, push_all}
 use Rattle.soc_crew.proofs.Seats.{more_seated}
 use Rattle.soc_crew.proofs.leaving.leave_processors.Goals as goal
 
