@@ -1,9 +1,9 @@
 use Rattle.std.proofs.Common.{◌≡◌, ◌<◌, length, sym, ◌∙◌, ap, subst, arith}
 use Rattle.std.specs.Prelude.{vec_len}
 use Rattle.std.proofs.Math.Logic.{∥∥₁_map}
-use Rattle.crossbeam_queue.specs.Passes as kit
 use Rattle.soc_hall.specs.Seats.{seats_in}
 use Rattle.soc_pool.specs.Passes.{IsPassOf}
+use Rattle.soc_pool.proofs.Rolls.{all_stay, roll_stays}
 use Rattle.soc_crew.specs.Gains.{Ends}
 use Rattle.soc_crew.specs.Jobs.{PutsEnds, Shares}
 use Rattle.soc_crew.proofs.Passes.{started}
@@ -61,14 +61,14 @@ close-desk-requires-clause-all g c =
     omega arith
 
 pub close-jobs-requires-clause-roll : goal.close-jobs-requires-clause-roll
-close-jobs-requires-clause-roll g c = subst (λ roll. kit.IsPassOf c.in-Ok.stock.jobs.ring roll) (sym c.serve_in-served.ensures.passes.2) c.in-Ok.ensures.roll.0
+close-jobs-requires-clause-roll g c = roll_stays c.in-Ok.stock.jobs c.in-Ok.stock.passes c.serve_in-served.new.passes c.serve_in-served.ensures.passes.2 c.in-Ok.ensures.roll.0
 
 pub close-jobs-requires-clause-all : goal.close-jobs-requires-clause-all
 close-jobs-requires-clause-all g c =
     let passes = c.in-Ok.ensures.passes.1 in
     let all = c.in-Ok.ensures.roll.1 in
     let back = c.serve_in-served.ensures.passes.1 in
-    let same = ap (λ roll. (kit.view roll).seen.number) c.serve_in-served.ensures.passes.2 in
+    let same = all_stay c.in-Ok.stock.passes c.serve_in-served.new.passes c.serve_in-served.ensures.passes.2 in
     omega arith
 
 pub close-listener-requires-clause-handed : goal.close-listener-requires-clause-handed

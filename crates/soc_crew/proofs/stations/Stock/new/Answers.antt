@@ -1,6 +1,6 @@
-use Rattle.std.proofs.Common.{◌≡◌, ◌+◌, length, sym, ◌∙◌, ap, subst, arith}
-use Rattle.crossbeam_queue.specs.Passes as kit
+use Rattle.std.proofs.Common.{◌≡◌, ◌+◌, length, ◌∙◌, arith}
 use Rattle.soc_pool.specs.Passes.{IsNew, IsPassOf, passes_in, room_of}
+use Rattle.soc_pool.proofs.Rolls.{all_stay, roll_stays}
 use Rattle.soc_crew.proofs.Lists.{one_more, pop_all}
 use Rattle.soc_crew.proofs.stations.Stock.new.Goals as goal
 
@@ -24,7 +24,7 @@ returns-clause-roll c =
     let same = c.in-Some.ensures.same in
     let room : room_of c.pop.new.self ≡ room_of c.in_ok-jobs.passes = same.1 in
     let enough = c.in_ok-jobs.ensures.count.1 in (
-      subst (λ roll. kit.IsPassOf jobs.ring roll) (sym same.0) c.in_ok-jobs.ensures.roll.0,
-      ap (λ roll. (kit.view roll).seen.number) same.0 ∙ c.in_ok-jobs.ensures.roll.1,
+      roll_stays jobs c.in_ok-jobs.passes c.pop.new.self same.0 c.in_ok-jobs.ensures.roll.0,
+      all_stay c.in_ok-jobs.passes c.pop.new.self same.0 ∙ c.in_ok-jobs.ensures.roll.1,
       omega arith,
     )
