@@ -243,3 +243,12 @@ started due p u collectors processors passes new puts shares = record {
   took = shares.took;
   started = (seen_of p, u, ap (λ s. s.puts) new.seen, ap (λ s. s.takes) new.seen, puts, shares.started);
 }
+
+-- and of a ring that has ended with all passes, one for each buffer
+pub started_with : (due : List (List ℕ)) (p : Pass) (u : Seen) (collectors processors buffers : ℕ) (seen passes : List Seen)
+    → IsNew p → PutsDue due (seen_of p) u → buffers ≡ collectors → seen ≡ passes
+    → Shares (PutsEnds processors 0 u) buffers processors passes → Shares (Starts due processors) collectors processors seen
+started_with due p u collectors processors buffers seen passes new puts few same shares =
+    started due p u collectors processors seen new puts
+    (subst (λ n. Shares (PutsEnds processors 0 u) n processors seen) few
+    (subst (λ l. Shares (PutsEnds processors 0 u) buffers processors l) (sym same) shares))

@@ -97,8 +97,8 @@ pub fn serve_together<
         ⊎ ((failed || (L.told result.listener).ended) ≡ true)) }
     ensures unserved { OnErr result.failed (result.served ≡ nothing_served) }
     ensures jobs { MatchOption result.jobs (IsErr result.failed)
-        (λ end. Shares (Starts (due_ids (events_in (T.log_of desk))) setting.crew.processors)
-        setting.crew.collectors setting.crew.processors (seen_in end)) }
+        (λ end. Shares (Starts (due_ids (events_in (T.log_of desk))) setting.entry.crew.processors)
+        setting.entry.crew.collectors setting.entry.crew.processors (seen_in end)) }
 {
     let parts = setting.crew.collectors as u64 + 1;
     serve_with::<Brand, Brand, Brand, R, T, P, L, C, W, G>(
@@ -153,8 +153,8 @@ fn serve_with<
         ⊎ ((failed || (L.told result.listener).ended) ≡ true)) }
     ensures unserved { OnErr result.failed (result.served ≡ nothing_served) }
     ensures jobs { MatchOption result.jobs (IsErr result.failed)
-        (λ end. Shares (Starts (due_ids (events_in (T.log_of desk))) setting.crew.processors)
-        setting.crew.collectors setting.crew.processors (seen_in end)) }
+        (λ end. Shares (Starts (due_ids (events_in (T.log_of desk))) setting.entry.crew.processors)
+        setting.entry.crew.collectors setting.entry.crew.processors (seen_in end)) }
 {
     let crew = setting.crew;
     let alloc = setting.session.alloc;
@@ -273,8 +273,8 @@ fn serve_in<
     ensures passes { All (λ pass. IsPassOf site.now.jobs.now pass) (passes_in passes.new)
         × (length (passes_in passes.new) ≡ length (passes_in passes.old) + 1)
         × (roll_of passes.new ≡ roll_of passes.old) }
-    ensures jobs { Shares (PutsEnds setting.crew.processors 0 (seen_of own))
-        (vec_len buffers) setting.crew.processors
+    ensures jobs { Shares (PutsEnds setting.entry.crew.processors 0 (seen_of own))
+        (vec_len buffers) setting.entry.crew.processors
         (map (λ pass. seen_of pass) (passes_in passes.new)) }
     ensures ticket { (result.0.connections ≡ ticket.new.handed.amount)
         × (ticket.new.handed.parts ≡ ticket.old.handed.parts)

@@ -1,9 +1,10 @@
 -- What the turns of a seat have kept.
-use Rattle.std.proofs.Common.{◌≡◌, ◌⊎◌, inl, inr, ℕ, suc, ◌+◌, Bool, true, false, List, [], ◌∷◌, ◌++◌, Option, None, Some, refl, sym, ◌∙◌, ap, subst, append_assoc, arith}
+use Rattle.std.proofs.Common.{◌≡◌, inl, inr, ℕ, suc, ◌+◌, Bool, true, false, List, [], ◌∷◌, ◌++◌, Option, None, Some, refl, sym, ◌∙◌, ap, subst, append_assoc, arith}
 use Rattle.std.specs.Prelude.{if◌then◌else◌}
 use Rattle.std.proofs.lemmas.List.{map-append}
 use mathlib.Core.List.{append-nil}
 use Rattle.soc_raw.specs.Record.{Crash}
+use Rattle.soc_raw.specs.RawCrash.{crash_of}
 use Rattle.soc_hall.specs.declared.view.Turn.{Turn as HallTurn}
 use Rattle.soc_hall.specs.Log.{pieces}
 use Rattle.soc_ledger.specs.declared.event.Event.{Event}
@@ -17,7 +18,7 @@ use Rattle.soc_service.specs.declared.processor.WorkerStop.{WorkerStop}
 use Rattle.soc_service.specs.Desks.{HasTurned}
 use Rattle.soc_service.specs.Answers.{TellsAnswers}
 use Rattle.soc_service.specs.Turns.{Knows, Shared, Turn}
-use Rattle.soc_service.specs.Works.{Fetches, Finishes, LeavesLast, LeavesOff, Work, Worked, WorksOn, WorksOnAll}
+use Rattle.soc_service.specs.Works.{Fetches, Finishes, LeavesLast, StopsBehind, Work, Worked, WorksOn, WorksOnAll}
 use Rattle.soc_service.proofs.Counted.{kept_in_turn}
 use Rattle.soc_service.proofs.Worked.{behind_fetch, fetch_adds_none}
 
@@ -82,14 +83,14 @@ module _ {T A B : Type 0} (desk : Shared T A B) (command_of : A → Command) (de
   by_finish : (v : Knows A B) (crash : Crash) (reply : Reply) (w : Knows A B) → Finishes desk command_of v crash reply w → HasTurned v w 0
   by_finish v crash reply w finish = by_turn desk command_of v _ finish.receipt w finish.turn 0 (kept_in_turn desk command_of desk_of tells finish.turn)
 
-  behind : (u w : Knows A B) → (w ≡ u) ⊎ ((crash : Crash) × (reply : Reply) × Finishes desk command_of u crash reply w) → HasTurned u w 0
-  behind u w (inl is) = subst (λ k. HasTurned u k 0) (sym is) (turned_none u)
-  behind u w (inr (crash, reply, finish)) = by_finish u crash reply w finish
+  behind : (reply : Reply) (u w : Knows A B) → StopsBehind desk command_of reply u w → HasTurned u w 0
+  behind reply u w (inl is) = subst (λ k. HasTurned u k 0) (sym is) (turned_none u)
+  behind reply u w (inr (raw, gave, answer, finish)) = by_finish u (crash_of raw) answer w finish
 
   by_work : (v : Knows A B) (work : Work) (w : Knows A B) → WorksOn desk command_of v work.id work.outcome w → HasTurned v w 0
   by_work v work w works =
       turned_more v works.between w 0 0 (by_fetch v work.id works.reply works.between works.fetch)
-      (behind works.between w (behind_fetch desk command_of desk_of tells work.id work.outcome works.reply works.between works.fetch w works.goes_on))
+      (behind works.reply works.between w (behind_fetch desk command_of desk_of tells work.id work.outcome works.reply works.between works.fetch w works.goes_on))
 
   by_works : (v : Knows A B) (works : List Work) (w : Knows A B) → WorksOnAll desk command_of v works w → HasTurned v w 0
   by_works v [] w is = subst (λ k. HasTurned v k 0) (sym is) (turned_none v)
@@ -98,7 +99,7 @@ module _ {T A B : Type 0} (desk : Shared T A B) (command_of : A → Command) (de
   by_last : (v : Knows A B) (left : Option (List ℕ)) (w : Knows A B) → LeavesLast desk command_of v left w → HasTurned v w 0
   by_last v None w is = subst (λ k. HasTurned v k 0) (sym is) (turned_none v)
   by_last v (Some id) w leaves =
-      turned_more v leaves.between w 0 0 (by_fetch v id leaves.reply leaves.between leaves.fetch) (behind leaves.between w leaves.goes_on)
+      turned_more v leaves.between w 0 0 (by_fetch v id leaves.reply leaves.between leaves.fetch) (behind leaves.reply leaves.between w leaves.stops)
 
   -- a processor's turns keep nothing: they say that crashes were processed
   pub by_worker : (v : Knows A B) (taken made stale missed : List (List ℕ)) (stop : WorkerStop) (w : Knows A B)

@@ -35,7 +35,7 @@ use Rattle.soc_service.specs.declared.process.Outcome.{Outcome}
 use Rattle.soc_service.specs.declared.processor.WorkerStop.{WorkerStop}
 use Rattle.soc_service.specs.declared.processor.WorkerStop.TheVariants as S
 use Rattle.soc_service.specs.Turns.{Knows, MayTurn, Shared}
-use Rattle.soc_service.specs.Works.{EndsBy, Fetches, Finishes, GaveNone, GoesOn, LeavesOff, WasIdle, Work, WorksOn, Worked, WorksOnAll, crash_jobs, ids_of, ids_with, is_made, is_missed, is_stale, last_job}
+use Rattle.soc_service.specs.Works.{EndsBy, Fetches, Finishes, GaveNone, GoesOn, LeavesOff, StopsBehind, WasIdle, Work, WorksOn, Worked, WorksOnAll, crash_jobs, ids_of, ids_with, is_made, is_missed, is_stale, last_job}
 use Rattle.soc_service.specs.inner.Outcomes.{fetched_as, finished_as}
 use Rattle.soc_service.proofs.Answered.{log_after, told}
 use Rattle.soc_service.proofs.Options.{map_nil}
@@ -115,12 +115,12 @@ module _ {T A B : Type 0} (desk : Shared T A B) (command_of : A → Command) (de
   -- a crash that the fetch didn't give
   pub ends_unread : (v w : Knows A B) (id : List ℕ) (reply : Reply) (outcome : Option Outcome) → outcome ≡ fetched_as reply → Fetches desk command_of v id reply w → Ends v id outcome w
   ends_unread v w id reply outcome is fetch =
-      by_outcome outcome (record { between = w; reply = reply; fetch = fetch; goes_on = inl refl })
+      by_outcome outcome (record { between = w; reply = reply; fetch = fetch; stops = inl refl })
       (λ o there. record { between = w; reply = reply; fetch = fetch; goes_on = unread id reply fetch o (sym is ∙ there) })
 
   -- a crash that was fetched, and of which memory was wanting for the row
   pub ends_unmade : (v w : Knows A B) (id : List ℕ) (reply : Reply) → Fetches desk command_of v id reply w → Ends v id None w
-  ends_unmade v w id reply fetch = record { between = w; reply = reply; fetch = fetch; goes_on = inl refl }
+  ends_unmade v w id reply fetch = record { between = w; reply = reply; fetch = fetch; stops = inl refl }
 
   -- a crash that was fetched and finished
   pub ends_finished : (v u w : Knows A B) (id : List ℕ) (raw : RawCrash) (fetched : Reply) (reply : Reply) (crash : Crash) (outcome : Option Outcome) → fetched ≡ R.Fetched (Some raw) → crash ≡ crash_of raw → outcome ≡ finished_as reply
@@ -128,18 +128,18 @@ module _ {T A B : Type 0} (desk : Shared T A B) (command_of : A → Command) (de
   ends_finished v u w id raw fetched reply crash outcome is same ended fetch finish =
       let fetch' : Fetches desk command_of v id (R.Fetched (Some raw)) u = subst (λ r. Fetches desk command_of v id r u) is fetch in
       let finish' : Finishes desk command_of u (crash_of raw) reply w = subst (λ c. Finishes desk command_of u c reply w) same finish in
-      by_outcome outcome (record { between = u; reply = R.Fetched (Some raw); fetch = fetch'; goes_on = inr (crash_of raw, reply, finish') })
+      by_outcome outcome (record { between = u; reply = R.Fetched (Some raw); fetch = fetch'; stops = inr (raw, refl, reply, finish') })
       (λ o there. record { between = u; reply = R.Fetched (Some raw); fetch = fetch'; goes_on = (reply, finish', finished (crash_of raw) reply finish' o (sym ended ∙ there)) })
 
   pub behind_fetch : (id : List ℕ) (outcome : Outcome) {v : Knows A B} (reply : Reply) (u : Knows A B) (fetch : Fetches desk command_of v id reply u) (w : Knows A B) → GoesOn desk command_of id outcome reply u fetch w
-      → (w ≡ u) ⊎ ((crash : Crash) × (answer : Reply) × Finishes desk command_of u crash answer w)
-  behind_fetch id outcome (R.Fetched (Some raw)) u fetch w goes = inr (crash_of raw, goes.0, goes.1)
+      → StopsBehind desk command_of reply u w
+  behind_fetch id outcome (R.Fetched (Some raw)) u fetch w goes = inr (raw, refl, goes.0, goes.1)
   behind_fetch id outcome (R.Fetched None) u fetch w goes = inl goes.0
   behind_fetch id outcome _ u fetch w goes = inl goes.0
 
   -- a crash whose end couldn't be noted
   pub ends_unnoted : (v w : Knows A B) (id : List ℕ) (outcome : Outcome) → WorksOn desk command_of v id outcome w → LeavesOff desk command_of v id w
-  ends_unnoted v w id outcome works = record { between = works.between; reply = works.reply; fetch = works.fetch; goes_on = behind_fetch id outcome works.reply works.between works.fetch w works.goes_on }
+  ends_unnoted v w id outcome works = record { between = works.between; reply = works.reply; fetch = works.fetch; stops = behind_fetch id outcome works.reply works.between works.fetch w works.goes_on }
 
   -- ---- what may be finished
 

@@ -1,6 +1,7 @@
 -- What a processor does with the crashes that it takes: of each, one fetch in a turn of its seat, and where that gave a raw crash, one finish of it.
 use Rattle.std.specs.Prelude.{◌≡◌, ◌⊎◌, ℕ, Bool, true, false, List, [], ◌∷◌, ◌++◌, Option, None, Some, if◌then◌else◌, ⊤}
 use Rattle.soc_raw.specs.Record.{Crash}
+use Rattle.soc_raw.specs.declared.raw_crash.RawCrash.{RawCrash}
 use Rattle.soc_raw.specs.RawCrash.{crash_of}
 use Rattle.soc_schema.specs.Reports.{Report}
 use Rattle.soc_hall.specs.Asked.{sees}
@@ -80,12 +81,16 @@ module _ {T A B : Type 0} (desk : Shared T A B) (command_of : A → Command) whe
     pub fetch : Fetches v id reply between
     pub goes_on : GoesOn id outcome reply between fetch w
 
-  -- the turns for a crash where memory was wanting: the fetch, and maybe a finish
+  -- behind the fetch where memory was wanting: no turn, or one finish of the crash that it gave
+  abbrev pub StopsBehind : Reply → Knows A B → Knows A B → Type 0
+  StopsBehind reply u w = (w ≡ u) ⊎ ((raw : RawCrash) × (reply ≡ R.Fetched (Some raw)) × (answer : Reply) × Finishes u (crash_of raw) answer w)
+
+  -- the turns for a crash where memory was wanting
   pub record LeavesOff (v : Knows A B) (id : List ℕ) (w : Knows A B) : Type 0 where
     pub between : Knows A B
     pub reply : Reply
     pub fetch : Fetches v id reply between
-    pub goes_on : (w ≡ between) ⊎ ((crash : Crash) × (reply : Reply) × Finishes between crash reply w)
+    pub stops : StopsBehind reply between w
 
 -- ---- all crashes
 

@@ -296,7 +296,7 @@ returns-clause-jobs g c =
     let rest = more.2 in
     let processed : length more.0 ≡ c.args.setting.crew.processors = omega arith in
     let many : vec_len c.processors-processing.result ≡ c.args.setting.crew.processors = omega arith in
-    shared _ _ (passes_in c.leave_collectors-served.new.passes) more.0 _ _ _ (c.push.ensures.pushed ∙ ap (λ l. l ++ _ ∷ []) more.1) collected processed
+    shared _ _ (passes_in c.leave_collectors-served.new.passes) more.0 _ _ _ (c.push.ensures.pushed ∙ ap (λ l. l ++ c.work-collecting.result.2 ∷ []) more.1) collected processed
     (All-weaker (λ q. IsPassOf jobs q × OnlyPuts (seen_of q)) (λ q. OnlyPuts (seen_of q)) (λ q both. both.1) _ c.leave_collectors-served.ensures.passes.0)
     (All-weaker (λ q. IsPassOf jobs q × OnlyTakes (seen_of q)) (λ q. OnlyTakes (seen_of q)) (λ q both. both.1) _ more.3)
     (subst (λ n. PutsEnds n 0 (seen_of c.args.own) (seen_of c.work-collecting.result.2)) many c.work-collecting.ensures.own.1)

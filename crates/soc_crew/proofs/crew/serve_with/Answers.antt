@@ -1,12 +1,11 @@
-use Rattle.std.proofs.Common.{◌≡◌, ◌<◌, length, sym, ◌∙◌, ap, subst, arith}
+use Rattle.std.proofs.Common.{◌≡◌, ◌<◌, length, sym, ◌∙◌, ap, subst, arith, rules}
 use Rattle.std.specs.Prelude.{vec_len}
 use Rattle.std.proofs.Math.Logic.{∥∥₁_map}
 use Rattle.soc_hall.specs.Seats.{seats_in}
 use Rattle.soc_pool.specs.Passes.{IsPassOf}
 use Rattle.soc_pool.proofs.Rolls.{all_stay, roll_stays}
 use Rattle.soc_crew.specs.Gains.{Ends}
-use Rattle.soc_crew.specs.Jobs.{PutsEnds, Shares}
-use Rattle.soc_crew.proofs.Passes.{started}
+use Rattle.soc_crew.proofs.Passes.{started_with}
 use Rattle.soc_crew.proofs.Seats.{closed, stays_as}
 use Rattle.soc_crew.proofs.crew.serve_with.Goals as goal
 
@@ -31,14 +30,14 @@ returns-in-Err-clause-ends g c =
     g.T.Logged.log_of g.T.Logged.basis_of _ (ap (λ t. t.kept) c.unserved-in-Err.ensures.3) ∣₁
 
 pub serve_in-served-requires-clause-lists : goal.serve_in-served-requires-clause-lists
-serve_in-served-requires-clause-lists g c =
+serve_in-served-requires-clause-lists g c κs within =
     let collecting = c.in-Ok-with_capacity.ensures in
     let processing = c.in-Ok-with_capacity-2.ensures in
     let buffers = c.in-Ok.ensures.buffers in
     (search rules, omega arith, search rules, omega arith)
 
 pub serve_in-served-requires-clause-count : goal.serve_in-served-requires-clause-count
-serve_in-served-requires-clause-count g c =
+serve_in-served-requires-clause-count g c κs within =
     let buffers = c.in-Ok.ensures.buffers in
     let passes = c.in-Ok.ensures.passes.1 in
     let roll = c.in-Ok.ensures.roll.2 in
@@ -46,7 +45,7 @@ serve_in-served-requires-clause-count g c =
     (omega arith, omega arith, omega arith, omega arith)
 
 pub serve_in-served-requires-clause-ticket : goal.serve_in-served-requires-clause-ticket
-serve_in-served-requires-clause-ticket g c =
+serve_in-served-requires-clause-ticket g c κs within =
     let buffers = c.in-Ok.ensures.buffers in
     let parts = c.open-door.ensures.parts in
     let handed = c.requires.handed in
@@ -102,8 +101,5 @@ returns-clause-ends g c =
 
 pub returns-clause-jobs : goal.returns-clause-jobs
 returns-clause-jobs g c =
-    let buffers : vec_len c.in-Ok.stock.buffers ≡ c.args.setting.crew.collectors = c.in-Ok.ensures.buffers in
-    let shares = c.serve_in-served.ensures.jobs in
-    started _ c.in-Ok.stock.own _ _ _ _ c.in-Ok.ensures.own.1 c.put_due-own.ensures.due
-    (subst (λ n. Shares (PutsEnds c.args.setting.crew.processors 0 _) n c.args.setting.crew.processors _) buffers
-    (subst (λ l. Shares (PutsEnds c.args.setting.crew.processors 0 _) (vec_len c.in-Ok.stock.buffers) c.args.setting.crew.processors l) (sym c.close-jobs.ensures) shares))
+    started_with _ c.in-Ok.stock.own _ _ _ _ _ _ c.in-Ok.ensures.own.1 c.put_due-own.ensures.due c.in-Ok.ensures.buffers
+    c.close-jobs.ensures c.serve_in-served.ensures.jobs

@@ -1,4 +1,5 @@
 use Rattle.std.proofs.Common.{refl, ap, ◌≡◌, IfSome, sym, subst}
+use Rattle.soc_pool.specs.Passes.{seen_of}
 use Rattle.soc_service.specs.Works.{last_job}
 use Rattle.soc_service.proofs.Turned.{by_worker, turned_more, turned_none}
 use Rattle.soc_crew.proofs.Passes.{took_end, took_more, took_nothing}
@@ -20,7 +21,7 @@ returns-in-Ended-clause-seat g c = (
 pub returns-in-Ended-clause-pass : goal.returns-in-Ended-clause-pass
 returns-in-Ended-clause-pass g c = (
   c.worker-end.ensures.pass,
-  took_end c.args.pass _ _ _ _ (ap last_job c.in-Ended.is) c.requires.pass.1 c.loop.invariant.took c.worker-end.ensures.taken c.worker-end.ensures.puts_none.1,
+  took_end c.args.pass (seen_of c.loop.pass) (seen_of c.worker-end.result.pass) _ _ (ap last_job c.in-Ended.is) c.requires.pass.1 c.loop.invariant.took c.worker-end.ensures.taken c.worker-end.ensures.puts_none.1,
 )
 
 pub loop-preserved : goal.loop-preserved
