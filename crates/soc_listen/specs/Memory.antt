@@ -1,9 +1,9 @@
 -- What connections and listeners in memory are, as contracts see them.
-use Rattle.std.specs.Prelude.{ℕ, Bool, false, List, [], map, Some}
+use Rattle.std.specs.Prelude.{◌≡◌, refl, ℕ, if◌then◌else◌, Bool, true, false, List, [], map, Some}
 use Rattle.soc_edge.specs.Calls.{Calls, no_calls}
 use Rattle.soc_edge.specs.Memory.{InputState, OutputState, source_told, sink_told}
 use Rattle.soc_edge.specs.Told.{Told, joined}
-use Rattle.soc_listen.specs.Told.{ListenerTold}
+use Rattle.soc_listen.specs.Told.{ListenerTold, NoneLeft}
 
 -- a connection: what it reads and what it has written
 pub record LinkState : Type 0 where
@@ -31,9 +31,12 @@ abbrev pub listener_told : ListenerState → ListenerTold
 listener_told listener = record {
   handed = listener.handed;
   ended = listener.ended;
-  left = Some (map link_told listener.left);
+  left = Some (if listener.ended then [] else map link_told listener.left);
   faults = listener.calls.failed;
 }
+
+pub none_left : (listener : ListenerState) → listener.ended ≡ true → NoneLeft (listener_told listener)
+none_left listener over = rw over refl
 
 -- a listener with one connection for each script
 abbrev pub fresh_listener : ℕ → List (List ℕ) → List ℕ → ListenerState

@@ -20,6 +20,10 @@ conn_and conn left = option_map (λ more. conn ∷ more) left
 abbrev pub NoneLeft : ListenerTold → Type 0
 NoneLeft told = IfSome told.left (λ left. left ≡ [])
 
+-- no further connection comes, and none is left
+abbrev pub HasEnded : ListenerTold → Type 0
+HasEnded told = (told.ended ≡ true) × NoneLeft told
+
 -- it hadn't ended, and hasn't now
 pub record StaysOpen (before after : ListenerTold) : Type 0 where
   pub was_open : before.ended ≡ false

@@ -1,6 +1,6 @@
 //! Where connections come from.
-ghost use Rattle.std.specs.Prelude.{OnErr, IfOk, MatchOption};
-ghost use Rattle.soc_listen.specs.Told.{ListenerTold, HandsOver, Ends, AcceptFailed};
+ghost use Rattle.std.specs.Prelude.{◌≡◌, true, OnErr, IfOk, MatchOption};
+ghost use Rattle.soc_listen.specs.Told.{ListenerTold, HandsOver, Ends, AcceptFailed, NoneLeft};
 
 use crate::Conn;
 use soc_edge::Failed;
@@ -21,6 +21,9 @@ pub trait Listener: Send {
             (Ends (told self.old) (told self.new))
             (λ c. HandsOver (told self.old) (told self.new) (Self.Conn.told c))) }
         ensures fails { OnErr result (AcceptFailed (told self.old) (told self.new)) };
+
+    /// Once it has ended it has no connection left.
+    ghost spent: { (listener : Self) → (told listener).ended ≡ true → NoneLeft (told listener) };
 }
 
 /// A listener that is lent hands out the same connections.
@@ -28,6 +31,8 @@ impl<L: Listener> Listener for &mut L {
     type Conn = L::Conn;
 
     ghost told = { λ l. L.told l.now };
+
+    ghost spent = { λ l. L.spent l.now };
 
     fn accept(&mut self) -> Result<Option<L::Conn>, Failed> {
         (**self).accept()

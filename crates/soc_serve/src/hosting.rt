@@ -4,6 +4,7 @@ ghost use Rattle.soc_collect.specs.Tallies.{nothing_served};
 ghost use Rattle.soc_edge.specs.Faults.{Rose};
 ghost use Rattle.soc_edge.specs.Tree.{TreeFailed};
 ghost use Rattle.soc_edge.specs.World.{StaysStill};
+ghost use Rattle.soc_listen.specs.Told.{HasEnded};
 ghost use Rattle.soc_replay.specs.Files.{files_say};
 ghost use Rattle.soc_replay.specs.inner.Replay.{IsFilesFault};
 ghost use Rattle.soc_words.specs.Words.{words_of};
@@ -72,7 +73,7 @@ pub fn run_hall<
         (told world.new) end }
     ensures handed { (L.told result.1).handed ≡ (L.told listener).handed + served.new.connections }
     ensures over { IsServe (words_of (map string_bytes words.now)) → result.0 ≡ 0
-        → (served.new.stopped ≡ true) ⊎ ((L.told result.1).ended ≡ true) }
+        → (served.new.stopped ≡ true) ⊎ HasEnded (L.told result.1) }
     ensures apart { ¬ (IsServe (words_of (map string_bytes words.now)))
         → (served.new ≡ nothing_served) × (result.1 ≡ listener) }
     ensures hosts_on { let told = ⟦<World<T, K, D, C, W, P> as TellsAll>⟧.told in

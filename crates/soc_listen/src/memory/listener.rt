@@ -1,7 +1,7 @@
 //! A listener in memory.
 ghost use Rattle.std.specs.Prelude.{◌≡◌, ◌↔◌, ◌&&◌, [], ◌∷◌, not, IfOk, OnErr, IsErr, IsTrue, MatchOption};
 ghost use Rattle.soc_edge.specs.Calls.{is_due, after_call};
-ghost use Rattle.soc_listen.specs.Memory.{link_told, listener_told, fresh_listener};
+ghost use Rattle.soc_listen.specs.Memory.{link_told, listener_told, fresh_listener, none_left};
 ghost use Rattle.soc_listen.specs.Told.{HandsOver, Ends, AcceptFailed};
 
 use super::conn::{MemConn, Written};
@@ -83,6 +83,8 @@ impl Listener for MemListener {
     type Conn = MemConn;
 
     ghost told = { listener_told };
+
+    ghost spent = { none_left };
 
     fn accept(&mut self) -> Result<Option<MemConn>, Failed>
         ensures gives { IfOk result (λ conn. MatchOption conn

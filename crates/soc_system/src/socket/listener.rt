@@ -52,6 +52,8 @@ impl<'a, R: Net<Listener = TcpListener, Stream = TcpStream> + Clock + Eprint + S
           l.faults.count;
     } };
 
+    ghost spent = { λ _ _. tt };
+
     fn accept(&mut self) -> Result<Option<SocketConn<'a, R>>, Failed> {
         if self.has_ended || self.handed == u64::MAX {
             self.has_ended = true;

@@ -1,4 +1,4 @@
-use Rattle.std.proofs.Common.{Err, ap, ◌∙◌, inr, refl, sym}
+use Rattle.std.proofs.Common.{Err, ap, ◌∙◌, inl, inr, refl, sym}
 use Rattle.soc_edge.proofs.Disks.{Looks-none}
 use Rattle.soc_serve.specs.declared.ending.HostEnd.TheVariants as H
 use Rattle.soc_replay.specs.declared.ending.RunEnd.TheVariants as R
@@ -10,7 +10,9 @@ returns-in-Serve-clause-hosts g c =
     (c.host-end.result.0, c.status.ensures, hosts_words _ c.in-Ok.words _ _ _ c.host-end.result.0 c.in-Ok.ensures.ok c.in-Serve.is c.host-end.ensures.hosts)
 
 pub returns-in-Serve-clause-over : goal.returns-in-Serve-clause-over
-returns-in-Serve-clause-over g c serve is = c.host-end.ensures.over (sym c.status.ensures ∙ is)
+returns-in-Serve-clause-over g c serve is =
+    let spent = (g.met.L.Listener g.world.𝓛 g.world.𝓜 g.world.𝓡 ((λ s x. x), (λ x. x), (λ x. x), λ x. x)).spent c.host-end.result.1 in
+    elim c.host-end.ensures.over (sym c.status.ensures ∙ is) [ inl stopped ↦ inl stopped | inr ended ↦ inr (ended, spent ended) ]
 
 pub returns-in-Serve-clause-apart : goal.returns-in-Serve-clause-apart
 returns-in-Serve-clause-apart g c other = absurd (other (is_serve _ c.in-Ok.words c.in-Ok.ensures.ok c.in-Serve.is))
