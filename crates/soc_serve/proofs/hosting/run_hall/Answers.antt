@@ -12,7 +12,7 @@ returns-in-Serve-clause-hosts g c =
 pub returns-in-Serve-clause-over : goal.returns-in-Serve-clause-over
 returns-in-Serve-clause-over g c serve is =
     let spent = (g.met.L.Listener g.world.𝓛 g.world.𝓜 g.world.𝓡 ((λ s x. x), (λ x. x), (λ x. x), λ x. x)).spent c.host-end.result.1 in
-    elim c.host-end.ensures.over (sym c.status.ensures ∙ is) [ inl stopped ↦ inl stopped | inr ended ↦ inr (ended, spent ended) ]
+    elim (c.host-end.ensures.over (sym c.status.ensures ∙ is)) [ inl stopped ↦ inl stopped | inr ended ↦ inr (ended, spent ended) ]
 
 pub returns-in-Serve-clause-apart : goal.returns-in-Serve-clause-apart
 returns-in-Serve-clause-apart g c other = absurd (other (is_serve _ c.in-Ok.words c.in-Ok.ensures.ok c.in-Serve.is))
