@@ -7,7 +7,8 @@ use soc_book::Restored;
 use soc_collect::Tally;
 use soc_crew::*;
 use soc_desk::Limits;
-use soc_edge::{BytesList, Ids16, MemClock, MemDisk, MemDraws, Numbers};
+use soc_edge::{BytesList, Disk, Ids16, MemClock, MemDisk, MemDraws, Numbers};
+use soc_hall::Logged;
 use soc_http::Routes;
 use soc_listen::{MemConn, MemListener};
 use soc_schema::{Bare, Products, Tokens};
@@ -34,6 +35,16 @@ products = "all"
 permissions = ["operate"]
 "#;
 
+// The journal of one crash of Firefox, which is deferred.
+const JOURNAL: &[u8] =
+    b"SOCJ0002\x01A\x64\x00\x00\x00de1bb258-cbbf-4589-a673-34f801160918\x00\xd9\xddW\x00\x00\x00\x00\x00\x00\x00\x00\x00\x00\x00\x00\x0a\x00\x00\x00accept_all\x01\x00\x00\x00\x0b\x00\x00\x00ProductName\x07\x00\x00\x00Firefox\x00\x00\x00\x00\x00";
+
+const READ: &[u8] =
+    b"GET /api/RawCrash/?crash_id=de1bb258-cbbf-4589-a673-34f801160918 HTTP/1.1\r\nHost: h\r\n\r\n";
+
+const READ_REPLY: &[u8] =
+    b"HTTP/1.1 200 OK\r\nContent-Type: application/json\r\nContent-Length: 25\r\n\r\n{\"ProductName\":\"Firefox\"}";
+
 const NO_ROUTE: &[u8] = b"GET / HTTP/1.1\r\nHost: h\r\n\r\n";
 
 const STOP: &[u8] =
@@ -56,7 +67,7 @@ fn listener(alloc: Global, scripts: &[&[u8]], fails: &[u64]) -> Result<MemListen
         list.push(Bytes::of(alloc, script)?)?;
     }
     let fails = Numbers::new(fails.to_vec(alloc)?);
-    MemListener::new(alloc, BytesList::new(list), 4096, fails)
+    MemListener::new(alloc, BytesList::new(list), 16_384, fails)
 }
 
 // What the messages of a crew are answered by.
@@ -77,12 +88,21 @@ fn draws(alloc: Global) -> Result<MemDraws, Fail> {
     ))
 }
 
-// What a crew has served, and whether its listener failed.
+// A disk that holds this journal, or nothing.
+fn disk_of(alloc: Global, journal: &[u8]) -> Result<MemDisk, Fail> {
+    let mut disk = MemDisk::new(alloc, 4000, 1000, Numbers::new(Vec::new(alloc)))?;
+    disk.write_at(0, journal)?;
+    disk.sync()?;
+    Ok(disk)
+}
+
+// What a crew has served, whether its listener failed, and the length of the log that it left.
 #[derive(Drop)]
 struct Served {
     served: Tally<MemConn>,
     listener: MemListener,
     failed: bool,
+    front: u64,
 }
 
 // What such a crew goes by.
@@ -106,6 +126,7 @@ fn served_by<R: Threads + Wait + Sync>(
     alloc: Global,
     crew: Crew,
     listener: MemListener,
+    journal: &[u8],
 ) -> Result<Served, Fail>
     requires collectors { (0 < crew.collectors) × (crew.collectors ≤ 8) }
     requires processors { (0 < crew.processors) × (crew.processors ≤ 8) }
@@ -116,7 +137,7 @@ fn served_by<R: Threads + Wait + Sync>(
     };
     let mut clock = clock(alloc)?;
     let mut draws = draws(alloc)?;
-    let mut disk = MemDisk::new(alloc, 4000, 1000, Numbers::new(Vec::new(alloc)))?;
+    let mut disk = disk_of(alloc, journal)?;
     let opened = Snapshot::of(&disk);
     let Ok(restored) = Restored::read(alloc, &mut disk, &Bare, LIMITS) else {
         return Err(Fail::from("the journal wasn't opened"));
@@ -124,7 +145,7 @@ fn served_by<R: Threads + Wait + Sync>(
     let book = SharedBook::over(alloc, &mut disk, &Bare, LIMITS, restored, opened);
     let setting = setting_of(alloc, crew, &around);
     let CrewEnd {
-        desk: _book,
+        desk: book,
         listener,
         failed,
         served,
@@ -134,6 +155,7 @@ fn served_by<R: Threads + Wait + Sync>(
         served,
         listener,
         failed: failed?,
+        front: book.front(),
     })
 }
 
@@ -158,7 +180,7 @@ fn a_stop_ends_the_crew(rt: HostRuntime) -> Result<(), Fail> {
         processors: 2,
     };
     let asked = listener(rt.alloc(), &[NO_ROUTE, STOP], &[])?;
-    let end = served_by(&rt, rt.alloc(), two, asked)?;
+    let end = served_by(&rt, rt.alloc(), two, asked, b"")?;
     expect_served(&rt, &end.served, (2, 1, true));
     expect_second(&rt, &end, b"stopping\n");
     Ok(())
@@ -171,7 +193,7 @@ fn the_largest_crew_serves_each_connection_once(rt: HostRuntime) -> Result<(), F
         processors: 8,
     };
     let many = listener(rt.alloc(), &[NO_ROUTE; 40], &[])?;
-    let end = served_by(&rt, rt.alloc(), most, many)?;
+    let end = served_by(&rt, rt.alloc(), most, many, b"")?;
     expect_served(&rt, &end.served, (40, 0, false));
     holds(&rt, !end.failed);
     Ok(())
@@ -184,8 +206,28 @@ fn a_failed_listener_is_told(rt: HostRuntime) -> Result<(), Fail> {
         processors: 1,
     };
     let failing = listener(rt.alloc(), &[NO_ROUTE], &[0])?;
-    let end = served_by(&rt, rt.alloc(), one, failing)?;
+    let end = served_by(&rt, rt.alloc(), one, failing, b"")?;
     expect_served(&rt, &end.served, (0, 0, false));
     holds(&rt, end.failed);
+    Ok(())
+}
+
+#[test]
+fn threads_that_read_leave_the_log_as_it_was(rt: HostRuntime) -> Result<(), Fail> {
+    let alloc = rt.alloc();
+    let four = Crew {
+        collectors: 4,
+        processors: 1,
+    };
+    let reads = READ.repeat(alloc, 100)?;
+    let replies = READ_REPLY.repeat(alloc, 100)?;
+    let asked = listener(alloc, &[reads.as_slice(); 4], &[])?;
+    let end = served_by(&rt, alloc, four, asked, JOURNAL)?;
+    expect_served(&rt, &end.served, (4, 0, false));
+    same(&rt, end.front, 1);
+    for number in 0..4usize {
+        let written = end.listener.written(number);
+        holds(&rt, written.is_some_and(|text| text == replies.as_slice()));
+    }
     Ok(())
 }

@@ -20,6 +20,9 @@ use std::rt::Files;
 /// The mode of a file that is made: nobody else reads or writes it.
 const PRIVATE: u32 = 0o600;
 
+/// The rights of others than its user.
+const OTHERS: u32 = 0o077;
+
 /// A locked file. Once a sync has failed, each later one fails too: the system may count pages as written that it could
 /// not write, and then a later sync succeeds without them.
 #[derive(Drop)]
@@ -30,8 +33,8 @@ pub(crate) struct FileDisk {
 
 impl FileDisk {
     /// Opens a regular file, or makes an empty one that nobody else may read, and locks it, so that no other process opens
-    /// it beside this one (`WouldBlock`). File and folder are synced, and cached pages are dropped, so that reads give what
-    /// is on the disk. The folder of a file that was there before may refuse that.
+    /// it beside this one (`WouldBlock`). The file is synced, and its cached pages are dropped, so that reads give what is
+    /// on the disk. The folder is synced while the file is empty, so before anything is written, and not later.
     pub(crate) fn open<R: Files<File = File> + Eprint>(rt: &R, path: &str) -> io::Result<FileDisk> {
         let (file, is_made) = open_or_make(rt, path)?;
         let metadata = file.metadata()?;
@@ -40,13 +43,8 @@ impl FileDisk {
         }
         lock(rt, &file, path)?;
         settle(&file)?;
-        match File::open(rt, folder_of(path)).and_then(|folder| folder.sync_all()) {
-            Err(error) if is_made => return Err(error),
-            Err(error) => tell(
-                rt,
-                format_args!("socorro: {path}: its folder can't be synced: {error}"),
-            ),
-            Ok(()) => {}
+        if metadata.len() == 0 {
+            sync_folder(rt, path)?;
         }
         warn(rt, path, is_made, metadata.len(), metadata.permissions());
         Ok(FileDisk {
@@ -101,7 +99,19 @@ fn lock<R: Eprint>(rt: &R, file: &File, path: &str) -> io::Result<()> {
     Ok(answer?)
 }
 
-/// Tells of a file that was made, is empty, or may be read by others.
+/// Syncs the folder of a file, or tells why that can't be done.
+fn sync_folder<R: Files<File = File> + Eprint>(rt: &R, path: &str) -> io::Result<()> {
+    let answer = File::open(rt, folder_of(path)).and_then(|folder| folder.sync_all());
+    if let Err(error) = &answer {
+        tell(
+            rt,
+            format_args!("socorro: {path}: its folder can't be synced: {error}"),
+        );
+    }
+    answer
+}
+
+/// Tells of a file that was made, is empty, or may be read or written by others.
 fn warn<R: Eprint>(rt: &R, path: &str, is_made: bool, length: u64, permissions: Permissions) {
     let mode = permissions.mode() & 0o777;
     if is_made {
@@ -115,11 +125,11 @@ fn warn<R: Eprint>(rt: &R, path: &str, is_made: bool, length: u64, permissions: 
             format_args!("socorro: {path}: the file was empty, so it begins as an empty journal"),
         );
     }
-    if mode & !PRIVATE != 0 {
+    if mode & OTHERS != 0 {
         tell(
             rt,
             format_args!(
-                "socorro: {path}: others may read it (mode {mode:o}); chmod 600 makes it private"
+                "socorro: {path}: others may read or write it (mode {mode:o}); chmod 600 makes it private"
             ),
         );
     }
