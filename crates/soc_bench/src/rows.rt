@@ -32,6 +32,16 @@ pub fn made_row(alloc: Global, number: u64) -> Result<Row, Fault> {
     Ok(row)
 }
 
+/// A row like the first one. Rows of different numbers have different ids.
+pub fn alike_row(alloc: Global, number: u64) -> Result<Row, Fault> {
+    let mut row = made_row(alloc, 0)?;
+    row.set(
+        Field::UUID,
+        Value::text(alloc, made_id(alloc, number)?.as_str())?,
+    )?;
+    Ok(row)
+}
+
 /// One of 50,000 numbers.
 fn made_number(number: u64) -> u64 {
     number.wrapping_mul(2_654_435_761) % 50_000

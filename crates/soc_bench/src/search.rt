@@ -1,14 +1,14 @@
-//! Made rows of 36 fields put into a store, and the queries of a search page answered over them.
+//! Made rows of 36 fields put into a store, and queries answered over them: those of a search page, and the dearest ones.
 ghost use Rattle.std.specs.Prelude.{◌≡◌, ◌<◌, ◌≤◌};
 
 use crate::fault::Fault;
 use crate::harness::{Work, time};
 use crate::numbers::number_up_to;
-use crate::rows::made_row;
+use crate::rows::{alike_row, made_row};
 use soc_base::{Pairs, Text};
 use soc_edge::Steps;
 use soc_query::Query;
-use soc_schema::{Caller, Permissions, Products, Row};
+use soc_schema::{Caller, Field, Permissions, Products, Row, granted};
 use soc_search::answer_of;
 use soc_store::Store;
 use std::alloc::Global;
@@ -22,6 +22,9 @@ const MOST_ROWS: u64 = 1_048_576;
 /// How many rows are made at once, and then put.
 const ROWS_AT_ONCE: u64 = 1024;
 
+/// As many pairs as a query may have.
+const MOST_PAIRS: u64 = 128;
+
 /// A query: what it is called, and its pairs.
 struct Asked {
     name: &'static str,
@@ -29,7 +32,7 @@ struct Asked {
 }
 
 /// The queries of a search page.
-const QUERIES: [Asked; 6] = [
+const QUERIES: [Asked; 9] = [
     Asked {
         name: "facet on signature",
         pairs: &[("_facets", "signature"), ("_results_number", "0")],
@@ -53,6 +56,22 @@ const QUERIES: [Asked; 6] = [
     Asked {
         name: "signature=~77",
         pairs: &[("signature", "~77")],
+    },
+    Asked {
+        name: "date, one day of 28",
+        pairs: &[("date", ">=2026-11-05"), ("date", "<2026-11-06")],
+    },
+    Asked {
+        name: "uuid=, and another condition on it",
+        pairs: &[
+            ("uuid", "538453d7-0000-4000-8000-000000160918"),
+            ("proto_signature", "!~z"),
+            ("signature", "~1"),
+        ],
+    },
+    Asked {
+        name: "sort by product, one hit",
+        pairs: &[("_sort", "product"), ("_results_number", "1")],
     },
     Asked {
         name: "all",
@@ -82,19 +101,50 @@ pub fn run<R: CpuClock + Print + Eprint + AllocGlobal>(
         return Err(Fault::Words);
     };
     let count = number_up_to(count, MOST_ROWS)?;
-    let mut store = Store::new(rt.alloc());
-    fill(rt, &mut store, count)?;
+    let alloc = rt.alloc();
+    let mut store = Store::new(alloc);
+    fill(rt, &mut store, count, false)?;
     for asked in &QUERIES {
-        time_query(rt, &store, asked)?;
+        let query = query_of(alloc, asked.pairs)?;
+        time_query(rt, &store, asked.name, &query)?;
     }
-    Ok(())
+    time_query(rt, &store, "128 times uuid=!~", &many_conditions(alloc)?)?;
+    time_query(rt, &store, "28 facets", &each_field(alloc, "_facets")?)?;
+    let sorts = each_field(alloc, "_sort")?;
+    time_query(rt, &store, "28 sorts", &sorts)?;
+    let mut alike = Store::new(alloc);
+    fill(rt, &mut alike, count, true)?;
+    time_query(rt, &alike, "28 sorts, rows alike", &sorts)
 }
 
-/// Puts rows, and says how long that took.
+/// A query with as many conditions as there may be, which all rows meet.
+fn many_conditions(alloc: Global) -> Result<Query, Fault> {
+    let mut pairs = Pairs::new(alloc);
+    for number in 0..MOST_PAIRS {
+        let value = format!(in alloc; "!~00{number:03}z")?;
+        pairs.push(Text::of(alloc, "uuid")?, Text::of(alloc, value.as_str())?)?;
+    }
+    Ok(Query::read(alloc, &pairs, anybody())?)
+}
+
+/// A query that asks for each field that anybody may see, in the way that the name says.
+fn each_field(alloc: Global, name: &str) -> Result<Query, Fault> {
+    let mut pairs = Pairs::new(alloc);
+    for place in 0..Field::COUNT {
+        let field = Field::at(place);
+        if granted(&anybody(), field) {
+            pairs.push(Text::of(alloc, name)?, Text::of(alloc, field.name())?)?;
+        }
+    }
+    Ok(Query::read(alloc, &pairs, anybody())?)
+}
+
+/// Puts rows, which are alike but for their ids or not, and says how long that took.
 fn fill<R: CpuClock + Print + Eprint + AllocGlobal>(
     rt: &R,
     store: &mut Store,
     count: u64,
+    alike: bool,
 ) -> Result<(), Fault>
     requires { count ≤ 1048576 }
 {
@@ -102,7 +152,7 @@ fn fill<R: CpuClock + Print + Eprint + AllocGlobal>(
     for part in 0..count / ROWS_AT_ONCE + 1 {
         let first = part * ROWS_AT_ONCE;
         let end = count.min(first + ROWS_AT_ONCE);
-        took = took.saturating_add(put_rows(rt, store, first, end)?);
+        took = took.saturating_add(put_rows(rt, store, first, end, alike)?);
     }
     let each = took.as_nanos() / u128::from(count.max(1));
     println!(rt; "search: {count} rows")?;
@@ -116,13 +166,18 @@ fn put_rows(
     store: &mut Store,
     first: u64,
     end: u64,
+    alike: bool,
 ) -> Result<Duration, Fault>
     requires { first ≤ 1048576 }
 {
     let alloc = rt.alloc();
     let mut rows: Vec<Row> = Vec::new(alloc);
     for number in first..end {
-        rows.push(made_row(alloc, number)?)?;
+        rows.push(if alike {
+            alike_row(alloc, number)?
+        } else {
+            made_row(alloc, number)?
+        })?;
     }
     let start = rt.process_cpu_time()?;
     let mut place = first as u32;
@@ -138,10 +193,10 @@ fn put_rows(
 fn time_query<R: CpuClock + Print + Eprint + AllocGlobal>(
     rt: &R,
     store: &Store,
-    asked: &Asked,
+    name: &str,
+    query: &Query,
 ) -> Result<(), Fault> {
-    let query = &query_of(rt.alloc(), asked.pairs)?;
-    time(rt, asked.name, "answers", 1, &mut Answers { store, query })
+    time(rt, name, "answers", 1, &mut Answers { store, query })
 }
 
 /// A query that asks for everything, with these pairs.
@@ -150,11 +205,15 @@ fn query_of(alloc: Global, list: &[(&str, &str)]) -> Result<Query, Fault> {
     for (name, value) in list {
         pairs.push(Text::of(alloc, name)?, Text::of(alloc, value)?)?;
     }
-    let caller = Caller {
+    Ok(Query::read(alloc, &pairs, anybody())?)
+}
+
+/// A caller without a token.
+fn anybody() -> Caller {
+    Caller {
         permissions: Permissions::public(),
         products: Products::All,
-    };
-    Ok(Query::read(alloc, &pairs, caller)?)
+    }
 }
 
 /// How many rows a query asks for.

@@ -2,15 +2,14 @@ pub mod AnswerLemmas
 pub mod AnswersSeen
 pub mod AnyOrderLemmas
 pub mod BitLemmas
-pub mod CandidateLemmas
 pub mod CountedLemmas
 pub mod FacetLemmas
+pub mod FieldLemmas
 pub mod GroupLemmas
 pub mod HitLemmas
 pub mod LeaderLemmas
 pub mod ListedLemmas
 pub mod OrderLemmas
-pub mod ProductLemmas
 pub mod RankLemmas
 pub mod RowLemmas
 pub mod RunLemmas

@@ -1,12 +1,13 @@
 -- The values that compare with an operand as is asked stand in one run.
-use Rattle.std.proofs.Common.{◌≡◌, ℕ, zero, suc, ◌+◌, ◌<◌, ◌≤◌, Bool, true, false, List, [], ◌∷◌, Some, length, get_or, refl, sym, ap, ◌∙◌, arith, subst, slice_get, nat_eq, ⊎_elim}
-use Rattle.std.specs.Prelude.{not, if◌then◌else◌}
-use Rattle.std.specs.List.{AllByRecursion, starts_with}
+use Rattle.std.proofs.Common.{◌≡◌, ℕ, zero, suc, ◌+◌, ◌<◌, ◌≤◌, Bool, true, false, List, [], ◌∷◌, None, Some, length, map, get_or, refl, sym, ap, ◌∙◌, arith, subst, slice_get, nat_eq, ⊎_elim, max, min}
+use denote.Ref.{Bor}
+use Rattle.std.specs.Prelude.{◌&&◌, not, if◌then◌else◌}
+use Rattle.std.specs.List.{list_all, starts_with}
 use Rattle.std.specs.Ordering.{nat_cmp, is_lt, is_eq, is_gt, ordering_then}
 use Rattle.std.specs.declared.cmp.Ordering.{Ordering}
 use Rattle.std.specs.declared.cmp.Ordering.TheVariants.{Less, Equal, Greater}
 use Rattle.std.specs.Cmp.Lexicographic.{slice_cmp}
-use Rattle.std.proofs.lemmas.Bool.{true≢false, eq-eqb, eqb-true, and_from, and_parts, cases_lt}
+use Rattle.std.proofs.lemmas.Bool.{true≢false, eq-eqb, eqb-true, and_from, and_parts, and_right, cases_lt}
 use Rattle.std.proofs.lemmas.Cmp.{nat_cmp_total, tied_itself}
 use Rattle.std.proofs.lemmas.Map.Lookups.{exact_bytes}
 use Rattle.std.proofs.lemmas.Option.{slice_get_within, slice_get-get_or}
@@ -19,9 +20,13 @@ use Rattle.soc_query.specs.declared.condition.Comparison.{Comparison}
 use Rattle.soc_query.specs.declared.condition.Comparison.TheVariants.{Equals, Below, AtMost, Above, AtLeast, Contains, Starts, Ends}
 use Rattle.soc_search.specs.declared.runs.Edge.{Edge}
 use Rattle.soc_search.specs.declared.runs.Edge.TheVariants.{First, End}
-use Rattle.soc_query.specs.Answers.{compares}
+use Rattle.soc_query.specs.declared.condition.Test.{Test}
+use Rattle.soc_query.specs.declared.condition.Test.TheVariants.{Compares}
+use Rattle.soc_query.specs.declared.condition.Condition.{Condition}
+use Rattle.soc_query.specs.Answers.{compares, is_equality, is_exact, passes}
 use Rattle.soc_schema.specs.Values.{text_in}
-use Rattle.soc_search.specs.inner.Runs.{IsFront, beside, comes_before, is_run, stands}
+use Rattle.soc_search.specs.inner.Runs.{IsFront, Misses, beside, comes_before, is_run, stands}
+use Rattle.soc_search.specs.inner.Selections.{are_met, is_met, one_is_met, stands_out}
 use Rattle.soc_schema.proofs.OrderLemmas.{value_exact, value_total}
 
 -- texts that begin with another
@@ -201,25 +206,25 @@ module _ (how : Comparison) (edge : Edge) (o : Value) (run : is_run how ≡ true
   there : (k : ℕ) (d : Value) → k ≡ m → get_or vs k d ≡ v
   there k d same = some_same (sym (slice_get-get_or vs k d (let within = slice_get_within vs m v at in omega (arith, same, within))) ∙ ap (slice_get vs) same ∙ at)
 
-  abbrev passes : Value → Bool
-  passes u = comes_before edge (stands how o u)
+  abbrev comes : Value → Bool
+  comes u = comes_before edge (stands how o u)
 
-  pub front_more : passes v ≡ true → (k : ℕ) (d : Value) → k < m + 1 → passes (get_or vs k d) ≡ true
+  pub front_more : comes v ≡ true → (k : ℕ) (d : Value) → k < m + 1 → comes (get_or vs k d) ≡ true
   front_more takes k d few =
       ⊎_elim
       (λ (lt : k < m). stands_kept how edge o (get_or vs k d) v run (subst (λ u. value_cmp (get_or vs k d) u ≡ Less) here (rising_less vs k m d v rises lt (slice_get_within vs m v at))) takes)
-      (λ (ge : m ≤ k). ap passes (there k d (omega arith)) ∙ takes)
+      (λ (ge : m ≤ k). ap comes (there k d (omega arith)) ∙ takes)
       (cases_lt k m)
 
-  pub front_less : passes v ≡ false → (k : ℕ) (d : Value) → m ≤ k → k < length vs → passes (get_or vs k d) ≡ false
+  pub front_less : comes v ≡ false → (k : ℕ) (d : Value) → m ≤ k → k < length vs → comes (get_or vs k d) ≡ false
   front_less leaves k d behind within =
       ⊎_elim
       (λ (lt : m < k).
-      elim (passes (get_or vs k d)) as (λ b. passes (get_or vs k d) ≡ b → b ≡ false) [
+      elim (comes (get_or vs k d)) as (λ b. comes (get_or vs k d) ≡ b → b ≡ false) [
         | true ↦ λ takes. absurd (true≢false (sym (stands_kept how edge o v (get_or vs k d) run (subst (λ u. value_cmp u (get_or vs k d) ≡ Less) here (rising_less vs m k v d rises lt within)) takes) ∙ leaves))
         | false ↦ λ _. refl
       ] refl)
-      (λ (ge : k ≤ m). ap passes (there k d (omega arith)) ∙ leaves)
+      (λ (ge : k ≤ m). ap comes (there k d (omega arith)) ∙ leaves)
       (cases_lt m k)
 
 -- the run between its edges
@@ -233,30 +238,48 @@ greater_out Less e = cc
 greater_out Equal e = cc
 greater_out Greater e = refl
 
-between_in : (r : Ordering) → comes_before First r ≡ false → comes_before End r ≡ true → is_eq r ≡ true
-between_in Less e h = cc
-between_in Equal e h = refl
-between_in Greater e h = cc
+-- outside of its run no value meets a condition
+missed : (n : Bool) (t : Test) (how : Comparison) (o v : Value) → t ≡ Compares how o → n ≡ false → is_run how ≡ true → compares how o v ≡ false → ((not n && is_equality t) ≡ false) × ((if n then not (passes t (Some v)) else passes t (Some v)) ≡ false)
+missed n t how o v is plain run out =
+    (ap (λ u. not n && is_equality u) is ∙ ap (λ b. not b && is_equality (Compares how o)) plain ∙ unequal how run, ap (λ b. if b then not (passes t (Some v)) else passes t (Some v)) plain ∙ ap (λ u. passes u (Some v)) is ∙ out)
+  where
+    unequal : (how : Comparison) → is_run how ≡ true → is_equality (Compares how o) ≡ false
+    unequal Equals run = cc
+    unequal Below run = refl
+    unequal AtMost run = refl
+    unequal Above run = refl
+    unequal AtLeast run = refl
+    unequal Contains run = cc
+    unequal Starts run = refl
+    unequal Ends run = cc
 
-not_both : (r : Ordering) → comes_before First r ≡ true → comes_before End r ≡ false → ⊥
-not_both Less e h = cc
-not_both Equal e h = cc
-not_both Greater e h = cc
+module _ (c : Condition) (how : Comparison) (o : Value) (is : c.test ≡ Compares how o) (plain : c.negated ≡ false) (run : is_run how ≡ true) (vs : List Value) (n : ℕ) where
+  pub misses_before : IsFront (λ v. comes_before First (stands how o v)) vs n → (k : ℕ) (d : Value) → k < n → Misses c (get_or vs k d)
+  misses_before begins k d lt = missed c.negated c.test how o (get_or vs k d) is plain run (in_run how o (get_or vs k d) run ∙ less_out (stands how o (get_or vs k d)) (begins.1 k d lt))
 
-module _ (how : Comparison) (o : Value) (run : is_run how ≡ true) (vs : List Value) (first end : ℕ)
-    (begins : IsFront (λ v. comes_before First (stands how o v)) vs first) (ends : IsFront (λ v. comes_before End (stands how o v)) vs end) where
-  pub run_order : first ≤ end
-  run_order =
-      ⊎_elim (λ (lt : end < first). let few = begins.0 in absurd (not_both (stands how o (get_or vs end (Flag true))) (begins.1 end (Flag true) lt) (ends.2 end (Flag true) (omega arith) (omega (arith, few)))))
-      (λ (le : first ≤ end). le) (cases_lt end first)
+  pub misses_behind : IsFront (λ v. comes_before End (stands how o v)) vs n → (k : ℕ) (d : Value) → n ≤ k → k < length vs → Misses c (get_or vs k d)
+  misses_behind ends k d le lt = missed c.negated c.test how o (get_or vs k d) is plain run (in_run how o (get_or vs k d) run ∙ greater_out (stands how o (get_or vs k d)) (ends.2 k d le lt))
 
-  pub run_before : (k : ℕ) (d : Value) → k < first → compares how o (get_or vs k d) ≡ false
-  run_before k d lt = in_run how o (get_or vs k d) run ∙ less_out (stands how o (get_or vs k d)) (begins.1 k d lt)
+all_out : (h : Condition → Bool) (cs : List (Bor Condition)) (i : ℕ) (c : Bor Condition) → i < length cs → get_or cs i c ≡ c → h c.now ≡ false → list_all h (map (λ (d : Bor Condition). d.now) cs) ≡ false
+all_out h [] i c within here out = absurd (omega arith)
+all_out h (d ∷ ds) zero c within here out = ap (λ b. b && list_all h (map (λ (e : Bor Condition). e.now) ds)) (ap (λ (e : Bor Condition). h e.now) here ∙ out)
+all_out h (d ∷ ds) (suc i) c within here out = ap (λ b. h d.now && b) (all_out h ds i c (omega arith) here out) ∙ and_right (h d.now) false refl
 
-  pub run_each : (k : ℕ) (d : Value) → first ≤ k → k < end → compares how o (get_or vs k d) ≡ true
-  run_each k d le lt =
-      let few = ends.0 in
-      in_run how o (get_or vs k d) run ∙ between_in (stands how o (get_or vs k d)) (begins.2 k d le (omega (arith, few))) (ends.1 k d lt)
+-- where rows without the field don't meet the conditions, a value that one of them misses doesn't stand out
+pub not_out : (asked : List (Bor Condition)) (i : ℕ) (c : Bor Condition) (v : Value) → i < length asked → get_or asked i c ≡ c → are_met (map (λ (d : Bor Condition). d.now) asked) None ≡ false → Misses c.now v → stands_out (map (λ (d : Bor Condition). d.now) asked) v ≡ false
+not_out asked i c v within here absent misses =
+    let cs : List Condition = map (λ (d : Bor Condition). d.now) asked in
+    ap (λ b. if b then not (are_met cs (Some v)) else are_met cs (Some v)) absent
+    ∙ all_out (λ d. if is_exact d then one_is_met cs (Some v) else is_met d (Some v)) asked i c within here (ap (λ b. if b then one_is_met cs (Some v) else is_met c.now (Some v)) misses.0 ∙ misses.1)
 
-  pub run_behind : (k : ℕ) (d : Value) → end ≤ k → k < length vs → compares how o (get_or vs k d) ≡ false
-  run_behind k d le lt = in_run how o (get_or vs k d) run ∙ greater_out (stands how o (get_or vs k d)) (ends.2 k d le lt)
+-- a run that one more condition narrows
+module _ (asked : List (Bor Condition)) (i : ℕ) (c : Bor Condition) (vs : List Value) (within : i < length asked) (here : get_or asked i c ≡ c) (absent : are_met (map (λ (d : Bor Condition). d.now) asked) None ≡ false) where
+  pub out_before : (a b n : ℕ) → n ≡ max a b → ((k : ℕ) (d : Value) → k < a → stands_out (map (λ (e : Bor Condition). e.now) asked) (get_or vs k d) ≡ false) → ((k : ℕ) (d : Value) → k < b → Misses c.now (get_or vs k d))
+      → (k : ℕ) (d : Value) → k < n → stands_out (map (λ (e : Bor Condition). e.now) asked) (get_or vs k d) ≡ false
+  out_before a b n is out misses k d lt =
+      ⊎_elim (λ (le : k < a). out k d le) (λ (ge : a ≤ k). not_out asked i c (get_or vs k d) within here absent (misses k d (omega (arith, is)))) (cases_lt k a)
+
+  pub out_behind : (a b n : ℕ) → n ≡ min a b → ((k : ℕ) (d : Value) → a ≤ k → k < length vs → stands_out (map (λ (e : Bor Condition). e.now) asked) (get_or vs k d) ≡ false) → ((k : ℕ) (d : Value) → b ≤ k → k < length vs → Misses c.now (get_or vs k d))
+      → (k : ℕ) (d : Value) → n ≤ k → k < length vs → stands_out (map (λ (e : Bor Condition). e.now) asked) (get_or vs k d) ≡ false
+  out_behind a b n is out misses k d le lt =
+      ⊎_elim (λ (under : k < a). not_out asked i c (get_or vs k d) within here absent (misses k d (omega (arith, is)) lt)) (λ (ge : a ≤ k). out k d ge lt) (cases_lt k a)

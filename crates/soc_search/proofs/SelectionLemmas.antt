@@ -1,13 +1,13 @@
 -- Which rows are selected.
-use Rattle.std.proofs.Common.{◌≡◌, ℕ, zero, suc, ◌+◌, ◌<◌, ◌≤◌, Bool, true, false, cond, List, [], ◌∷◌, ◌++◌, Option, None, Some, length, map, filter, take, get_or, count_by, refl, sym, ap, ◌∙◌, arith, subst, slice_get, nat_eq, length-append, inl, inr, replicate, Result, Ok, Err, set, ⊎_elim}
+use Rattle.std.proofs.Common.{◌≡◌, ℕ, zero, suc, ◌+◌, ◌<◌, ◌≤◌, Bool, true, false, cond, List, [], ◌∷◌, ◌++◌, Option, None, Some, length, map, filter, take, get_or, count_by, refl, sym, ap, ◌∙◌, arith, subst, slice_get, nat_eq, length-append, Result, Ok, Err, set, Global, Vec}
 use Rattle.std.specs.Prelude.{not, ◌&&◌, ◌||◌}
-use Rattle.std.proofs.lemmas.Bool.{eq-eqb, ne_eqb, and_left, and_right, and_from, and_parts, or_cases, or_left, eqb-true, cases_eq}
+use Rattle.std.proofs.lemmas.Bool.{true≢false, eq-eqb, ne_eqb, and_left, and_right, and_from, or_left}
 use Rattle.std.proofs.lemmas.Cmp.{nat_cmp_total, tied_itself}
-use Rattle.std.proofs.lemmas.List.Folds.{list_any_more, list_any_kept, list_all_more}
+use Rattle.std.proofs.lemmas.List.Folds.{list_any_more}
 use Rattle.std.specs.Ordering.{nat_cmp, is_eq, ordering_reverse}
 use Rattle.std.specs.declared.cmp.Ordering.{Ordering}
 use Rattle.std.specs.declared.cmp.Ordering.TheVariants.{Less, Equal, Greater}
-use Rattle.std.specs.Option.{option_map_or}
+use Rattle.std.specs.Option.{option_map, option_map_or}
 use Rattle.std.specs.Prelude.{IfSome, IfOk}
 use Rattle.std.proofs.lemmas.Option.{slice_get_within, slice_get-get_or}
 use Rattle.std.specs.List.{All, Contains}
@@ -21,21 +21,19 @@ use Rattle.std.specs.Str.{bytes_eq}
 use Rattle.std.proofs.lemmas.Map.Text.{is_eq-slice_cmp}
 use Rattle.soc_schema.specs.Rows.{value_of}
 use Rattle.soc_schema.specs.Orders.{value_cmp}
-use Rattle.soc_schema.specs.Values.{is_value, product_of, text_of}
-use Rattle.soc_store.specs.Stored.{PlacesRise, places_of}
+use Rattle.soc_schema.specs.Values.{is_value, product_of, rows_with, text_of}
+use Rattle.soc_store.specs.Stored.{PlacesRise, places_of, row_at, value_at}
 use Rattle.soc_schema.proofs.OrderLemmas.{value_total, value_exact}
-use Rattle.std.proofs.lemmas.List.{map-append, take_all, take_more, get_or-set_other}
+use Rattle.std.proofs.lemmas.List.{map-append, take_all, take_more}
 use Rattle.std.proofs.lemmas.List.Elements.{filter_more}
 use Rattle.std.proofs.lemmas.List.Sums.{length-filter}
-use Rattle.std.specs.List.{AllByRecursion, list_any, list_all}
+use Rattle.std.specs.List.{AllByRecursion, list_any}
 use Rattle.soc_schema.specs.declared.value.Cell.{Cell}
 use Rattle.std.specs.Prelude.{if◌then◌else◌}
-use Rattle.soc_query.specs.declared.condition.Comparison.TheVariants.{Equals, Below, AtMost, Above, AtLeast, Contains as Contain, Starts, Ends}
-use Rattle.soc_query.specs.declared.condition.Test.{Test}
-use Rattle.soc_query.specs.declared.condition.Test.TheVariants.{Absent, Compares}
-use Rattle.soc_query.specs.declared.condition.Condition.{Condition}
-use Rattle.soc_query.specs.Answers.{is_equality, is_exact, meets_alone, meets_one, passes}
-use Rattle.soc_search.specs.inner.Selections.{chosen, exact_value, has_value, is_reversed, operand_in, reverses, selected, Selects}
+use Rattle.soc_search.specs.declared.selection.Selection.{Selection}
+use Rattle.soc_search.specs.inner.Selections.{AreListed, Finds, Selects, selected}
+use Rattle.soc_search.proofs.AnswerLemmas.{selected_rows}
+use Rattle.soc_search.proofs.HitLemmas.{all_there}
 
 all_of_them : (places : List ℕ) → filter (selected None) places ≡ places
 all_of_them [] = refl
@@ -158,7 +156,7 @@ or_nothing false = refl
 pub joins_same : {X : Type 0} (old : ℕ → Bool) (places : X → List ℕ) (xs : List X) (i : ℕ) (x : X) → i < length xs → get_or xs i x ≡ x → [] ≡ places x → Joins old places (take i xs) → Joins old places (take (i + 1) xs)
 joins_same old places xs i x within here is so_far = joins_more old old places xs i x [] within here is (λ p. or_nothing (old p)) so_far
 
-any_agree : {X : Type 0} (a b : X → Bool) (xs : List X) → ((x : X) → a x ≡ b x) → list_any a xs ≡ list_any b xs
+pub any_agree : {X : Type 0} (a b : X → Bool) (xs : List X) → ((x : X) → a x ≡ b x) → list_any a xs ≡ list_any b xs
 any_agree a b [] same = refl
 any_agree a b (x ∷ xs) same = rw (same x, any_agree a b xs same) refl
 
@@ -166,7 +164,7 @@ any_agree a b (x ∷ xs) same = rw (same x, any_agree a b xs same) refl
 abbrev pub chosen_places : ℕ → (Value → Bool) → List (ℕ × List Cell) → Value → List ℕ
 chosen_places f test rows v = cond (test v) (places_of f v rows) []
 
-in_chosen : (b : Bool) (p : ℕ) (places : List ℕ) → inn p (cond b places []) ≡ (b && inn p places)
+pub in_chosen : (b : Bool) (p : ℕ) (places : List ℕ) → inn p (cond b places []) ≡ (b && inn p places)
 in_chosen true p places = refl
 in_chosen false p places = refl
 
@@ -207,12 +205,12 @@ has_chosen test None vs there = none_has test vs
 has_chosen test (Some w) vs there =
     elim (test w) as (λ b. test w ≡ b → list_any (λ v. test v && is_value v (Some w)) vs ≡ b) [ true ↦ λ takes. chosen_one test w vs takes there | false ↦ λ out. not_chosen test w vs out ] refl
 
-selects_at : (set : ℕ → Bool) (test : List Cell → Bool) (rows : List (ℕ × List Cell)) (k : ℕ) (d : ℕ × List Cell) → k < length rows → Selects set test rows → set (get_or rows k d).0 ≡ test (get_or rows k d).1
+pub selects_at : (set : ℕ → Bool) (test : List Cell → Bool) (rows : List (ℕ × List Cell)) (k : ℕ) (d : ℕ × List Cell) → k < length rows → Selects set test rows → set (get_or rows k d).0 ≡ test (get_or rows k d).1
 selects_at set test [] k d within all = absurd (omega arith)
 selects_at set test (s ∷ ss) zero d within all = all.0
 selects_at set test (s ∷ ss) (suc k) d within all = selects_at set test ss k d (omega arith) all.1
 
-selects_from : (set : ℕ → Bool) (test : List Cell → Bool) (rows : List (ℕ × List Cell)) → ((k : ℕ) (d : ℕ × List Cell) → k < length rows → set (get_or rows k d).0 ≡ test (get_or rows k d).1) → Selects set test rows
+pub selects_from : (set : ℕ → Bool) (test : List Cell → Bool) (rows : List (ℕ × List Cell)) → ((k : ℕ) (d : ℕ × List Cell) → k < length rows → set (get_or rows k d).0 ≡ test (get_or rows k d).1) → Selects set test rows
 selects_from set test [] each = tt
 selects_from set test (s ∷ ss) each = (each 0 s (omega arith), selects_from set test ss (λ k d h. each (suc k) d (omega arith)))
 
@@ -271,106 +269,6 @@ pub selects_whole : (a c : ℕ → Bool) (ta : List Cell → Bool) (rows : List 
 selects_whole a c ta [] whole each all = tt
 selects_whole a c ta (s ∷ ss) whole each all = (each.0 ∙ sym (whole s.0) ∙ all.0, selects_whole a c ta ss whole each.1 all.1)
 
--- one value's places
-pub single_value : (set : ℕ → Bool) (f : ℕ) (v : Value) (rows : List (ℕ × List Cell)) → PlacesRise rows → ((p : ℕ) → set p ≡ inn p (places_of f v rows)) → Selects set (λ row. option_map_or (λ w. is_eq (value_cmp v w)) (value_of row f) false) rows
-single_value set f v rows rise puts =
-    selects_same (λ p. inn p (places_of f v rows)) set (λ row. is_value v (value_of row f)) (λ row. option_map_or (λ w. is_eq (value_cmp v w)) (value_of row f) false) rows puts (λ row. agrees v (value_of row f)) (value_places f v rows rise)
-  where
-    agrees : (v : Value) (o : Option Value) → option_map_or (λ w. is_eq (value_cmp v w)) o false ≡ is_value v o
-    agrees v None = refl
-    agrees v (Some w) = refl
-
--- a condition by the values that it asks about
-alone : (negated : Bool) (t : Test) (o : Option Value) → (if negated then not (passes t o) else passes t o) ≡ (if reverses t negated then not (option_map_or (chosen t) o false) else option_map_or (chosen t) o false)
-alone true Absent None = refl
-alone true Absent (Some v) = refl
-alone false Absent None = refl
-alone false Absent (Some v) = refl
-alone true (Compares how w) None = refl
-alone true (Compares how w) (Some v) = refl
-alone false (Compares how w) None = refl
-alone false (Compares how w) (Some v) = refl
-
-pub alone_is : (c : Condition) (row : List Cell) → meets_alone row c ≡ (if is_reversed c then not (has_value c row) else has_value c row)
-alone_is c row = alone c.negated c.test (value_of row c.field)
-
--- the places of one of the values that are asked of a field
-abbrev pub exact_places : ℕ → List (ℕ × List Cell) → Condition → List ℕ
-exact_places f rows d = option_map_or (λ v. places_of f v rows) (exact_value f d) []
-
-exact_one : (negated : Bool) (t : Test) (same : Bool) (o : Option Value) (p : ℕ) (rows : List (ℕ × List Cell)) (f : ℕ) → ((v : Value) → inn p (places_of f v rows) ≡ is_value v o)
-    → inn p (option_map_or (λ v. places_of f v rows) (if (not negated && is_equality t) && same then operand_in t else None) []) ≡ ((not negated && is_equality t) && (same && (if negated then not (passes t o) else passes t o)))
-exact_one true t same o p rows f at = refl
-exact_one false Absent same o p rows f at = refl
-exact_one false (Compares Equals v) true None p rows f at = at v
-exact_one false (Compares Equals v) true (Some w) p rows f at = at v
-exact_one false (Compares Equals v) false o p rows f at = refl
-exact_one false (Compares Below v) same o p rows f at = refl
-exact_one false (Compares AtMost v) same o p rows f at = refl
-exact_one false (Compares Above v) same o p rows f at = refl
-exact_one false (Compares AtLeast v) same o p rows f at = refl
-exact_one false (Compares Contain v) same o p rows f at = refl
-exact_one false (Compares Starts v) same o p rows f at = refl
-exact_one false (Compares Ends v) same o p rows f at = refl
-
--- where the fields are the same
-moved : (same : Bool) (d f : ℕ) (x y : Bool) → nat_eq d f ≡ same → (d ≡ f → x ≡ y) → (same && x) ≡ (same && y)
-moved true d f x y e h = h (eqb-true d f e)
-moved false d f x y e h = refl
-
-pub joined_group : (set : ℕ → Bool) (f : ℕ) (rows : List (ℕ × List Cell)) (conditions : List Condition) → PlacesRise rows → Joins set (exact_places f rows) conditions → Selects set (meets_one conditions f) rows
-joined_group set f rows conditions rise joins =
-    selects_from set (meets_one conditions f) rows (λ k d within.
-    let s = get_or rows k d in
-    joins s.0
-    ∙ any_agree (λ c. inn s.0 (exact_places f rows c)) (λ c. is_exact c && (nat_eq c.field f && meets_alone s.1 c)) conditions
-    (λ c. exact_one c.negated c.test (nat_eq c.field f) (value_of s.1 f) s.0 rows f (λ v. selects_at (λ p. inn p (places_of f v rows)) (λ row. is_value v (value_of row f)) rows k d within (value_places f v rows rise))
-    ∙ ap (λ b. is_exact c && b) (moved (nat_eq c.field f) c.field f (if c.negated then not (passes c.test (value_of s.1 f)) else passes c.test (value_of s.1 f)) (meets_alone s.1 c) refl
-    (λ e. ap (λ g. if c.negated then not (passes c.test (value_of s.1 g)) else passes c.test (value_of s.1 g)) (sym e)))))
-
--- whether a row is as one condition asks, among all
-abbrev pub holds_of : List Condition → List Cell → Condition → Bool
-holds_of conditions row c = if is_exact c then meets_one conditions c.field row else meets_alone row c
-
--- a row is as asked by the conditions so far, and by one more
-pub met_more : (conditions : List Condition) (i : ℕ) (c : Condition) (row : List Cell) (seen : Bool) → i < length conditions → get_or conditions i c ≡ c → (seen && list_all (holds_of conditions row) (take (i + 1) conditions)) ≡ ((seen && list_all (holds_of conditions row) (take i conditions)) && holds_of conditions row c)
-met_more conditions i c row seen within here =
-    ap (λ b. seen && b) (list_all_more (holds_of conditions row) conditions i c within ∙ ap (λ d. list_all (holds_of conditions row) (take i conditions) && holds_of conditions row d) here)
-    ∙ sym (and_joins seen (list_all (holds_of conditions row) (take i conditions)) (holds_of conditions row c))
-  where
-    and_joins : (x y z : Bool) → ((x && y) && z) ≡ (x && (y && z))
-    and_joins true y z = refl
-    and_joins false y z = refl
-
--- whether a condition asks for one value of the field
-abbrev pub exact_of : ℕ → Condition → Bool
-exact_of f d = is_exact d && nat_eq d.field f
-
--- where a value of the field is asked for already, the group holds already
-already : (conditions cs : List Condition) (f : ℕ) (row : List Cell) → list_any (exact_of f) cs ≡ true → list_all (holds_of conditions row) cs ≡ true → meets_one conditions f row ≡ true
-already conditions [] f row some all = let no : false ≡ true = some in cc
-already conditions (c ∷ cs) f row some all =
-    let parts : (holds_of conditions row c ≡ true) × (list_all (holds_of conditions row) cs ≡ true) = and_parts _ _ all in
-    elim (or_cases _ _ some) [
-      | inl here ↦
-          let both : (is_exact c ≡ true) × (nat_eq c.field f ≡ true) = and_parts _ _ here in
-          let group : meets_one conditions c.field row ≡ true = sym (ap (λ b. if b then meets_one conditions c.field row else meets_alone row c) both.0) ∙ parts.0 in
-          ap (λ g. meets_one conditions g row) (sym (eqb-true c.field f both.1)) ∙ group
-      | inr later ↦ already conditions cs f row later parts.1
-    ]
-
-absorbed : (a b : Bool) → (a ≡ true → b ≡ true) → a ≡ (a && b)
-absorbed true b h = sym (h refl)
-absorbed false b h = refl
-
-pub met_already : (conditions : List Condition) (i : ℕ) (c : Condition) (row : List Cell) (seen : Bool) → i < length conditions → get_or conditions i c ≡ c → is_exact c ≡ true → list_any (exact_of c.field) (take i conditions) ≡ true
-    → (seen && list_all (holds_of conditions row) (take (i + 1) conditions)) ≡ (seen && list_all (holds_of conditions row) (take i conditions))
-met_already conditions i c row seen within here exact earlier =
-    ap (λ b. seen && b)
-    (list_all_more (holds_of conditions row) conditions i c within ∙ ap (λ d. list_all (holds_of conditions row) (take i conditions) && holds_of conditions row d) here
-    ∙ sym (absorbed (list_all (holds_of conditions row) (take i conditions)) (holds_of conditions row c)
-    (λ all. ap (λ b. if b then meets_one conditions c.field row else meets_alone row c) exact ∙ already conditions (take i conditions) c.field row earlier all)))
-
 pub here_at : {X : Type 0} (xs : List X) (i : ℕ) (x : X) → slice_get xs i ≡ Some x → (i < length xs) × (get_or xs i x ≡ x)
 here_at xs i x at = let within : i < length xs = slice_get_within xs i x at in (within, some-injective (sym (slice_get-get_or xs i x within) ∙ at))
 
@@ -386,48 +284,9 @@ chosen_over old now f test rows vs i v at passes_over same so_far p =
 pub joined_all : {X : Type 0} (set : ℕ → Bool) (places : X → List ℕ) (xs : List X) (i : ℕ) → length xs ≤ i → Joins set places (take i xs) → Joins set places xs
 joined_all set places xs i all so_far = subst (Joins set places) (take_all i xs all) so_far
 
-pub none_met : (n f : ℕ) → get_or (replicate n false) f false ≡ true → ⊥
-none_met zero f e = cc
-none_met (suc n) zero e = cc
-none_met (suc n) (suc f) e = none_met n f e
-
 pub ok_map : {A E : Type 0} (r : Result A E) (P Q : A → Type 0) → ((a : A) → P a → Q a) → IfOk r P → IfOk r Q
 ok_map (Ok a) P Q step h = step a h
 ok_map (Err e) P Q step h = tt
-
--- the rows that are selected after a condition by itself, an exact one, and one whose field was seen
-module _ (saw : List Cell → Bool) (cs : List Condition) (i : ℕ) (c : Condition) (within : i < length cs) (here : get_or cs i c ≡ c) (rows : List (ℕ × List Cell)) where
-  abbrev so_far : List Cell → Bool
-  so_far row = saw row && list_all (holds_of cs row) (take i cs)
-
-  pub step_alone : (set : ℕ → Bool) → is_exact c ≡ false → Selects set (λ row. (saw row && list_all (holds_of cs row) (take i cs)) && meets_alone row c) rows → Selects set (λ row. saw row && list_all (holds_of cs row) (take (i + 1) cs)) rows
-  step_alone set plain all =
-      selects_same set set (λ row. so_far row && meets_alone row c) (λ row. saw row && list_all (holds_of cs row) (take (i + 1) cs)) rows (λ p. refl)
-      (λ row. met_more cs i c row (saw row) within here ∙ ap (λ b. so_far row && (if b then meets_one cs c.field row else meets_alone row c)) plain) all
-
-  pub step_group : (old group now : ℕ → Bool) → is_exact c ≡ true → ((p : ℕ) → now p ≡ (old p && group p)) → Selects group (meets_one cs c.field) rows → Selects old (λ row. saw row && list_all (holds_of cs row) (take i cs)) rows → Selects now (λ row. saw row && list_all (holds_of cs row) (take (i + 1) cs)) rows
-  step_group old group now exact meet one all =
-      selects_meet old group now so_far (meets_one cs c.field) (λ row. saw row && list_all (holds_of cs row) (take (i + 1) cs)) rows all one meet
-      (λ row. met_more cs i c row (saw row) within here ∙ ap (λ b. so_far row && (if b then meets_one cs c.field row else meets_alone row c)) exact)
-
-  pub step_seen : (set : ℕ → Bool) → is_exact c ≡ true → list_any (exact_of c.field) (take i cs) ≡ true → Selects set (λ row. saw row && list_all (holds_of cs row) (take i cs)) rows → Selects set (λ row. saw row && list_all (holds_of cs row) (take (i + 1) cs)) rows
-  step_seen set exact earlier all =
-      selects_same set set so_far (λ row. saw row && list_all (holds_of cs row) (take (i + 1) cs)) rows (λ p. refl) (λ row. met_already cs i c row (saw row) within here exact earlier) all
-
--- the fields that were seen
-pub seen_kept : (cs : List Condition) (i : ℕ) (met now : List Bool) → now ≡ met → ((f : ℕ) → get_or met f false ≡ true → list_any (exact_of f) (take i cs) ≡ true) → (f : ℕ) → get_or now f false ≡ true → list_any (exact_of f) (take (i + 1) cs) ≡ true
-seen_kept cs i met now same seen f is = list_any_kept (exact_of f) cs i (seen f (sym (ap (λ m. get_or m f false) same) ∙ is))
-
-pub seen_more : (cs : List Condition) (i : ℕ) (c : Condition) (met now : List Bool) (k : ℕ) → i < length cs → get_or cs i c ≡ c → is_exact c ≡ true → k ≡ c.field → now ≡ set met k true → ((f : ℕ) → get_or met f false ≡ true → list_any (exact_of f) (take i cs) ≡ true) → (f : ℕ) → get_or now f false ≡ true → list_any (exact_of f) (take (i + 1) cs) ≡ true
-seen_more cs i c met now k within here exact at put seen f is =
-    ⊎_elim
-    (λ (e : f ≡ k). list_any_more (exact_of f) cs i c within ∙ or_second (list_any (exact_of f) (take i cs)) (exact_of f (get_or cs i c)) (ap (exact_of f) here ∙ and_from (is_exact c) (nat_eq c.field f) exact (eq-eqb c.field f (sym (e ∙ at)))))
-    (λ (ne : f ≡ k → ⊥). list_any_kept (exact_of f) cs i (seen f (sym (ap (λ m. get_or m f false) put ∙ get_or-set_other met k f true false ne) ∙ is)))
-    (cases_eq f k)
-
-pub and_true : (a : Bool) → a ≡ (a && true)
-and_true true = refl
-and_true false = refl
 
 -- a run of the values: before it none is chosen, and behind it none
 none_in : {X : Type 0} (t : X → Bool) (xs : List X) (n : ℕ) → ((k : ℕ) (d : X) → k < n → t (get_or xs k d) ≡ false) → list_any t (take n xs) ≡ false
@@ -448,8 +307,60 @@ not_joined f test rows p v out = ap (λ b. inn p (cond b (places_of f v rows) []
 pub run_begun : (set : ℕ → Bool) (f : ℕ) (test : Value → Bool) (rows : List (ℕ × List Cell)) (vs : List Value) (n : ℕ) → ((p : ℕ) → set p ≡ false) → ((k : ℕ) (d : Value) → k < n → test (get_or vs k d) ≡ false) → Joins set (chosen_places f test rows) (take n vs)
 run_begun set f test rows vs n empty out p = empty p ∙ sym (none_in (λ v. inn p (chosen_places f test rows v)) vs n (λ k d lt. not_joined f test rows p (get_or vs k d) (out k d lt)))
 
-pub run_more : (old now : ℕ → Bool) (f : ℕ) (test : Value → Bool) (rows : List (ℕ × List Cell)) (vs : List Value) (i : ℕ) (v : Value) (more : List ℕ) → slice_get vs i ≡ Some v → ((d : Value) → test (get_or vs i d) ≡ true) → more ≡ places_of f v rows → ((p : ℕ) → now p ≡ (old p || inn p more)) → Joins old (chosen_places f test rows) (take i vs) → Joins now (chosen_places f test rows) (take (i + 1) vs)
-run_more old now f test rows vs i v more at takes = chosen_more old now f test rows vs i v more at (ap test (sym (here_at vs i v at).1) ∙ takes v)
-
 pub run_ended : (set : ℕ → Bool) (f : ℕ) (test : Value → Bool) (rows : List (ℕ × List Cell)) (vs : List Value) (n i : ℕ) → n ≤ i → ((k : ℕ) (d : Value) → n ≤ k → k < length vs → test (get_or vs k d) ≡ false) → Joins set (chosen_places f test rows) (take i vs) → Joins set (chosen_places f test rows) vs
 run_ended set f test rows vs n i all out so_far p = so_far p ∙ none_behind (λ v. inn p (chosen_places f test rows v)) vs i (λ k d le lt. not_joined f test rows p (get_or vs k d) (out k d (omega arith) lt))
+
+-- the rows at some places whose value passes a test
+places_kept : (q : Option Value → Bool) (f : ℕ) (test : ℕ × List Cell → Bool) (rows ss : List (ℕ × List Cell)) → AllByRecursion (λ s. row_at s.0 rows ≡ Some s) ss
+    → filter (λ p. q (value_at p f rows)) (map (λ s. s.0) (filter test ss)) ≡ map (λ s. s.0) (filter (λ s. test s && q (value_of s.1 f)) ss)
+places_kept q f test rows [] there = refl
+places_kept q f test rows (s ∷ ss) there =
+    let rest = places_kept q f test rows ss there.1 in
+    let here : q (value_at s.0 f rows) ≡ q (value_of s.1 f) = ap (λ o. q (option_map_or (λ t. value_of t.1 f) o None)) there.0 in
+    elim (test s) as (λ b. filter (λ p. q (value_at p f rows)) (map (λ t. t.0) (cond b (s ∷ filter test ss) (filter test ss))) ≡ map (λ t. t.0) (cond (b && q (value_of s.1 f)) (s ∷ filter (λ t. test t && q (value_of t.1 f)) ss) (filter (λ t. test t && q (value_of t.1 f)) ss))) [
+      | true ↦ ap (λ b. cond b (s.0 ∷ filter (λ p. q (value_at p f rows)) (map (λ t. t.0) (filter test ss))) (filter (λ p. q (value_at p f rows)) (map (λ t. t.0) (filter test ss)))) here
+          ∙ elim (q (value_of s.1 f)) as (λ b. cond b (s.0 ∷ filter (λ p. q (value_at p f rows)) (map (λ t. t.0) (filter test ss))) (filter (λ p. q (value_at p f rows)) (map (λ t. t.0) (filter test ss))) ≡ map (λ t. t.0) (cond b (s ∷ filter (λ t. test t && q (value_of t.1 f)) ss) (filter (λ t. test t && q (value_of t.1 f)) ss))) [
+            | true ↦ ap (λ l. s.0 ∷ l) rest
+            | false ↦ rest
+          ]
+      | false ↦ rest
+    ]
+
+pub places_met : (q : Option Value → Bool) (f : ℕ) (test : List Cell → Bool) (rows : List (ℕ × List Cell)) (places left : List ℕ) → PlacesRise rows → places ≡ map (λ s. s.0) (filter (λ s. test s.1) rows) → left ≡ filter (λ p. q (value_at p f rows)) places
+    → left ≡ map (λ s. s.0) (filter (λ s. test s.1 && q (value_of s.1 f)) rows)
+places_met q f test rows places left rise are is = is ∙ ap (filter (λ p. q (value_at p f rows))) are ∙ places_kept q f (λ s. test s.1) rows rows (all_there rows rise)
+
+-- the set of the places of some rows selects them, and they are listed
+pub listed_found : (held : ℕ → Bool) (test : List Cell → Bool) (rows : List (ℕ × List Cell)) (places : List ℕ) → PlacesRise rows → places ≡ map (λ s. s.0) (filter (λ s. test s.1) rows) → ((p : ℕ) → held p ≡ inn p places)
+    → Selects held test rows × (places ≡ map (λ s. s.0) (filter (λ s. held s.0) rows))
+listed_found held test rows places rise are puts =
+    let selects : Selects held test rows = selects_same (λ p. inn p places) held test test rows puts (λ row. refl) (subst (λ l. Selects (λ p. inn p l) test rows) (sym are) (are_placed (λ s. test s.1) rows rise)) in
+    (selects, are ∙ sym (ap (map (λ s. s.0)) (selected_rows held test rows selects)))
+
+pub finds_same : (found : Selection) (t u : List Cell → Bool) (rows : List (ℕ × List Cell)) → ((row : List Cell) → u row ≡ t row) → Finds found t rows → Finds found u rows
+finds_same found t u rows same finds = (selects_same (selected found.set) (selected found.set) t u rows (λ p. refl) same finds.0, finds.1)
+
+-- the selected places among those of a value, where each selected row has it
+kept_place : (set : ℕ → Bool) (s : ℕ × List Cell) (places : List ℕ) (ss : List (ℕ × List Cell)) → filter set places ≡ map (λ t. t.0) (filter (λ t. set t.0) ss) → filter set (s.0 ∷ places) ≡ map (λ t. t.0) (filter (λ t. set t.0) (s ∷ ss))
+kept_place set s places ss rest =
+    elim (set s.0) as (λ b. cond b (s.0 ∷ filter set places) (filter set places) ≡ map (λ t. t.0) (cond b (s ∷ filter (λ t. set t.0) ss) (filter (λ t. set t.0) ss))) [
+      | true ↦ ap (λ l. s.0 ∷ l) rest
+      | false ↦ rest
+    ]
+
+pub sole_rows : (set : ℕ → Bool) (test : List Cell → Bool) (f : ℕ) (v : Value) (rows : List (ℕ × List Cell)) → Selects set test rows → ((row : List Cell) → test row ≡ true → is_value v (value_of row f) ≡ true)
+    → filter set (places_of f v rows) ≡ map (λ s. s.0) (filter (λ s. set s.0) rows)
+sole_rows set test f v [] selects each = refl
+sole_rows set test f v (s ∷ ss) selects each =
+    let rest = sole_rows set test f v ss selects.1 each in
+    elim (is_value v (value_of s.1 f)) as (λ b. is_value v (value_of s.1 f) ≡ b → filter set (map (λ t. t.0) (cond b (s ∷ rows_with f v ss) (rows_with f v ss))) ≡ map (λ t. t.0) (filter (λ t. set t.0) (s ∷ ss))) [
+      | true ↦ λ _. kept_place set s (places_of f v ss) ss rest
+      | false ↦ λ lacks. elim (set s.0) as (λ b. set s.0 ≡ b → filter set (places_of f v ss) ≡ map (λ t. t.0) (cond b (s ∷ filter (λ t. set t.0) ss) (filter (λ t. set t.0) ss))) [
+        | true ↦ λ in_set. absurd (true≢false (sym (each s.1 (sym selects.0 ∙ in_set)) ∙ lacks))
+        | false ↦ λ _. rest
+      ] refl
+    ] refl
+
+-- where the rows are listed
+pub listed_are : (set : ℕ → Bool) (rows : List (ℕ × List Cell)) (places : Option (Vec ℕ Global)) (list : Vec ℕ Global) → places ≡ Some list → AreListed set rows (option_map (λ v. v.items) places) → list.items ≡ map (λ s. s.0) (filter (λ s. set s.0) rows)
+listed_are set rows places list is listed = subst (λ o. AreListed set rows (option_map (λ v. v.items) o)) is listed

@@ -4,9 +4,9 @@ use Rattle.std.specs.Prelude.{◌&&◌, ◌||◌, is_none, reverse, slice_get, C
 use Rattle.std.proofs.lemmas.List.{take_all, take_more, map-append, take-append-drop, reverse-append, length-reverse, get_or-reverse, length-map}
 use Rattle.std.proofs.lemmas.List.Elements.{filter_agree, All-head, All-tail}
 use Rattle.std.proofs.lemmas.List.Folds.{list_any-append}
-use Rattle.std.proofs.lemmas.Option.{slice_get_within, slice_get-get_or, get_or_from_slice_get}
+use Rattle.std.proofs.lemmas.Option.{slice_get-get_or, get_or_from_slice_get}
 use Rattle.std.specs.List.{AllByRecursion, list_any}
-use Rattle.std.specs.Ordering.{is_eq, is_gt, ordering_then, ordering_reverse}
+use Rattle.std.specs.Ordering.{is_eq, ordering_then, ordering_reverse}
 use Rattle.std.specs.declared.cmp.Ordering.{Ordering}
 use Rattle.std.specs.declared.cmp.Ordering.TheVariants.{Less, Equal, Greater}
 use Rattle.std.proofs.lemmas.Cmp.{tied_itself}
@@ -15,16 +15,15 @@ use Rattle.soc_schema.specs.declared.value.Value.{Value}
 use Rattle.soc_schema.specs.declared.value.Cell.{Cell}
 use Rattle.soc_schema.specs.Rows.{value_of}
 use Rattle.soc_schema.specs.Fields.{uuid_field}
-use Rattle.soc_schema.specs.Orders.{value_cmp, in_order, put_in_order}
+use Rattle.soc_schema.specs.Orders.{value_cmp, in_order}
 use Rattle.soc_schema.specs.Tables.{Rising}
 use Rattle.soc_schema.specs.Values.{is_value, values_of}
 use Rattle.soc_store.specs.Stored.{PlacesRise, places_of}
 use Rattle.soc_query.specs.declared.part.Sort.{Sort}
 use Rattle.soc_query.specs.Answers.{row_order, value_order}
 use Rattle.soc_search.specs.inner.Selections.{Selects, selected}
-use Rattle.soc_search.specs.inner.Places.{has}
 use Rattle.soc_search.specs.inner.Walks.{first_of, is_in_group, is_keyed, key_at, others_of, walk_of}
-use Rattle.soc_search.proofs.AnswerLemmas.{kept_agree, selected_rows}
+use Rattle.soc_search.proofs.AnswerLemmas.{kept_agree}
 use Rattle.soc_search.proofs.SelectionLemmas.{are_placed, inn}
 use Rattle.soc_schema.proofs.OrderLemmas.{value_total}
 use Rattle.soc_search.proofs.OrderLemmas.{option_total}
@@ -266,10 +265,6 @@ selected_values set f vs (s ∷ ss) all =
       | true ↦ (here, selected_values set f vs ss more)
       | false ↦ selected_values set f vs ss more
     ]
-
--- where the set has the rows that pass a test, the selected places are theirs
-pub places_by : (set : List (List ℕ)) (test : List Cell → Bool) (rows : List (ℕ × List Cell)) → Selects (has set) test rows → map (λ s. s.0) (filter (λ s. selected (Some set) s.0) rows) ≡ map (λ s. s.0) (filter (λ s. test s.1) rows)
-places_by set test rows selects = ap (map (λ s. s.0)) (selected_rows (has set) test rows selects)
 
 -- no set selects each row
 pub every_row : (rows : List (ℕ × List Cell)) → Selects (selected None) (λ _. true) rows

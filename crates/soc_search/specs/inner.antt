@@ -1,7 +1,6 @@
 -- Words of private contracts and of proofs.
 pub mod Leaders
 pub mod Places
-pub mod Products
 pub mod Ranks
 pub mod Runs
 pub mod Selections

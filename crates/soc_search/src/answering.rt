@@ -4,7 +4,7 @@ ghost use Rattle.soc_query.specs.Answers.{answer_of};
 
 use crate::facet::facets;
 use crate::hits::hits;
-use crate::selection::{candidates, matching, selected_count};
+use crate::selection::{matching, selected_count};
 use soc_base::NoMemory;
 use soc_edge::Steps;
 use soc_query::{Answer, Fields, Query};
@@ -25,11 +25,10 @@ pub fn answer_of<L: Ledger>(
         → steps.new ≡ steps.old }
     ensures few { steps.new ≤ steps.old + (answer_of query.now store.now).total }
 {
-    let set = matching(alloc, store, query)?;
-    let among = candidates(store, query);
-    let total = selected_count(store, among, &set);
-    let hits = hits(alloc, store, query, among, &set, total, steps)?;
-    let facets = facets(alloc, store, query, &set)?;
+    let found = matching(alloc, store, query)?;
+    let total = selected_count(store, &found);
+    let hits = hits(alloc, store, query, &found, total, steps)?;
+    let facets = facets(alloc, store, query, &found.set)?;
     let columns = Fields::from(Vec::from_slice(alloc, query.columns())?);
     Ok(Answer {
         total: total as u64,

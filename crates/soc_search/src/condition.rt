@@ -1,17 +1,14 @@
 //! Which values meet a condition.
-ghost use Rattle.std.specs.Prelude.{◌≡◌, IfSome, nat_eq};
-ghost use Rattle.std.specs.List.{ends_with, starts_with};
+ghost use Rattle.std.specs.Prelude.{◌≡◌, None, map, nat_eq};
+ghost use Rattle.std.specs.List.{ends_with, list_any, starts_with};
 ghost use Rattle.std.specs.Option.{option_copied};
 ghost use Rattle.soc_schema.specs.Values.{text_in};
-ghost use Rattle.soc_query.specs.declared.condition.Comparison.TheVariants as Comparison;
-ghost use Rattle.soc_query.specs.declared.condition.Test.TheVariants as Test;
 ghost use Rattle.soc_query.specs.Answers.{compares, has_part, is_exact, passes};
-ghost use Rattle.soc_search.specs.inner.Products.{is_met};
 ghost use Rattle.soc_search.specs.inner.Runs.{is_run};
-ghost use Rattle.soc_search.specs.inner.Selections.{chosen, exact_value, is_reversed};
+ghost use Rattle.soc_search.specs.inner.Selections.{are_met, exact_value, is_met, one_is_met, stands_out};
 
 use soc_query::{Comparison, Condition, Test};
-use soc_schema::{Field, Value};
+use soc_schema::Value;
 use soc_store::compare_values;
 use std::cmp::Ordering;
 
@@ -29,33 +26,16 @@ pub(crate) fn is_run(how: Comparison) -> bool
     )
 }
 
-/// The value that a test asks for, where it asks for one.
-pub(crate) fn operand(test: &Test) -> Option<&Value>
-    ensures { IfSome result (λ v. test.now ≡ Test.Compares Comparison.Equals v.now) }
-{
-    match test {
-        Test::Compares(Comparison::Equals, value) => Some(value),
-        _ => None,
-    }
-}
-
-/// Whether a test asks about the value: of absence it is each.
-pub(crate) fn chooses(test: &Test, value: &Value) -> bool
-    ensures { result ≡ chosen test.now value.now }
-{
-    match test {
-        Test::Absent => true,
-        Test::Compares(how, operand) => compares(*how, operand, value),
-    }
-}
-
 /// Whether the value that a row has of the field, if any, is as the test asks.
 fn passes(test: &Test, value: Option<&Value>) -> bool
     ensures { result ≡ passes test.now (option_copied value.entry) }
 {
-    match value {
-        Some(value) => !matches!(test, Test::Absent) && chooses(test, value),
-        None => matches!(test, Test::Absent),
+    match test {
+        Test::Absent => value.is_none(),
+        Test::Compares(how, operand) => match value {
+            Some(value) => compares(*how, operand, value),
+            None => false,
+        },
     }
 }
 
@@ -69,11 +49,11 @@ pub(crate) fn is_exact(condition: &Condition) -> bool
     }
 }
 
-/// The value of the field that a condition asks for.
-pub(crate) fn exact_value(condition: &Condition, field: Field) -> Option<&Value>
-    ensures { option_copied result ≡ exact_value field condition.now }
+/// The value that a condition asks for, where it asks for one.
+pub(crate) fn exact_value(condition: &Condition) -> Option<&Value>
+    ensures { option_copied result ≡ exact_value condition.now }
 {
-    if condition.negated || condition.field.place() != field.place() {
+    if condition.negated {
         return None;
     }
     match &condition.test {
@@ -83,20 +63,61 @@ pub(crate) fn exact_value(condition: &Condition, field: Field) -> Option<&Value>
 }
 
 /// Whether a row that has this value of its field, or none, meets a condition.
-pub(crate) fn is_met(condition: &Condition, value: Option<&Value>) -> bool
+fn is_met(condition: &Condition, value: Option<&Value>) -> bool
     ensures { result ≡ is_met condition.now (option_copied value.entry) }
 {
     passes(&condition.test, value) != condition.negated
 }
 
-/// Whether rows without the values that a condition asks about meet it.
-pub(crate) fn is_reversed(condition: &Condition) -> bool
-    ensures { result ≡ is_reversed condition.now }
+/// Whether one of the conditions asks for one value of their field.
+pub(crate) fn some_exact(asked: &[&Condition]) -> bool
+    ensures { result ≡ list_any is_exact (map (λ c. c.now) asked.now) }
 {
-    match &condition.test {
-        Test::Absent => !condition.negated,
-        Test::Compares(_, _) => condition.negated,
+    for condition in asked {
+        if is_exact(condition) {
+            return true;
+        }
     }
+    false
+}
+
+/// Whether a row that has this value of the field that the conditions ask about, or none, meets them all. Values that
+/// are asked for are alternatives.
+pub(crate) fn are_met(asked: &[&Condition], value: Option<&Value>) -> bool
+    ensures { result ≡ are_met (map (λ c. c.now) asked.now) (option_copied value.entry) }
+{
+    let one = one_is_met(asked, value);
+    for condition in asked {
+        let met = if is_exact(condition) {
+            one
+        } else {
+            is_met(condition, value)
+        };
+        if !met {
+            return false;
+        }
+    }
+    true
+}
+
+/// Whether one of the values that are asked for is this one.
+fn one_is_met(asked: &[&Condition], value: Option<&Value>) -> bool
+    ensures { result ≡ one_is_met (map (λ c. c.now) asked.now) (option_copied value.entry) }
+{
+    for condition in asked {
+        if is_exact(condition) && is_met(condition, value) {
+            return true;
+        }
+    }
+    false
+}
+
+/// Whether rows with the value meet the conditions otherwise than those without the field do.
+pub(crate) fn stands_out(asked: &[&Condition], absent: bool, value: &Value) -> bool
+    requires { absent ≡ are_met (map (λ c. c.now) asked.now) None }
+    ensures { result ≡ stands_out (map (λ c. c.now) asked.now) value.now }
+{
+    are_met(asked, Some(value)) != absent
 }
 
 /// Whether the value compares so with the operand.

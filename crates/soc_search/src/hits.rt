@@ -1,15 +1,14 @@
 //! Hits: the selected rows in order, from an offset on.
-ghost use Rattle.std.specs.Prelude.{◌≡◌, ◌+◌, ◌≤◌, ◌==◌, ℕ, Bool, List, [], IfOk, OnOk, length, map, take, drop};
+ghost use Rattle.std.specs.Prelude.{◌≡◌, ◌+◌, ◌≤◌, ◌==◌, ℕ, Bool, List, [], IfOk, OnOk, length, map, option_map, take, drop};
 ghost use Rattle.std.specs.List.{filter, filter_map, list_any};
 ghost use Rattle.std.specs.Option.{option_copied};
 ghost use Rattle.soc_schema.specs.declared.value.Cell.{Cell};
 ghost use Rattle.soc_query.specs.Answers.{columns_of, hits_of, row_order, value_order};
 ghost use Rattle.soc_schema.specs.Orders.{in_order};
-ghost use Rattle.soc_search.specs.inner.Selections.{AreAmong, row_of, selected};
+ghost use Rattle.soc_search.specs.inner.Selections.{AreListed, row_of, selected};
 
-use crate::places::PlaceSet;
-use crate::selection::selected_places;
-use crate::walk::{FEW, walked_rows};
+use crate::selection::{FEW, Selection, matching_places};
+use crate::walk::walked_rows;
 use soc_base::NoMemory;
 use soc_edge::Steps;
 use soc_query::{Hits, Query, Sort};
@@ -19,24 +18,25 @@ use std::alloc::Global;
 use std::cmp::Ordering;
 use std::sync::ledger::Ledger;
 
-/// The hits that a query asks for among so many selected rows, which are among these places. Each row that may be a hit
-/// is read once at most, and none where there is no hit.
+/// The hits that a query asks for among so many selected rows. Each row that may be a hit is read once at most, and none
+/// where there is no hit.
 pub(crate) fn hits<L: Ledger>(
     alloc: Global,
     store: &Store,
     query: &Query,
-    among: Option<&[u32]>,
-    set: &Option<PlaceSet>,
+    found: &Selection,
     total: usize,
     steps: &mut Steps<L>,
 ) -> Result<Hits, NoMemory>
-    requires among { AreAmong (selected set.now) store.now (option_copied among) }
-    requires total { total ≡ length (filter (λ s. selected set.now s.0) store.now) }
+    requires listed { AreListed (selected found.now.set) store.now
+        (option_map (λ v. v.items) found.now.places) }
+    requires total { total ≡ length (filter (λ s. selected found.now.set s.0) store.now) }
     ensures value { IfOk result (λ hits. hits
-        ≡ hits_of query.now (filter (λ s. selected set.now s.0) store.now)) }
+        ≡ hits_of query.now (filter (λ s. selected found.now.set s.0) store.now)) }
     ensures none { query.now.number ≡ 0 → steps.new ≡ steps.old }
     ensures past { total ≤ query.now.offset → steps.new ≡ steps.old }
-    ensures few { steps.new ≤ steps.old + length (filter (λ s. selected set.now s.0) store.now) }
+    ensures few { steps.new
+        ≤ steps.old + length (filter (λ s. selected found.now.set s.0) store.now) }
 {
     let left = (total as u64).saturating_sub(query.offset());
     let wanted = query.number().min(left);
@@ -45,12 +45,36 @@ pub(crate) fn hits<L: Ledger>(
     }
     if total > FEW {
         let goal = (query.offset() + wanted) as usize;
-        let rows = walked_rows(alloc, store, query.sorts(), goal, set, steps)?;
+        let rows = walked_rows(alloc, store, query.sorts(), goal, &found.set, steps)?;
         return copied(alloc, query, rows.as_slice(), wanted);
     }
-    let places = selected_places(alloc, store, among, set)?;
-    let rows = sorted_rows(alloc, store, query.sorts(), places.as_slice(), steps)?;
+    let rows = ordered_rows(alloc, store, query.sorts(), found, steps)?;
     copied(alloc, query, rows.as_slice(), wanted)
+}
+
+/// The selected rows in order.
+fn ordered_rows<'a, L: Ledger>(
+    alloc: Global,
+    store: &'a Store,
+    sorts: &[Sort],
+    found: &Selection,
+    steps: &mut Steps<L>,
+) -> Result<Vec<&'a Row>, NoMemory>
+    requires { AreListed (selected found.now.set) store.now
+        (option_map (λ v. v.items) found.now.places) }
+    ensures rows { IfOk result (λ rows. map (λ row. row.now) rows.items
+        ≡ in_order (row_order sorts.now)
+        (map (λ s. s.1) (filter (λ s. selected found.now.set s.0) store.now))) }
+    ensures few { steps.new
+        ≤ steps.old + length (filter (λ s. selected found.now.set s.0) store.now) }
+{
+    match &found.places {
+        Some(places) => sorted_rows(alloc, store, sorts, places.as_slice(), steps),
+        None => {
+            let places = matching_places(alloc, store, &found.set)?;
+            sorted_rows(alloc, store, sorts, places.as_slice(), steps)
+        }
+    }
 }
 
 /// The rows at the places, which are those of rows of the store, in order.

@@ -7,7 +7,6 @@ mod facet;
 mod hits;
 mod leaders;
 mod places;
-mod products;
 mod ranking;
 mod rows;
 mod runs;

@@ -38,7 +38,7 @@ pub(crate) fn counts_among(
     let mut counts = Vec::new(alloc);
     let mut near = 0;
     for i in 0..store.values(Field::SIGNATURE) {
-        let (_, having, _) = store.term_near(Field::SIGNATURE, i, &mut near);
+        let (_, having) = store.term_near(Field::SIGNATURE, i, &mut near);
         counts.push(count_among(places, having))?;
     }
     Ok(counts)

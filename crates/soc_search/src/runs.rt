@@ -1,12 +1,12 @@
-//! The run of a field's values that compare with an operand as is asked.
-ghost use Rattle.std.specs.Prelude.{◌≡◌, ◌≤◌, ◌<◌, ℕ, true, false, length, slice_index_or};
+//! The run of a field's values that conditions leave.
+ghost use Rattle.std.specs.Prelude.{◌≡◌, ◌≤◌, ◌<◌, ℕ, true, false, None, length, map, slice_index_or};
 ghost use Rattle.soc_schema.specs.declared.value.Value.{Value};
 ghost use Rattle.soc_schema.specs.Values.{values_of};
-ghost use Rattle.soc_query.specs.Answers.{compares};
-ghost use Rattle.soc_search.specs.inner.Runs.{IsFront, comes_before, is_run, stands};
+ghost use Rattle.soc_search.specs.inner.Runs.{IsFront, Misses, comes_before, is_run, stands};
+ghost use Rattle.soc_search.specs.inner.Selections.{are_met, stands_out};
 
-use crate::condition::compares;
-use soc_query::Comparison;
+use crate::condition::{compares, is_run};
+use soc_query::{Comparison, Condition, Test};
 use soc_schema::{Field, Value};
 use soc_store::{Store, compare_values};
 use std::cmp::Ordering;
@@ -27,21 +27,52 @@ enum Edge {
     End,
 }
 
-/// The run of the values of the field that compare so with the operand. It is found in a logarithm.
-pub(crate) fn run_of(store: &Store, field: Field, how: Comparison, operand: &Value) -> Run
-    requires { is_run how ≡ true }
-    ensures order { result.first ≤ result.end }
+/// The values of the field outside of this run don't stand out. Each condition on a run of values narrows it.
+pub(crate) fn asked_run(store: &Store, field: Field, asked: &[&Condition], absent: bool) -> Run
+    requires { absent ≡ are_met (map (λ c. c.now) asked.now) None }
     ensures within { result.end ≤ length (values_of field store.now) }
     ensures before { (k : ℕ) (d : Value) → k < result.first
-        → compares how operand.now (slice_index_or (values_of field store.now) k d) ≡ false }
-    ensures each { (k : ℕ) (d : Value) → result.first ≤ k → k < result.end
-        → compares how operand.now (slice_index_or (values_of field store.now) k d) ≡ true }
+        → stands_out (map (λ c. c.now) asked.now)
+        (slice_index_or (values_of field store.now) k d) ≡ false }
     ensures behind { (k : ℕ) (d : Value) → result.end ≤ k → k < length (values_of field store.now)
-        → compares how operand.now (slice_index_or (values_of field store.now) k d) ≡ false }
+        → stands_out (map (λ c. c.now) asked.now)
+        (slice_index_or (values_of field store.now) k d) ≡ false }
 {
-    let first = count_before(store, field, how, operand, Edge::First);
-    let end = count_before(store, field, how, operand, Edge::End);
-    Run { first, end }
+    let mut run = Run {
+        first: 0,
+        end: store.values(field),
+    };
+    if absent {
+        return run;
+    }
+    for condition in asked {
+        let part = run_of(store, field, condition);
+        run = Run {
+            first: run.first.max(part.first),
+            end: run.end.min(part.end),
+        };
+    }
+    run
+}
+
+/// A run of the values of the field outside of which none meets the condition. It is found in a logarithm.
+fn run_of(store: &Store, field: Field, condition: &Condition) -> Run
+    ensures within { result.end ≤ length (values_of field store.now) }
+    ensures before { (k : ℕ) (d : Value) → k < result.first
+        → Misses condition.now (slice_index_or (values_of field store.now) k d) }
+    ensures behind { (k : ℕ) (d : Value) → result.end ≤ k → k < length (values_of field store.now)
+        → Misses condition.now (slice_index_or (values_of field store.now) k d) }
+{
+    match &condition.test {
+        Test::Compares(how, operand) if !condition.negated && is_run(*how) => Run {
+            first: count_before(store, field, *how, operand, Edge::First),
+            end: count_before(store, field, *how, operand, Edge::End),
+        },
+        _ => Run {
+            first: 0,
+            end: store.values(field),
+        },
+    }
 }
 
 /// How many of the values come before an edge of the run.

@@ -11,7 +11,7 @@ ghost use Rattle.soc_search.specs.inner.Walks.{first_of, is_in_group, others_of}
 
 use crate::hits::sorted_rows;
 use crate::places::PlaceSet;
-use crate::selection::{chosen_among, matching_places, narrowed};
+use crate::selection::{FEW, Selection, chosen_among, matching_places, narrowed};
 use soc_base::NoMemory;
 use soc_edge::Steps;
 use soc_query::{Condition, Sort, Test};
@@ -19,9 +19,6 @@ use soc_schema::{Field, Row};
 use soc_store::Store;
 use std::alloc::Global;
 use std::sync::ledger::Ledger;
-
-/// As many rows as are read and sorted at once. Further ones are walked to.
-pub(crate) const FEW: usize = 1_000;
 
 /// The selected rows in order, at least as many of the first as the goal.
 pub(crate) fn walked_rows<'a, L: Ledger>(
@@ -130,7 +127,7 @@ fn nth_places<'a>(store: &'a Store, sort: Sort, i: usize, near: &mut usize) -> &
         (filter (λ s. is_in_group sort store.now i s.1) store.now) }
 {
     let index = walk_index(store.values(sort.field), sort.falling, i);
-    let (_, places, _) = store.term_near(sort.field, index, near);
+    let (_, places) = store.term_near(sort.field, index, near);
     places
 }
 
@@ -153,6 +150,10 @@ fn places_without(alloc: Global, store: &Store, field: Field) -> Result<Vec<u32>
         negated: false,
         test: Test::Absent,
     };
-    let set = narrowed(alloc, store, None, &absent)?;
-    matching_places(alloc, store, &Some(set))
+    let each = Selection {
+        set: None,
+        places: None,
+    };
+    let found = narrowed(alloc, store, field, &[&absent], each)?;
+    matching_places(alloc, store, &found.set)
 }

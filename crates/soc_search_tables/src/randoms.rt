@@ -76,7 +76,7 @@ fn is_same(alloc: Global, store: &Store, versions: &Versions, version: u64) -> R
     let places = places_with(alloc, versions, version)?;
     let value = text_value(alloc, version_of(version))?;
     let mut sum = 0u64;
-    for one in store.counts(Field::VERSION, &value) {
+    for one in &store.counts(alloc, Field::VERSION, &value)? {
         sum = sum.saturating_add(one.count);
     }
     let rows = versions.iter().filter(|had| had.is_some()).count();

@@ -82,7 +82,7 @@ fn push_count(text: &mut String, one: &ProductCount) -> Result<(), Fault> {
 fn counts(alloc: Global, store: &Store, version: &str) -> Result<String, Fault> {
     let version = text_value(alloc, version)?;
     let mut text = String::new(alloc);
-    for one in store.counts(Field::VERSION, &version) {
+    for one in &store.counts(alloc, Field::VERSION, &version)? {
         push_count(&mut text, one)?;
     }
     Ok(text)

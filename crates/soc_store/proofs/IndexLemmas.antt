@@ -7,38 +7,34 @@ use Rattle.std.specs.List.{AllWithin, AllByRecursion}
 use Rattle.soc_schema.specs.declared.value.Value.{Value}
 use Rattle.soc_schema.specs.Orders.{value_cmp}
 use Rattle.soc_schema.specs.Tables.{Rising, FindsKey}
-use Rattle.soc_store.specs.Stored.{counted}
-use Rattle.soc_store.specs.inner.Postings.{Posting, posted, with_posting, with_place, places_in, counts_in, without_place, uncounted, shrunk, if_any, unposted, without_posting, IsPosting, ArePostings, index_of}
+use Rattle.soc_store.specs.inner.Postings.{Posting, posted, with_posting, with_place, places_in, without_place, shrunk, if_any, unposted, without_posting, IsPosting, ArePostings, index_of}
 use Rattle.std.specs.Option.{IfSome}
 use Rattle.soc_schema.specs.Tables.{at_key}
 use Rattle.soc_schema.specs.declared.value.Cell.{Cell}
 use Rattle.soc_schema.specs.Rows.{value_of}
-use Rattle.soc_schema.specs.Values.{product_of}
 use Rattle.soc_store.proofs.Tables.{alter_found, alter_gap, rising_alter, alter_commutes, below_from, above_from, equal_at, prune-alter, prune_shrinks, prune_goes, prune_gap, rising_prune, all_made, at_key-found, at_key-gap}
 use Rattle.std.proofs.lemmas.Cmp.{tied_itself}
 use Rattle.soc_schema.proofs.OrderLemmas.{value_total, value_exact}
-use Rattle.soc_store.proofs.CountLemmas.{counted_commutes, counts_counted, uncounted-counted}
 use Rattle.soc_store.proofs.PlaceLemmas.{places_commute, order-with_place, without_place-with_place, some_place}
 
 abbrev pub value : Posting → Value
 value t = t.value
 
-pub rising_posting : (v : Option Value) (p : ℕ) (k : Option (List ℕ)) (ts : List Posting) → Rising (λ (t : Posting). t.value) value_cmp ts → Rising (λ (t : Posting). t.value) value_cmp (with_posting v p k ts)
-rising_posting None p k ts rising = rising
-rising_posting (Some v) p k ts rising = rising_alter value value_total v (posted v p k) (λ _. refl) ts rising
+pub rising_posting : (v : Option Value) (p : ℕ) (ts : List Posting) → Rising (λ (t : Posting). t.value) value_cmp ts → Rising (λ (t : Posting). t.value) value_cmp (with_posting v p ts)
+rising_posting None p ts rising = rising
+rising_posting (Some v) p ts rising = rising_alter value value_total v (posted v p) (λ _. refl) ts rising
 
 -- two rows may come in either order
-same_posted : (v : Value) (p q : ℕ) (k l : Option (List ℕ)) (t : Option Posting) → posted v p k (Some (posted v q l t)) ≡ posted v q l (Some (posted v p k t))
-same_posted v p q k l t =
-    ap (λ ps. record { value = v; places = ps; counts = counted k (counted l (counts_in t)) }) (places_commute p q (places_in t))
-    ∙ ap (λ cs. record { value = v; places = with_place q (with_place p (places_in t)); counts = cs }) (counted_commutes k l (counts_in t))
+same_posted : (v : Value) (p q : ℕ) (t : Option Posting) → posted v p (Some (posted v q t)) ≡ posted v q (Some (posted v p t))
+same_posted v p q t =
+    ap (λ ps. record { value = v; places = ps }) (places_commute p q (places_in t))
 
-pub postings_commute : (v w : Option Value) (p q : ℕ) (k l : Option (List ℕ)) (ts : List Posting) → with_posting v p k (with_posting w q l ts) ≡ with_posting w q l (with_posting v p k ts)
-postings_commute None w p q k l ts = refl
-postings_commute (Some v) None p q k l ts = refl
-postings_commute (Some v) (Some w) p q k l ts =
-    alter_commutes value value_total v (posted v p k) (λ _. refl) w (posted w q l) (λ _. refl)
-    (λ tied t. subst (λ u. posted v p k (Some (posted u q l t)) ≡ posted u q l (Some (posted v p k t))) (value_exact v w tied) (same_posted v p q k l t)) ts
+pub postings_commute : (v w : Option Value) (p q : ℕ) (ts : List Posting) → with_posting v p (with_posting w q ts) ≡ with_posting w q (with_posting v p ts)
+postings_commute None w p q ts = refl
+postings_commute (Some v) None p q ts = refl
+postings_commute (Some v) (Some w) p q ts =
+    alter_commutes value value_total v (posted v p) (λ _. refl) w (posted w q) (λ _. refl)
+    (λ tied t. subst (λ u. posted v p (Some (posted u q t)) ≡ posted u q (Some (posted v p t))) (value_exact v w tied) (same_posted v p q t)) ts
 
 pub map-insert : {A B : Type 0} (f : A → B) (xs : List A) (i : ℕ) (x : A) → map f (insert xs i x) ≡ insert (map f xs) i (f x)
 map-insert f [] zero x = refl
@@ -52,49 +48,47 @@ set_itself (y ∷ ys) zero x lt is = ap (λ z. z ∷ ys) is
 set_itself (y ∷ ys) (suc i) x lt is = ap (λ t. y ∷ t) (set_itself ys i x (omega arith) is)
 
 -- each posting is one
-pub postings_posted : (v : Option Value) (p : ℕ) (k : Option (List ℕ)) (ts : List Posting) → ArePostings ts → ArePostings (with_posting v p k ts)
-postings_posted None p k ts all = all
-postings_posted (Some v) p k ts all =
-    all_made value value_total v (posted v p k) (λ _. refl) IsPosting ts
-    (order-with_place p [] tt, some_place p [], counts_counted k [] tt)
-    (λ t h. (order-with_place p t.places h.0, some_place p t.places, counts_counted k t.counts h.2)) all
+pub postings_posted : (v : Option Value) (p : ℕ) (ts : List Posting) → ArePostings ts → ArePostings (with_posting v p ts)
+postings_posted None p ts all = all
+postings_posted (Some v) p ts all =
+    all_made value value_total v (posted v p) (λ _. refl) IsPosting ts
+    (order-with_place p [] tt, some_place p [])
+    (λ t h. (order-with_place p t.places h.0, some_place p t.places)) all
 
 pub postings_of_rows : (f : ℕ) (rows : List (ℕ × List Cell)) → ArePostings (index_of f rows)
 postings_of_rows f [] = tt
-postings_of_rows f (s ∷ ss) = postings_posted (value_of s.1 f) s.0 (product_of s.1) (index_of f ss) (postings_of_rows f ss)
+postings_of_rows f (s ∷ ss) = postings_posted (value_of s.1 f) s.0 (index_of f ss) (postings_of_rows f ss)
 
 any_left : (ps : List ℕ) (t : Posting) → ps ≢ [] → if_any ps t ≡ Some t
 any_left [] t some = absurd (some refl)
 any_left (p ∷ ps) t some = refl
 
-back : (v : Value) (p : ℕ) (k : Option (List ℕ)) (t : Posting) → IsPosting t → value_cmp v t.value ≡ Equal → unposted p k (posted v p k (Some t)) ≡ Some t
-back v p k t h tied =
+back : (v : Value) (p : ℕ) (t : Posting) → IsPosting t → value_cmp v t.value ≡ Equal → unposted p (posted v p (Some t)) ≡ Some t
+back v p t h tied =
     let places = without_place-with_place p t.places h.0 in
-    let counts = uncounted-counted k t.counts h.2 in
-    ap (λ ps. if_any ps (record { value = v; places = ps; counts = uncounted k (counted k t.counts) })) places
-    ∙ any_left t.places (record { value = v; places = t.places; counts = uncounted k (counted k t.counts) }) h.1
-    ∙ ap (λ cs. Some (record { value = v; places = t.places; counts = cs })) counts
-    ∙ ap (λ u. Some (record { value = u; places = t.places; counts = t.counts })) (value_exact v t.value tied)
+    ap (λ ps. if_any ps (record { value = v; places = ps })) places
+    ∙ any_left t.places (record { value = v; places = t.places }) h.1
+    ∙ ap (λ u. Some (record { value = u; places = t.places })) (value_exact v t.value tied)
 
-all_back : (v : Value) (p : ℕ) (k : Option (List ℕ)) (ts : List Posting) → ArePostings ts → AllByRecursion (λ t. value_cmp v (value t) ≡ Equal → unposted p k (posted v p k (Some t)) ≡ Some t) ts
-all_back v p k [] all = tt
-all_back v p k (t ∷ ts) all = (back v p k t all.0, all_back v p k ts all.1)
+all_back : (v : Value) (p : ℕ) (ts : List Posting) → ArePostings ts → AllByRecursion (λ t. value_cmp v (value t) ≡ Equal → unposted p (posted v p (Some t)) ≡ Some t) ts
+all_back v p [] all = tt
+all_back v p (t ∷ ts) all = (back v p t all.0, all_back v p ts all.1)
 
-gone : (v : Value) (p : ℕ) (k : Option (List ℕ)) → unposted p k (posted v p k None) ≡ None
-gone v p k = ap (λ ps. if_any ps (record { value = v; places = ps; counts = uncounted k (counted k []) })) (without_place-with_place p [] tt)
+gone : (v : Value) (p : ℕ) → unposted p (posted v p None) ≡ None
+gone v p = ap (λ ps. if_any ps (record { value = v; places = ps })) (without_place-with_place p [] tt)
 
 -- what was put in is taken out
-pub without_posting-with_posting : (v : Option Value) (p : ℕ) (k : Option (List ℕ)) (ts : List Posting) → ArePostings ts → without_posting v p k (with_posting v p k ts) ≡ ts
-without_posting-with_posting None p k ts all = refl
-without_posting-with_posting (Some v) p k ts all =
-    prune-alter value value_total v (posted v p k) (λ _. refl) (unposted p k) (gone v p k) ts (all_back v p k ts all)
+pub without_posting-with_posting : (v : Option Value) (p : ℕ) (ts : List Posting) → ArePostings ts → without_posting v p (with_posting v p ts) ≡ ts
+without_posting-with_posting None p ts all = refl
+without_posting-with_posting (Some v) p ts all =
+    prune-alter value value_total v (posted v p) (λ _. refl) (unposted p) (gone v p) ts (all_back v p ts all)
 
 like_any : (ps : List ℕ) (t : Posting) → IfSome (if_any ps t) (λ u. value u ≡ value t)
 like_any [] t = tt
 like_any (p ∷ ps) t = refl
 
-pub rising_unposted : (v : Value) (p : ℕ) (k : Option (List ℕ)) (ts : List Posting) → Rising (λ (t : Posting). t.value) value_cmp ts → Rising (λ (t : Posting). t.value) value_cmp (without_posting (Some v) p k ts)
-rising_unposted v p k ts rising = rising_prune value value_total v (unposted p k) (λ t. like_any (without_place p t.places) (shrunk p k t)) ts rising
+pub rising_unposted : (v : Value) (p : ℕ) (ts : List Posting) → Rising (λ (t : Posting). t.value) value_cmp ts → Rising (λ (t : Posting). t.value) value_cmp (without_posting (Some v) p ts)
+rising_unposted v p ts rising = rising_prune value value_total v (unposted p) (λ t. like_any (without_place p t.places) (shrunk p t)) ts rising
 
 none_left : (ps : List ℕ) (t : Posting) → ps ≡ [] → if_any ps t ≡ None
 none_left [] t e = refl
@@ -126,37 +120,37 @@ module _ (ts : List Posting) (v : Value) (i : ℕ) where
   tied t place is = subst (λ u. value_cmp (value u) v ≡ Equal) (sym is) (place.1 t)
 
   -- the posting that is there gets one more row
-  pub added_found : (p : ℕ) (k : Option (List ℕ)) (t t' : Posting) → Rising (λ (t : Posting). t.value) value_cmp ts → FindsKey (λ (t : Posting). t.value) value_cmp v ts (Ok i)
-      → t ≡ get_or ts i t → t' ≡ posted t.value p k (Some t) → set ts i t' ≡ with_posting (Some v) p k ts
-  added_found p k t t' rising place is new =
-      ap (λ u. set ts i u) (new ∙ ap (λ u. posted u p k (Some t)) (value_exact t.value v (tied t place is)))
-      ∙ sym (alter_found value value_total v (posted v p k) ts i t rising place.0 is (tied t place is))
+  pub added_found : (p : ℕ) (t t' : Posting) → Rising (λ (t : Posting). t.value) value_cmp ts → FindsKey (λ (t : Posting). t.value) value_cmp v ts (Ok i)
+      → t ≡ get_or ts i t → t' ≡ posted t.value p (Some t) → set ts i t' ≡ with_posting (Some v) p ts
+  added_found p t t' rising place is new =
+      ap (λ u. set ts i u) (new ∙ ap (λ u. posted u p (Some t)) (value_exact t.value v (tied t place is)))
+      ∙ sym (alter_found value value_total v (posted v p) ts i t rising place.0 is (tied t place is))
 
   -- or nothing
   pub kept_found : (t t' : Posting) → FindsKey (λ (t : Posting). t.value) value_cmp v ts (Ok i) → t ≡ get_or ts i t → t' ≡ t → set ts i t' ≡ ts
   kept_found t t' place is same = ap (λ u. set ts i u) same ∙ set_itself ts i t place.0 is
 
   -- a posting of one row is put in
-  pub added_gap : (p : ℕ) (k : Option (List ℕ)) (t : Posting) → FindsKey (λ (t : Posting). t.value) value_cmp v ts (Err i) → t ≡ posted v p k None → insert ts i t ≡ with_posting (Some v) p k ts
-  added_gap p k t place new = ap (λ u. insert ts i u) new ∙ sym (alter_gap value value_total v (posted v p k) ts i place.0 place.1)
+  pub added_gap : (p : ℕ) (t : Posting) → FindsKey (λ (t : Posting). t.value) value_cmp v ts (Err i) → t ≡ posted v p None → insert ts i t ≡ with_posting (Some v) p ts
+  added_gap p t place new = ap (λ u. insert ts i u) new ∙ sym (alter_gap value value_total v (posted v p) ts i place.0 place.1)
 
   -- the posting that is there has one row less
-  pub taken_found : (p : ℕ) (k : Option (List ℕ)) (t t' : Posting) → Rising (λ (t : Posting). t.value) value_cmp ts → FindsKey (λ (t : Posting). t.value) value_cmp v ts (Ok i)
-      → t ≡ get_or ts i t → t' ≡ shrunk p k t → t'.places ≢ [] → set ts i t' ≡ without_posting (Some v) p k ts
-  taken_found p k t t' rising place is new some =
+  pub taken_found : (p : ℕ) (t t' : Posting) → Rising (λ (t : Posting). t.value) value_cmp ts → FindsKey (λ (t : Posting). t.value) value_cmp v ts (Ok i)
+      → t ≡ get_or ts i t → t' ≡ shrunk p t → t'.places ≢ [] → set ts i t' ≡ without_posting (Some v) p ts
+  taken_found p t t' rising place is new some =
       let left : without_place p t.places ≢ [] = λ e. some (ap (λ u. u.places) new ∙ e) in
       ap (λ u. set ts i u) new
-      ∙ sym (prune_shrinks value value_total v (unposted p k) ts i t (shrunk p k t) rising place.0 is (tied t place is) (any_left (without_place p t.places) (shrunk p k t) left))
+      ∙ sym (prune_shrinks value value_total v (unposted p) ts i t (shrunk p t) rising place.0 is (tied t place is) (any_left (without_place p t.places) (shrunk p t) left))
 
   -- or none, and goes
-  pub gone_found : (p : ℕ) (k : Option (List ℕ)) (t t' : Posting) → Rising (λ (t : Posting). t.value) value_cmp ts → FindsKey (λ (t : Posting). t.value) value_cmp v ts (Ok i)
-      → t ≡ get_or ts i t → t' ≡ shrunk p k t → t'.places ≡ [] → remove (set ts i t') i ≡ without_posting (Some v) p k ts
-  gone_found p k t t' rising place is new none =
+  pub gone_found : (p : ℕ) (t t' : Posting) → Rising (λ (t : Posting). t.value) value_cmp ts → FindsKey (λ (t : Posting). t.value) value_cmp v ts (Ok i)
+      → t ≡ get_or ts i t → t' ≡ shrunk p t → t'.places ≡ [] → remove (set ts i t') i ≡ without_posting (Some v) p ts
+  gone_found p t t' rising place is new none =
       remove-set ts i t'
-      ∙ sym (prune_goes value value_total v (unposted p k) ts i t rising place.0 is (tied t place is) (none_left (without_place p t.places) (shrunk p k t) (sym (ap (λ u. u.places) new) ∙ none)))
+      ∙ sym (prune_goes value value_total v (unposted p) ts i t rising place.0 is (tied t place is) (none_left (without_place p t.places) (shrunk p t) (sym (ap (λ u. u.places) new) ∙ none)))
 
-  pub taken_gap : (p : ℕ) (k : Option (List ℕ)) → FindsKey (λ (t : Posting). t.value) value_cmp v ts (Err i) → ts ≡ without_posting (Some v) p k ts
-  taken_gap p k place = sym (prune_gap value value_total v (unposted p k) ts i place.0 place.1)
+  pub taken_gap : (p : ℕ) → FindsKey (λ (t : Posting). t.value) value_cmp v ts (Err i) → ts ≡ without_posting (Some v) p ts
+  taken_gap p place = sym (prune_gap value value_total v (unposted p) ts i place.0 place.1)
 
   -- what a look-up finds
   pub found_at : (t : Posting) → Rising (λ (t : Posting). t.value) value_cmp ts → FindsKey (λ (t : Posting). t.value) value_cmp v ts (Ok i) → t ≡ get_or ts i t → at_key (λ (t : Posting). t.value) value_cmp v ts ≡ Some t

@@ -30,15 +30,15 @@ module _ (ps : List Part) (k : ℕ) (p q : Part) (v : Value) (lt : k < length ps
   behind : AllByRecursion (λ (t : Posting). value_cmp v t.value ≡ Less) (joined (drop (suc k) (blocks_of ps)))
   behind = let one : k + 1 ≡ suc k = omega arith in subst (λ n. AllByRecursion (λ (t : Posting). value_cmp v t.value ≡ Less) (joined (drop n (blocks_of ps)))) one after
 
-  pub added_in : (place : ℕ) (product : Option (List ℕ)) → q.block ≡ with_posting (Some v) place product p.block → postings_in (set ps k q) ≡ with_posting (Some v) place product (postings_in ps)
-  added_in place product new =
+  pub added_in : (place : ℕ) → q.block ≡ with_posting (Some v) place p.block → postings_in (set ps k q) ≡ with_posting (Some v) place (postings_in ps)
+  added_in place new =
       ap joined (blocks_set ps k q) ∙ ap (λ b. joined (set (blocks_of ps) k b)) new
-      ∙ alter_block value value_total v (blocks_of ps) k p.block (in_blocks ps k lt) (block_in ps k p lt is) before behind (posted v place product)
+      ∙ alter_block value value_total v (blocks_of ps) k p.block (in_blocks ps k lt) (block_in ps k p lt is) before behind (posted v place)
 
-  pub removed_in : (place : ℕ) (product : Option (List ℕ)) → q.block ≡ without_posting (Some v) place product p.block → postings_in (set ps k q) ≡ without_posting (Some v) place product (postings_in ps)
-  removed_in place product new =
+  pub removed_in : (place : ℕ) → q.block ≡ without_posting (Some v) place p.block → postings_in (set ps k q) ≡ without_posting (Some v) place (postings_in ps)
+  removed_in place new =
       ap joined (blocks_set ps k q) ∙ ap (λ b. joined (set (blocks_of ps) k b)) new
-      ∙ prune_block value value_total v (blocks_of ps) k p.block (in_blocks ps k lt) (block_in ps k p lt is) before behind (unposted place product)
+      ∙ prune_block value value_total v (blocks_of ps) k p.block (in_blocks ps k lt) (block_in ps k p lt is) before behind (unposted place)
 
   pub found_in : at_key (λ (t : Posting). t.value) value_cmp v p.block ≡ at_key (λ (t : Posting). t.value) value_cmp v (postings_in ps)
   found_in = at_key-block value value_total v (blocks_of ps) k p.block (in_blocks ps k lt) (block_in ps k p lt is) before behind
@@ -59,11 +59,11 @@ alter_some v make (t ∷ ts) =
       | Greater ↦ let later = alter_some v make ts in let few : length (alter value value_cmp v make ts) ≤ length ts + 1 = later.1 in (omega arith, omega arith)
     ]
 
-pub some_added : (v : Value) (place : ℕ) (product : Option (List ℕ)) (ts : List Posting) → 0 < length (with_posting (Some v) place product ts)
-some_added v place product ts = (alter_some v (posted v place product) ts).0
+pub some_added : (v : Value) (place : ℕ) (ts : List Posting) → 0 < length (with_posting (Some v) place ts)
+some_added v place ts = (alter_some v (posted v place) ts).0
 
-pub one_added : (v : Value) (place : ℕ) (product : Option (List ℕ)) (ts : List Posting) → length (with_posting (Some v) place product ts) ≤ length ts + 1
-one_added v place product ts = (alter_some v (posted v place product) ts).1
+pub one_added : (v : Value) (place : ℕ) (ts : List Posting) → length (with_posting (Some v) place ts) ≤ length ts + 1
+one_added v place ts = (alter_some v (posted v place) ts).1
 
 abbrev filled : List (List Posting) → Type 0
 filled bs = AllByRecursion (λ b. 0 < length b) bs
@@ -107,7 +107,7 @@ filled_first (a ∷ cs) zero b all least = all
 filled_first (a ∷ cs) (suc k) b all least = absurd (omega arith)
 
 some_block : List Posting
-some_block = record { value = Number 0; places = []; counts = [] } ∷ []
+some_block = record { value = Number 0; places = [] } ∷ []
 
 some_there : 0 < length some_block
 unfolding some_block
@@ -179,8 +179,8 @@ no_more v shrink (t ∷ ts) =
     at_most None = omega arith
     at_most (Some u) = omega arith
 
-pub none_added : (v : Value) (place : ℕ) (product : Option (List ℕ)) (ts : List Posting) → length (without_posting (Some v) place product ts) ≤ length ts
-none_added v place product ts = no_more v (unposted place product) ts
+pub none_added : (v : Value) (place : ℕ) (ts : List Posting) → length (without_posting (Some v) place ts) ≤ length ts
+none_added v place ts = no_more v (unposted place) ts
 
 -- the same as a search in a slice finds it
 module _ (found ps : List Part) (k : ℕ) (p q : Part) (v : Value) (same : found ≡ ps) (lt : k < length found) (before : AllByRecursion (λ (t : Posting). value_cmp v t.value ≡ Greater) (joined (take k (blocks_of found)))) (after : AllByRecursion (λ (t : Posting). value_cmp v t.value ≡ Less) (joined (drop (k + 1) (blocks_of found)))) (is : p ≡ get_or ps k p) where
@@ -193,11 +193,11 @@ module _ (found ps : List Part) (k : ℕ) (p q : Part) (v : Value) (same : found
   after_found : AllByRecursion (λ (t : Posting). value_cmp v t.value ≡ Less) (joined (drop (k + 1) (blocks_of ps)))
   after_found = subst (λ l. AllByRecursion (λ (t : Posting). value_cmp v t.value ≡ Less) (joined (drop (k + 1) (blocks_of l)))) same after
 
-  pub added_at : (place : ℕ) (product : Option (List ℕ)) → q.block ≡ with_posting (Some v) place product p.block → postings_in (set ps k q) ≡ with_posting (Some v) place product (postings_in ps)
-  added_at place product new = added_in ps k p q v in_found is before_found after_found place product new
+  pub added_at : (place : ℕ) → q.block ≡ with_posting (Some v) place p.block → postings_in (set ps k q) ≡ with_posting (Some v) place (postings_in ps)
+  added_at place new = added_in ps k p q v in_found is before_found after_found place new
 
-  pub removed_at : (place : ℕ) (product : Option (List ℕ)) → q.block ≡ without_posting (Some v) place product p.block → postings_in (set ps k q) ≡ without_posting (Some v) place product (postings_in ps)
-  removed_at place product new = removed_in ps k p q v in_found is before_found after_found place product new
+  pub removed_at : (place : ℕ) → q.block ≡ without_posting (Some v) place p.block → postings_in (set ps k q) ≡ without_posting (Some v) place (postings_in ps)
+  removed_at place new = removed_in ps k p q v in_found is before_found after_found place new
 
   pub found_at_part : at_key (λ (t : Posting). t.value) value_cmp v p.block ≡ at_key (λ (t : Posting). t.value) value_cmp v (postings_in ps)
   found_at_part = found_in ps k p q v in_found is before_found after_found

@@ -1,17 +1,17 @@
 -- What the kept postings say of a store.
-use Rattle.std.proofs.Common.{◌≡◌, ◌≢◌, ◌+◌, ℕ, zero, suc, ◌<◌, List, [], ◌∷◌, Option, None, Some, Ok, Err, length, get_or, set, take, map, ap, sym, subst, ◌∙◌, refl, arith, true, false, cond}
+use Rattle.std.proofs.Common.{◌≡◌, ◌≢◌, ◌+◌, ℕ, Bool, zero, suc, ◌<◌, List, [], ◌∷◌, Option, None, Some, Ok, Err, length, get_or, set, take, map, ap, sym, subst, ◌∙◌, refl, arith, true, false, cond}
 use Rattle.std.specs.Prelude.{slice_get, option_map, insert, remove}
-use Rattle.std.specs.Ordering.{nat_cmp, is_eq}
+use Rattle.std.specs.Ordering.{nat_cmp, is_eq, ordering_reverse}
 use Rattle.std.specs.declared.cmp.Ordering.{Ordering}
 use Rattle.std.specs.declared.cmp.Ordering.TheVariants.{Less, Equal, Greater}
-use Rattle.std.specs.List.{AllWithin}
-use Rattle.std.proofs.lemmas.Cmp.{nat_cmp_total}
+use Rattle.std.specs.List.{AllWithin, filter}
+use Rattle.std.proofs.lemmas.Cmp.{nat_cmp_total, tied_itself}
 use Rattle.std.proofs.lemmas.Map.Lookups.{exact_unsigned}
-use Rattle.std.proofs.lemmas.Bool.{lt-ltb, le-ltb, eq-eqb, ne_eqb}
+use Rattle.std.proofs.lemmas.Bool.{lt-ltb, le-ltb, eq-eqb, ne_eqb, cond_both}
 use Rattle.soc_base.proofs.Folk.{equal_from}
 use Rattle.soc_schema.specs.Rows.{value_of}
 use Rattle.std.specs.List.{AllByRecursion}
-use Rattle.std.specs.Option.{IfSome}
+use Rattle.std.specs.Option.{IfSome, option_map_or}
 use Rattle.std.proofs.lemmas.List.{get_or_default, length-map, get_or-map, map-set, take_all}
 use Rattle.std.proofs.lemmas.Option.{slice_get-map, slice_get-get_or}
 use Rattle.soc_schema.specs.declared.value.Value.{Value}
@@ -19,8 +19,8 @@ use Rattle.soc_schema.specs.declared.value.Cell.{Cell}
 use Rattle.soc_schema.specs.Orders.{value_cmp}
 use Rattle.soc_schema.specs.Tables.{at_key, FindsKey}
 use Rattle.soc_schema.specs.Values.{values_of, product_of}
-use Rattle.soc_store.specs.Stored.{PlacesRise, rows_in, places_of, counts_of, row_at, with_row, without_row}
-use Rattle.soc_store.specs.inner.Postings.{Posting, AreKept, index_of, places_in, counts_in, with_posting, without_posting, ArePostings}
+use Rattle.soc_store.specs.Stored.{PlacesRise, rows_in, places_of, product_at, row_at, with_row, without_row}
+use Rattle.soc_store.specs.inner.Postings.{Posting, AreKept, index_of, places_in, with_posting, without_posting, ArePostings}
 use Rattle.soc_store.proofs.IndexLemmas.{value, map-insert, map-remove, postings_commute, postings_posted, postings_of_rows, without_posting-with_posting}
 use Rattle.soc_store.proofs.Tables.{alter_found, alter_gap, prune_goes, prune_gap, at_key-found, at_key-gap, rising_alter, rising_prune, below_from, above_from, equal_at}
 use Rattle.soc_store.proofs.RowIndexLemmas.{values_from_index, tells_rows, index_of-with_row, index_of-apart, with_old}
@@ -45,10 +45,7 @@ module _ (fields : List (List Posting)) (rows now : List (ℕ × List Cell)) (ke
   count_kept = sym (length-map (get_or fields at old) value) ∙ ap length values_kept
 
   pub places_kept : (v : Value) → places_in (at_key (λ (t : Posting). t.value) value_cmp v (get_or fields at old)) ≡ places_of f v now
-  places_kept v = ap (λ ts. places_in (at_key value value_cmp v ts)) field_kept ∙ (tells_rows f v now (subst PlacesRise view kept.0)).0
-
-  pub counts_kept : (v : Value) → counts_in (at_key (λ (t : Posting). t.value) value_cmp v (get_or fields at old)) ≡ counts_of f v now
-  counts_kept v = ap (λ ts. counts_in (at_key value value_cmp v ts)) field_kept ∙ (tells_rows f v now (subst PlacesRise view kept.0)).1
+  places_kept v = ap (λ ts. places_in (at_key value value_cmp v ts)) field_kept ∙ tells_rows f v now (subst PlacesRise view kept.0)
 
   pub rows_kept : (i n : ℕ) → IfSome (slice_get (map (λ (t : Posting). t.value) (get_or fields at old)) i) (λ v. n ≡ length (places_in (at_key (λ (t : Posting). t.value) value_cmp v (get_or fields at old))))
       → IfSome (slice_get (values_of f now) i) (λ v. n ≡ length (places_of f v now))
@@ -70,24 +67,24 @@ abbrev pub place_of : ℕ × List Cell → ℕ
 place_of s = s.0
 
 -- what one more row leaves of a field's postings
-pub inserted : (f p : ℕ) (row : List Cell) (rows : List (ℕ × List Cell)) → PlacesRise rows → row_at p rows ≡ None → with_posting (value_of row f) p (product_of row) (index_of f rows) ≡ index_of f (with_row (p, row) rows)
+pub inserted : (f p : ℕ) (row : List Cell) (rows : List (ℕ × List Cell)) → PlacesRise rows → row_at p rows ≡ None → with_posting (value_of row f) p (index_of f rows) ≡ index_of f (with_row (p, row) rows)
 inserted f p row rows rise none =
-    ap (with_posting (value_of row f) p (product_of row)) (index_of-apart f p rows rise ∙ ap (λ o. with_old f o (index_of f (without_row p rows))) none) ∙ sym (index_of-with_row f (p, row) rows)
+    ap (with_posting (value_of row f) p) (index_of-apart f p rows rise ∙ ap (λ o. with_old f o (index_of f (without_row p rows))) none) ∙ sym (index_of-with_row f (p, row) rows)
 
 -- one row less
-pub removed : (f p : ℕ) (old : List Cell) (rows : List (ℕ × List Cell)) → PlacesRise rows → row_at p rows ≡ Some (p, old) → without_posting (value_of old f) p (product_of old) (index_of f rows) ≡ index_of f (without_row p rows)
+pub removed : (f p : ℕ) (old : List Cell) (rows : List (ℕ × List Cell)) → PlacesRise rows → row_at p rows ≡ Some (p, old) → without_posting (value_of old f) p (index_of f rows) ≡ index_of f (without_row p rows)
 removed f p old rows rise there =
-    ap (without_posting (value_of old f) p (product_of old)) (index_of-apart f p rows rise ∙ ap (λ o. with_old f o (index_of f (without_row p rows))) there)
-    ∙ without_posting-with_posting (value_of old f) p (product_of old) (index_of f (without_row p rows)) (postings_of_rows f (without_row p rows))
+    ap (without_posting (value_of old f) p) (index_of-apart f p rows rise ∙ ap (λ o. with_old f o (index_of f (without_row p rows))) there)
+    ∙ without_posting-with_posting (value_of old f) p (index_of f (without_row p rows)) (postings_of_rows f (without_row p rows))
 
 -- one more in the stead of another
 pub replaced : (f p : ℕ) (row old : List Cell) (rows : List (ℕ × List Cell)) → PlacesRise rows → row_at p rows ≡ Some (p, old)
-    → without_posting (value_of old f) p (product_of old) (with_posting (value_of row f) p (product_of row) (index_of f rows)) ≡ index_of f (with_row (p, row) rows)
+    → without_posting (value_of old f) p (with_posting (value_of row f) p (index_of f rows)) ≡ index_of f (with_row (p, row) rows)
 replaced f p row old rows rise there =
     let rest = index_of f (without_row p rows) in
-    ap (λ ts. without_posting (value_of old f) p (product_of old) (with_posting (value_of row f) p (product_of row) ts)) (index_of-apart f p rows rise ∙ ap (λ o. with_old f o rest) there)
-    ∙ ap (without_posting (value_of old f) p (product_of old)) (postings_commute (value_of row f) (value_of old f) p p (product_of row) (product_of old) rest)
-    ∙ without_posting-with_posting (value_of old f) p (product_of old) (with_posting (value_of row f) p (product_of row) rest) (postings_posted (value_of row f) p (product_of row) rest (postings_of_rows f (without_row p rows)))
+    ap (λ ts. without_posting (value_of old f) p (with_posting (value_of row f) p ts)) (index_of-apart f p rows rise ∙ ap (λ o. with_old f o rest) there)
+    ∙ ap (without_posting (value_of old f) p) (postings_commute (value_of row f) (value_of old f) p p rest)
+    ∙ without_posting-with_posting (value_of old f) p (with_posting (value_of row f) p rest) (postings_posted (value_of row f) p rest (postings_of_rows f (without_row p rows)))
     ∙ sym (index_of-with_row f (p, row) rows)
 
 pub rise_with : (p : ℕ) (row : List Cell) (rows : List (ℕ × List Cell)) → PlacesRise rows → PlacesRise (with_row (p, row) rows)
@@ -176,31 +173,54 @@ module _ (rows : List (ℕ × List Cell)) (fields : List (List Posting)) (kept :
   whole : (n : ℕ) (old : List Cell) → n ≡ length old → take n old ≡ old
   whole n old all = take_all n old (omega arith)
 
-  pub kept_removed : (new : List (List Posting)) (old : List Cell) (n : ℕ) (k : Option (List ℕ)) → row_at p rows ≡ Some (p, old) → n ≡ length old → k ≡ product_of old
-      → ((f : ℕ) → get_or new f [] ≡ without_posting (value_of (take n old) f) p k (get_or fields f [])) → AreKept new (without_row p rows)
-  kept_removed new old n k there all product is f lt =
-      is f ∙ ap (λ c. without_posting (value_of c f) p k (get_or fields f [])) (whole n old all) ∙ ap (λ q. without_posting (value_of old f) p q (get_or fields f [])) product
-      ∙ ap (without_posting (value_of old f) p (product_of old)) (kept.1 f lt) ∙ removed f p old rows kept.0 there
+  pub kept_removed : (new : List (List Posting)) (old : List Cell) (n : ℕ) → row_at p rows ≡ Some (p, old) → n ≡ length old
+      → ((f : ℕ) → get_or new f [] ≡ without_posting (value_of (take n old) f) p (get_or fields f [])) → AreKept new (without_row p rows)
+  kept_removed new old n there all is f lt =
+      is f ∙ ap (λ c. without_posting (value_of c f) p (get_or fields f [])) (whole n old all)
+      ∙ ap (without_posting (value_of old f) p) (kept.1 f lt) ∙ removed f p old rows kept.0 there
 
-  module _ (row : List Cell) (k : Option (List ℕ)) (product : k ≡ product_of row) (more : List (List Posting)) (added : (f : ℕ) → f < 36 → get_or more f [] ≡ with_posting (value_of row f) p k (get_or fields f [])) where
-    added_to : (f : ℕ) → f < 36 → get_or more f [] ≡ with_posting (value_of row f) p (product_of row) (index_of f rows)
-    added_to f lt = added f lt ∙ ap (λ q. with_posting (value_of row f) p q (get_or fields f [])) product ∙ ap (with_posting (value_of row f) p (product_of row)) (kept.1 f lt)
+  module _ (row : List Cell) (more : List (List Posting)) (added : (f : ℕ) → f < 36 → get_or more f [] ≡ with_posting (value_of row f) p (get_or fields f [])) where
+    added_to : (f : ℕ) → f < 36 → get_or more f [] ≡ with_posting (value_of row f) p (index_of f rows)
+    added_to f lt = added f lt ∙ ap (with_posting (value_of row f) p) (kept.1 f lt)
 
     pub kept_inserted : row_at p rows ≡ None → AreKept more (with_row (p, row) rows)
     kept_inserted none f lt = added_to f lt ∙ inserted f p row rows kept.0 none
 
-    pub kept_replaced : (new : List (List Posting)) (old : List Cell) (n : ℕ) (l : Option (List ℕ)) → row_at p rows ≡ Some (p, old) → n ≡ length old → l ≡ product_of old
-        → ((f : ℕ) → get_or new f [] ≡ without_posting (value_of (take n old) f) p l (get_or more f [])) → AreKept new (with_row (p, row) rows)
-    kept_replaced new old n l there all old_product is f lt =
-        is f ∙ ap (λ c. without_posting (value_of c f) p l (get_or more f [])) (whole n old all) ∙ ap (λ q. without_posting (value_of old f) p q (get_or more f [])) old_product
-        ∙ ap (without_posting (value_of old f) p (product_of old)) (added_to f lt) ∙ replaced f p row old rows kept.0 there
+    pub kept_replaced : (new : List (List Posting)) (old : List Cell) (n : ℕ) → row_at p rows ≡ Some (p, old) → n ≡ length old
+        → ((f : ℕ) → get_or new f [] ≡ without_posting (value_of (take n old) f) p (get_or more f [])) → AreKept new (with_row (p, row) rows)
+    kept_replaced new old n there all is f lt =
+        is f ∙ ap (λ c. without_posting (value_of c f) p (get_or more f [])) (whole n old all)
+        ∙ ap (without_posting (value_of old f) p) (added_to f lt) ∙ replaced f p row old rows kept.0 there
 
-    pub kept_undone : (new : List (List Posting)) (same : List Cell) (n : ℕ) (l : Option (List ℕ)) → same ≡ row → n ≡ length same → l ≡ product_of same
-        → ((f : ℕ) → get_or new f [] ≡ without_posting (value_of (take n same) f) p l (get_or more f [])) → AreKept new rows
-    kept_undone new same n l one all same_product is f lt =
-        is f ∙ ap (λ c. without_posting (value_of c f) p l (get_or more f [])) (whole n same all ∙ one) ∙ ap (λ q. without_posting (value_of row f) p q (get_or more f [])) (same_product ∙ ap product_of one)
-        ∙ ap (without_posting (value_of row f) p (product_of row)) (added_to f lt)
-        ∙ without_posting-with_posting (value_of row f) p (product_of row) (index_of f rows) (postings_of_rows f rows)
+    pub kept_undone : (new : List (List Posting)) (same : List Cell) (n : ℕ) → same ≡ row → n ≡ length same
+        → ((f : ℕ) → get_or new f [] ≡ without_posting (value_of (take n same) f) p (get_or more f [])) → AreKept new rows
+    kept_undone new same n one all is f lt =
+        is f ∙ ap (λ c. without_posting (value_of c f) p (get_or more f [])) (whole n same all ∙ one)
+        ∙ ap (without_posting (value_of row f) p) (added_to f lt)
+        ∙ without_posting-with_posting (value_of row f) p (index_of f rows) (postings_of_rows f rows)
+
+above_some : (P : ℕ × List Cell → Type 0) (test : ℕ × List Cell → Bool) (rows : List (ℕ × List Cell)) → AllByRecursion P rows → AllByRecursion P (filter test rows)
+above_some P test [] all = tt
+above_some P test (s ∷ ss) all =
+    cond_both (test s) (s ∷ filter test ss) (filter test ss) (AllByRecursion P) (λ _. (all.0, above_some P test ss all.1)) (λ _. above_some P test ss all.1)
+
+-- a row below others changes nothing at their places
+products_above : (s : ℕ × List Cell) (rows ts : List (ℕ × List Cell)) → AllByRecursion (λ t. nat_cmp s.0 t.0 ≡ Less) ts → map (product_at (s ∷ rows)) (map (λ t. t.0) ts) ≡ map (product_at rows) (map (λ t. t.0) ts)
+products_above s rows [] above = refl
+products_above s rows (t ∷ ts) above =
+    let apart : is_eq (nat_cmp t.0 s.0) ≡ false = ap is_eq (nat_cmp_total.antisymm t.0 s.0 ∙ ap ordering_reverse above.0) in
+    let there : product_at (s ∷ rows) t.0 ≡ product_at rows t.0 = ap (λ b. option_map_or (λ u. product_of u.1) (cond b (Some s) (row_at t.0 rows)) None) apart in
+    ap (λ q. q ∷ map (product_at (s ∷ rows)) (map (λ u. u.0) ts)) there ∙ ap (λ l. product_at rows t.0 ∷ l) (products_above s rows ts above.1)
+
+-- the products of the rows at the places of some rows
+pub products_there : (rows : List (ℕ × List Cell)) (test : ℕ × List Cell → Bool) → PlacesRise rows → map (product_at rows) (map (λ s. s.0) (filter test rows)) ≡ map (λ s. product_of s.1) (filter test rows)
+products_there [] test rise = refl
+products_there (s ∷ ss) test rise =
+    let rest : map (product_at (s ∷ ss)) (map (λ t. t.0) (filter test ss)) ≡ map (λ t. product_of t.1) (filter test ss) =
+    products_above s ss (filter test ss) (above_some (λ t. nat_cmp s.0 t.0 ≡ Less) test ss rise.0) ∙ products_there ss test rise.1 in
+    let here : product_at (s ∷ ss) s.0 ≡ product_of s.1 = ap (λ b. option_map_or (λ u. product_of u.1) (cond b (Some s) (row_at s.0 ss)) None) (ap is_eq (tied_itself nat_cmp_total s.0)) in
+    cond_both (test s) (s ∷ filter test ss) (filter test ss) (λ l. map (product_at (s ∷ ss)) (map (λ t. t.0) l) ≡ map (λ t. product_of t.1) l)
+    (λ _. ap (λ q. q ∷ map (product_at (s ∷ ss)) (map (λ t. t.0) (filter test ss))) here ∙ ap (λ l. product_of s.1 ∷ l) rest) (λ _. rest)
 
 pub entry_count : {E : Type 0} (place : E → ℕ) (row : E → List Cell) (es : List E) → length (rows_in place row es) ≡ length es
 entry_count {E = E} place row es = let pair : E → ℕ × List Cell = λ x. (place x, row x) in length-map es pair

@@ -1,6 +1,7 @@
 -- What a store holds: a list of places and rows, and what counting over it gives.
 use Rattle.std.specs.Prelude.{ℕ, ◌+◌, Bool, List, [], ◌∷◌, Option, None, Some, map}
 use Rattle.std.specs.List.{list_any}
+use Rattle.std.specs.Option.{option_map_or}
 use Rattle.std.specs.Ordering.{nat_cmp}
 use Rattle.soc_schema.specs.declared.value.Value.{Value}
 use Rattle.soc_schema.specs.declared.value.Cell.{Cell}
@@ -29,6 +30,14 @@ without_row p rows = prune (λ t. t.0) nat_cmp p (λ _. None) rows
 -- the place and the row at the place
 abbrev pub row_at : ℕ → List (ℕ × List Cell) → Option (ℕ × List Cell)
 row_at p rows = at_key (λ t. t.0) nat_cmp p rows
+
+-- the value that the row at a place has of the field
+abbrev pub value_at : ℕ → ℕ → List (ℕ × List Cell) → Option Value
+value_at p f rows = option_map_or (λ s. value_of s.1 f) (row_at p rows) None
+
+-- the product of the row at a place
+abbrev pub product_at : List (ℕ × List Cell) → ℕ → Option (List ℕ)
+product_at rows p = option_map_or (λ s. product_of s.1) (row_at p rows) None
 
 -- the places of the rows that have the value of the field
 abbrev pub places_of : ℕ → Value → List (ℕ × List Cell) → List ℕ

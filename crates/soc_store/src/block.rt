@@ -1,4 +1,4 @@
-// A block of a field's values in rising order, each with its places and counts.
+// A block of a field's values in rising order, each with its places.
 ghost use Rattle.std.specs.Prelude.{◌≡◌, ◌<◌, ◌≤◌, ◌++◌, ℕ, List, [], None, Some, OnOk, OnErr, IfOk, length, map, slice_get, option_map};
 ghost use Rattle.std.specs.Option.{IfSome, option_copied};
 ghost use Rattle.soc_schema.specs.declared.value.Value.{Value};
@@ -10,7 +10,7 @@ ghost use Rattle.soc_schema.specs.Tables.{FindsKey, Rising, at_key};
 use crate::key::key_of;
 use crate::slot::Slot;
 use crate::term::Term;
-use soc_base::{NoMemory, SharedText};
+use soc_base::NoMemory;
 use soc_schema::Value;
 use std::alloc::Global;
 use std::cmp::Ordering;
@@ -46,24 +46,18 @@ impl Block {
     }
 
     /// One more row that has the value.
-    pub(crate) fn add(
-        &mut self,
-        alloc: Global,
-        value: &Value,
-        place: u32,
-        product: Option<&SharedText>,
-    ) -> Result<(), NoMemory>
+    pub(crate) fn add(&mut self, alloc: Global, value: &Value, place: u32) -> Result<(), NoMemory>
         ensures ok { OnOk result (self.new
-            ≡ with_posting (Some value.now) place (option_copied product.entry) self.old) }
+            ≡ with_posting (Some value.now) place self.old) }
         ensures err { OnErr result (self.new ≡ self.old) }
     {
         match place_in(self.slots.as_slice(), value) {
             Ok(i) => {
                 let slot = &mut self.slots[i];
-                slot.add(place, product)?;
+                slot.add(place)?;
             }
             Err(i) => {
-                let slot = Slot::new(alloc, value, place, product)?;
+                let slot = Slot::new(alloc, value, place)?;
                 self.slots.insert(i, slot)?;
             }
         }
@@ -71,13 +65,12 @@ impl Block {
     }
 
     /// One row less that has the value.
-    pub(crate) fn remove(&mut self, value: &Value, place: u32, product: Option<&SharedText>)
-        ensures { self.new ≡ without_posting (Some value.now) place
-            (option_copied product.entry) self.old }
+    pub(crate) fn remove(&mut self, value: &Value, place: u32)
+        ensures { self.new ≡ without_posting (Some value.now) place self.old }
     {
         if let Ok(i) = place_in(self.slots.as_slice(), value) {
             let slot = &mut self.slots[i];
-            if slot.remove(place, product) {
+            if slot.remove(place) {
                 let _ = self.slots.remove(i);
             }
         }

@@ -1,18 +1,20 @@
 // Counts of products, in rising order of products.
-ghost use Rattle.std.specs.Prelude.{◌≡◌, OnOk, OnErr, IfOk};
+ghost use Rattle.std.specs.Prelude.{◌≡◌, [], IfOk, OnOk, map};
 ghost use Rattle.std.specs.Option.{option_copied};
-ghost use Rattle.soc_store.specs.Orders.{product_cmp};
-ghost use Rattle.soc_store.specs.inner.Postings.{uncounted};
-ghost use Rattle.soc_store.specs.Stored.{counted};
+ghost use Rattle.soc_schema.specs.Values.{product_of};
 ghost use Rattle.soc_schema.specs.Tables.{FindsKey, Rising};
+ghost use Rattle.soc_store.specs.Orders.{product_cmp};
+ghost use Rattle.soc_store.specs.Stored.{counted, product_at, tally};
 
 use crate::order::compare_products;
-use smallvec::SmallVec;
+use crate::rows::Rows;
 use soc_base::{NoMemory, SharedText};
+use soc_schema::{Field, Row, Value};
+use std::alloc::Global;
 use std::cmp::Ordering;
 
 /// How many rows there are of a product, or without one.
-#[derive(Debug, Default, Drop)]
+#[derive(Debug, Drop)]
 pub struct ProductCount {
     /// The product, where there is one.
     pub product: Option<SharedText>,
@@ -20,22 +22,50 @@ pub struct ProductCount {
     pub count: u64,
 }
 
-/// Counts of products. Most values have rows of one product alone, whose count needs no memory of its own.
-pub(crate) type Counts = SmallVec<ProductCount, 1>;
+/// How many of the rows at the places there are of each product.
+pub(crate) fn counts_at(
+    alloc: Global,
+    rows: &Rows,
+    places: &[u32],
+) -> Result<Vec<ProductCount>, NoMemory>
+    ensures { IfOk result (λ counts. counts.items ≡ tally (map (product_at rows.now) places.now)) }
+{
+    let mut counts = Vec::new(alloc);
+    for i in (0..places.len()).rev() {
+        count_one(&mut counts, product_at(rows, places[i]))?;
+    }
+    Ok(counts)
+}
+
+/// The product of the row at a place.
+fn product_at(rows: &Rows, place: u32) -> Option<&SharedText>
+    ensures { option_copied result ≡ product_at rows.now place }
+{
+    product_of(rows.get(place)?)
+}
+
+/// A row's product, where it has one.
+fn product_of(row: &Row) -> Option<&SharedText>
+    ensures { option_copied result ≡ product_of row.now }
+{
+    match row.get(Field::PRODUCT) {
+        Some(Value::Text(text)) => Some(text),
+        _ => None,
+    }
+}
 
 /// Counts one more of the product.
-pub(crate) fn count_one(counts: &mut Counts, product: Option<&SharedText>) -> Result<(), NoMemory>
+fn count_one(counts: &mut Vec<ProductCount>, product: Option<&SharedText>) -> Result<(), NoMemory>
     requires { Rising (λ c. c.product) product_cmp counts.old.items }
-    ensures ok { OnOk result (counts.new.items
+    ensures { OnOk result (counts.new.items
         ≡ counted (option_copied product.entry) counts.old.items) }
-    ensures err { OnErr result (counts.new.items ≡ counts.old.items) }
 {
     match place_in(counts.as_slice(), product) {
         Ok(i) => {
-            let Some(more) = counts.as_slice()[i].count.checked_add(1) else {
+            let Some(more) = counts[i].count.checked_add(1) else {
                 return Err(NoMemory);
             };
-            counts.as_mut_slice()[i].count = more;
+            counts[i].count = more;
         }
         Err(i) => {
             let product = shared(product)?;
@@ -43,20 +73,6 @@ pub(crate) fn count_one(counts: &mut Counts, product: Option<&SharedText>) -> Re
         }
     }
     Ok(())
-}
-
-/// Counts one less of the product.
-pub(crate) fn count_less(counts: &mut Counts, product: Option<&SharedText>)
-    requires { Rising (λ c. c.product) product_cmp counts.old.items }
-    ensures { counts.new.items ≡ uncounted (option_copied product.entry) counts.old.items }
-{
-    if let Ok(i) = place_in(counts.as_slice(), product) {
-        if counts.as_slice()[i].count > 1 {
-            counts.as_mut_slice()[i].count -= 1;
-        } else {
-            let _ = counts.remove(i);
-        }
-    }
 }
 
 /// Where the product's count stands, or else where it would stand.

@@ -1,4 +1,4 @@
-// What is kept of a field: its values in rising order, each with its places and counts.
+// What is kept of a field: its values in rising order, each with its places.
 ghost use Rattle.std.specs.Prelude.{◌≡◌, ◌<◌, [], Some, OnOk, OnErr, length, map, slice_get};
 ghost use Rattle.std.specs.Option.{IfSome, option_copied};
 ghost use Rattle.soc_schema.specs.Orders.{value_cmp};
@@ -7,7 +7,7 @@ ghost use Rattle.soc_schema.specs.Tables.{at_key};
 
 use crate::parts::{Part, add_value, count_near, part_of, remove_value, term_near, total};
 use crate::term::Term;
-use soc_base::{NoMemory, SharedText};
+use soc_base::NoMemory;
 use soc_schema::Value;
 use std::alloc::Global;
 use std::marker::Model;
@@ -41,26 +41,19 @@ impl Index {
     }
 
     /// One more row that has the value.
-    pub(crate) fn add(
-        &mut self,
-        alloc: Global,
-        value: &Value,
-        place: u32,
-        product: Option<&SharedText>,
-    ) -> Result<(), NoMemory>
+    pub(crate) fn add(&mut self, alloc: Global, value: &Value, place: u32) -> Result<(), NoMemory>
         ensures ok { OnOk result (self.new
-            ≡ with_posting (Some value.now) place (option_copied product.entry) self.old) }
+            ≡ with_posting (Some value.now) place self.old) }
         ensures err { OnErr result (self.new ≡ self.old) }
     {
-        add_value(alloc, &mut self.parts, value, place, product)
+        add_value(alloc, &mut self.parts, value, place)
     }
 
     /// One row less that has the value.
-    pub(crate) fn remove(&mut self, value: &Value, place: u32, product: Option<&SharedText>)
-        ensures { self.new ≡ without_posting (Some value.now) place
-            (option_copied product.entry) self.old }
+    pub(crate) fn remove(&mut self, value: &Value, place: u32)
+        ensures { self.new ≡ without_posting (Some value.now) place self.old }
     {
-        remove_value(&mut self.parts, value, place, product);
+        remove_value(&mut self.parts, value, place);
     }
 
     /// How many values there are.

@@ -1,4 +1,4 @@
-//! Rows at places, with the places of each value and the running counts by product.
+//! Rows at places, with the places of each value.
 #![tactic(auto)]
 
 mod block;

@@ -1,7 +1,7 @@
 // A field's values in blocks, so that one more moves few of them.
 ghost use Rattle.std.specs.Prelude.{◌≡◌, ◌<◌, ◌≤◌, ◌+◌, ◌^◌, ℕ, List, [], Some, OnOk, OnErr, length, take, drop, map, slice_get, slice_index_or, slice_set};
 ghost use Rattle.std.specs.List.{AllByRecursion};
-ghost use Rattle.std.specs.Option.{IfSome, option_copied};
+ghost use Rattle.std.specs.Option.{IfSome};
 ghost use Rattle.std.specs.declared.cmp.Ordering.TheVariants.{Less, Greater};
 ghost use Rattle.soc_schema.specs.Orders.{value_cmp};
 ghost use Rattle.soc_schema.specs.Tables.{Rising};
@@ -11,7 +11,7 @@ ghost use Rattle.soc_store.specs.inner.Postings.{Posting, with_posting, without_
 use crate::block::Block;
 use crate::key::key_of;
 use crate::term::Term;
-use soc_base::{NoMemory, SharedText};
+use soc_base::NoMemory;
 use soc_schema::Value;
 use std::alloc::Global;
 use std::cmp::Ordering;
@@ -32,34 +32,28 @@ pub(crate) fn add_value(
     parts: &mut Vec<Part>,
     value: &Value,
     place: u32,
-    product: Option<&SharedText>,
 ) -> Result<(), NoMemory>
     requires { AreParts parts.old.items }
     ensures parts { AreParts parts.new.items }
     ensures ok { OnOk result (postings_in parts.new.items
-        ≡ with_posting (Some value.now) place (option_copied product.entry)
+        ≡ with_posting (Some value.now) place
         (postings_in parts.old.items)) }
     ensures err { OnErr result (postings_in parts.new.items ≡ postings_in parts.old.items) }
 {
     begin(alloc, parts)?;
     let k = part_of(parts, value);
     let block = &mut parts[k].block;
-    block.add(alloc, value, place, product)?;
+    block.add(alloc, value, place)?;
     settle(alloc, parts, k);
     Ok(())
 }
 
 /// One row less that has the value.
-pub(crate) fn remove_value(
-    parts: &mut Vec<Part>,
-    value: &Value,
-    place: u32,
-    product: Option<&SharedText>,
-)
+pub(crate) fn remove_value(parts: &mut Vec<Part>, value: &Value, place: u32)
     requires { AreParts parts.old.items }
     ensures parts { AreParts parts.new.items }
     ensures left { postings_in parts.new.items
-        ≡ without_posting (Some value.now) place (option_copied product.entry)
+        ≡ without_posting (Some value.now) place
         (postings_in parts.old.items) }
 {
     if parts.is_empty() {
@@ -67,7 +61,7 @@ pub(crate) fn remove_value(
     }
     let k = part_of(parts, value);
     let block = &mut parts[k].block;
-    block.remove(value, place, product);
+    block.remove(value, place);
     drop_empty(parts, k);
     recount(parts);
 }

@@ -1,6 +1,5 @@
 // What stands in a block for a value.
 ghost use Rattle.std.specs.Prelude.{◌≡◌, ◌↔◌, IsTrue, [], None, Some, OnOk, OnErr, IfOk, length};
-ghost use Rattle.std.specs.Option.{option_copied};
 ghost use Rattle.soc_schema.specs.Orders.{value_cmp};
 ghost use Rattle.soc_store.specs.inner.Keys.{key_of};
 ghost use Rattle.soc_store.specs.inner.Postings.{posted, shrunk};
@@ -8,7 +7,7 @@ ghost use Rattle.soc_store.specs.inner.Postings.{posted, shrunk};
 use crate::key::key_of;
 use crate::order::compare_values;
 use crate::term::Term;
-use soc_base::{NoMemory, SharedText};
+use soc_base::NoMemory;
 use soc_schema::Value;
 use std::alloc::Global;
 use std::cmp::Ordering;
@@ -38,16 +37,11 @@ impl Model for Slot {
 
 impl Slot {
     /// The value with one row.
-    pub(crate) fn new(
-        alloc: Global,
-        value: &Value,
-        place: u32,
-        product: Option<&SharedText>,
-    ) -> Result<Slot, NoMemory>
+    pub(crate) fn new(alloc: Global, value: &Value, place: u32) -> Result<Slot, NoMemory>
         ensures { IfOk result (λ slot. slot
-            ≡ posted value.now place (option_copied product.entry) None) }
+            ≡ posted value.now place None) }
     {
-        let term = Box::new(alloc, Term::new(alloc, value, place, product)?)?;
+        let term = Box::new(alloc, Term::new(alloc, value, place)?)?;
         let count = term.places().len();
         Ok(Slot {
             key: key_of(value),
@@ -57,24 +51,24 @@ impl Slot {
     }
 
     /// One more row that has the value.
-    pub(crate) fn add(&mut self, place: u32, product: Option<&SharedText>) -> Result<(), NoMemory>
+    pub(crate) fn add(&mut self, place: u32) -> Result<(), NoMemory>
         ensures ok { OnOk result (self.new
-            ≡ posted self.old.value place (option_copied product.entry) (Some self.old)) }
+            ≡ posted self.old.value place (Some self.old)) }
         ensures err { OnErr result (self.new ≡ self.old) }
     {
         let term: &mut Term = &mut self.term;
-        term.add(place, product)?;
+        term.add(place)?;
         self.count = self.term.places().len();
         Ok(())
     }
 
     /// One row less that has the value. Answers whether none is left.
-    pub(crate) fn remove(&mut self, place: u32, product: Option<&SharedText>) -> bool
-        ensures left { self.new ≡ shrunk place (option_copied product.entry) self.old }
+    pub(crate) fn remove(&mut self, place: u32) -> bool
+        ensures left { self.new ≡ shrunk place self.old }
         ensures none { IsTrue result ↔ (self.new.places ≡ []) }
     {
         let term: &mut Term = &mut self.term;
-        let none = term.remove(place, product);
+        let none = term.remove(place);
         self.count = self.term.places().len();
         none
     }

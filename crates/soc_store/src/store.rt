@@ -1,14 +1,14 @@
 //! Rows at places.
-ghost use Rattle.std.specs.Prelude.{slice_index_or, ◌≡◌, ◌<◌, ◌+◌, ◌^◌, ℕ, Bool, List, [], Some, OnOk, OnErr, IfErr, IfSome, length, map, slice_get, option_map, filter, All, Contains};
+ghost use Rattle.std.specs.Prelude.{slice_index_or, ◌≡◌, ◌<◌, ◌+◌, ◌^◌, ℕ, Bool, List, [], Some, IfOk, OnOk, OnErr, IfErr, IfSome, length, map, slice_get, option_map, filter, All, Contains};
 ghost use Rattle.soc_schema.specs.declared.value.Cell.{Cell};
 ghost use Rattle.soc_schema.specs.Rows.{value_of};
 ghost use Rattle.std.specs.Option.{option_copied};
 ghost use Rattle.soc_schema.specs.Orders.{value_cmp};
-ghost use Rattle.soc_schema.specs.Values.{product_of, values_of};
-ghost use Rattle.soc_store.specs.Stored.{PlacesRise, counts_of, places_of, row_at, some_has, with_row, without_row};
+ghost use Rattle.soc_schema.specs.Values.{values_of};
+ghost use Rattle.soc_store.specs.Stored.{PlacesRise, counts_of, places_of, row_at, some_has, value_at, with_row, without_row};
 ghost use Rattle.soc_schema.specs.Tables.{Rising};
 
-use crate::counts::ProductCount;
+use crate::counts::{ProductCount, counts_at};
 use crate::index::Index;
 use crate::rows::Rows;
 use crate::values::{add_values, known_text, remove_values, share_known};
@@ -19,7 +19,7 @@ use std::alloc::Global;
 use std::marker::Model;
 use std::sync::ledger::Ledger;
 
-/// Rows at places, with the places of each value and running counts by product.
+/// Rows at places, with the places of each value.
 #[derive(Debug, Drop)]
 pub struct Store {
     rows: Rows,
@@ -96,31 +96,15 @@ impl Store {
         self.fields[usize::from(field.place())].value_at(i)
     }
 
-    /// The `i`th of them, from 0, with the places of the rows that have it and how many there are of each product.
-    pub fn term_at(&self, field: Field, i: usize) -> (&Value, &[u32], &[ProductCount])
+    /// The `i`th of them, from 0, with the places of the rows that have it. It is found at once where `near` is what
+    /// the call for the value before it left there, and else in a logarithm.
+    pub fn term_near(&self, field: Field, i: usize, near: &mut usize) -> (&Value, &[u32])
         requires { i < length (values_of field self.now) }
         ensures value { slice_get (values_of field self.now) i ≡ Some result.0.now }
         ensures places { result.1.now ≡ places_of field result.0.now self.now }
-        ensures counts { result.2.now ≡ counts_of field result.0.now self.now }
-    {
-        self.term_near(field, i, &mut 0)
-    }
-
-    /// The same, which is found at once where `near` is what the call for the value before it left there, and else in
-    /// a logarithm.
-    pub fn term_near(
-        &self,
-        field: Field,
-        i: usize,
-        near: &mut usize,
-    ) -> (&Value, &[u32], &[ProductCount])
-        requires { i < length (values_of field self.now) }
-        ensures value { slice_get (values_of field self.now) i ≡ Some result.0.now }
-        ensures places { result.1.now ≡ places_of field result.0.now self.now }
-        ensures counts { result.2.now ≡ counts_of field result.0.now self.now }
     {
         let term = self.fields[usize::from(field.place())].term_near(i, near);
-        (term.value(), term.places(), term.counts())
+        (term.value(), term.places())
     }
 
     /// How many rows have the `i`th value, from 0, which is found as by `term_near`.
@@ -143,14 +127,23 @@ impl Store {
     }
 
     /// How many of those rows there are of each product: those without a product first, then the products in rising
-    /// byte order.
-    pub fn counts(&self, field: Field, value: &Value) -> &[ProductCount]
-        ensures { result.now ≡ counts_of field value.now self.now }
+    /// byte order. They are counted by the call.
+    pub fn counts(
+        &self,
+        alloc: Global,
+        field: Field,
+        value: &Value,
+    ) -> Result<Vec<ProductCount>, NoMemory>
+        ensures { IfOk result (λ counts. counts.items ≡ counts_of field value.now self.now) }
     {
-        match self.fields[usize::from(field.place())].term(value) {
-            Some(term) => term.counts(),
-            None => &[],
-        }
+        counts_at(alloc, &self.rows, self.places(field, value))
+    }
+
+    /// The value that the row at a place has of a field. It is no step.
+    pub fn row_value(&self, place: u32, field: Field) -> Option<&Value>
+        ensures { option_copied result ≡ value_at place field self.now }
+    {
+        self.rows.get(place)?.get(field)
     }
 
     /// The row at the place. It is one step.
@@ -179,17 +172,17 @@ impl Store {
         ensures err { OnErr result (self.new ≡ self.old) }
         ensures back { IfErr result (λ back. back.0 ≡ row) }
     {
-        if let Err(error) = add_values(alloc, &mut self.fields, &row, place, product_of(&row)) {
+        if let Err(error) = add_values(alloc, &mut self.fields, &row, place) {
             return Err((row, error));
         }
         match self.rows.put(alloc, place, row) {
             Ok(None) => Ok(()),
             Ok(Some(old)) => {
-                remove_values(&mut self.fields, &old, old.len(), place, product_of(&old));
+                remove_values(&mut self.fields, &old, old.len(), place);
                 Ok(())
             }
             Err(row) => {
-                remove_values(&mut self.fields, &row, row.len(), place, product_of(&row));
+                remove_values(&mut self.fields, &row, row.len(), place);
                 Err((row, NoMemory))
             }
         }
@@ -213,18 +206,8 @@ impl Store {
         ensures left { self.new ≡ without_row place self.old }
     {
         let row = self.rows.take(place)?;
-        remove_values(&mut self.fields, &row, row.len(), place, product_of(&row));
+        remove_values(&mut self.fields, &row, row.len(), place);
         Some(row)
-    }
-}
-
-/// A row's product, where it has one.
-fn product_of(row: &Row) -> Option<&SharedText>
-    ensures { option_copied result ≡ product_of row.now }
-{
-    match row.get(Field::PRODUCT) {
-        Some(Value::Text(text)) => Some(text),
-        _ => None,
     }
 }
 

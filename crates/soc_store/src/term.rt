@@ -1,11 +1,9 @@
-// A value with the places of the rows that have it and their counts by product.
+// A value with the places of the rows that have it.
 ghost use Rattle.std.specs.Prelude.{◌≡◌, ◌<◌, ◌≤◌, ℕ, List, [], None, IsTrue, ◌↔◌, Some, OnOk, OnErr, IfOk, length, slice_index};
-ghost use Rattle.std.specs.Option.{option_copied};
 ghost use Rattle.soc_store.specs.inner.Postings.{PlacesInOrder, posted, shrunk, without_place};
 
-use crate::counts::{Counts, ProductCount, count_less, count_one};
 use smallvec::SmallVec;
-use soc_base::{NoMemory, SharedText};
+use soc_base::NoMemory;
 use soc_schema::Value;
 use std::alloc::Global;
 use std::marker::Model;
@@ -13,73 +11,54 @@ use std::marker::Model;
 /// The places of rows. Most values have few rows, whose places need no memory of their own.
 type Places = SmallVec<u32, 4>;
 
-/// A value, the places of the rows that have it in rising order, and how many of them there are of each product.
+/// A value, and the places of the rows that have it in rising order.
 #[derive(Debug, Drop)]
 pub(crate) struct Term {
     value: Value,
     places: Places,
-    counts: Counts,
 }
 
 impl Model for Term {
-    ghost use Rattle.soc_store.specs.Orders.{product_cmp};
     ghost use Rattle.soc_store.specs.inner.Postings.{Posting, PlacesInOrder};
-    ghost use Rattle.soc_schema.specs.Tables.{Rising};
 
     ghost Value = { Posting };
 
-    ghost view = { λ t. record { value = t.value; places = t.places.items; counts = t.counts.items } };
+    ghost view = { λ t. record { value = t.value; places = t.places.items } };
 
-    ghost invariant = { λ t. PlacesInOrder t.places.items
-        × Rising (λ c. c.product) product_cmp t.counts.items };
+    ghost invariant = { λ t. PlacesInOrder t.places.items };
 }
 
 impl Term {
     /// The value with one row.
-    pub(crate) fn new(
-        alloc: Global,
-        value: &Value,
-        place: u32,
-        product: Option<&SharedText>,
-    ) -> Result<Term, NoMemory>
+    pub(crate) fn new(alloc: Global, value: &Value, place: u32) -> Result<Term, NoMemory>
         ensures { IfOk result (λ term. term
-            ≡ posted value.now place (option_copied product.entry) None) }
+            ≡ posted value.now place None) }
     {
         let mut places: Places = SmallVec::new(alloc);
         places.push(place)?;
-        let mut counts: Counts = SmallVec::new(alloc);
-        count_one(&mut counts, product)?;
         Ok(Term {
             value: value.share()?,
             places,
-            counts,
         })
     }
 
     /// One more row that has the value.
-    pub(crate) fn add(&mut self, place: u32, product: Option<&SharedText>) -> Result<(), NoMemory>
+    pub(crate) fn add(&mut self, place: u32) -> Result<(), NoMemory>
         ensures ok { OnOk result (self.new
-            ≡ posted self.old.value place (option_copied product.entry) (Some self.old)) }
+            ≡ posted self.old.value place (Some self.old)) }
         ensures err { OnErr result (self.new ≡ self.old) }
     {
         let i = place_after(self.places.as_slice(), place);
         self.places.insert(i, place)?;
-        match count_one(&mut self.counts, product) {
-            Ok(()) => Ok(()),
-            Err(error) => {
-                let _ = self.places.remove(i);
-                Err(error)
-            }
-        }
+        Ok(())
     }
 
     /// One row less that has the value. Answers whether none is left.
-    pub(crate) fn remove(&mut self, place: u32, product: Option<&SharedText>) -> bool
-        ensures left { self.new ≡ shrunk place (option_copied product.entry) self.old }
+    pub(crate) fn remove(&mut self, place: u32) -> bool
+        ensures left { self.new ≡ shrunk place self.old }
         ensures none { IsTrue result ↔ (self.new.places ≡ []) }
     {
         remove_place(&mut self.places, place);
-        count_less(&mut self.counts, product);
         self.places.is_empty()
     }
 
@@ -95,13 +74,6 @@ impl Term {
         ensures { result.now ≡ self.now.places }
     {
         self.places.as_slice()
-    }
-
-    /// How many of them there are of each product.
-    pub(crate) fn counts(&self) -> &[ProductCount]
-        ensures { result.now ≡ self.now.counts }
-    {
-        self.counts.as_slice()
     }
 }
 

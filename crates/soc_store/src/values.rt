@@ -1,6 +1,5 @@
 // The values of a row, into the fields' postings and out of them.
 ghost use Rattle.std.specs.Prelude.{◌≡◌, ◌<◌, ◌≤◌, ℕ, [], OnOk, OnErr, length, slice_index_or, take};
-ghost use Rattle.std.specs.Option.{option_copied};
 ghost use Rattle.soc_schema.specs.Rows.{value_of};
 ghost use Rattle.soc_store.specs.inner.Postings.{ArePostings, with_posting, without_posting};
 
@@ -15,13 +14,12 @@ pub(crate) fn add_values(
     fields: &mut [Index],
     row: &Row,
     place: u32,
-    product: Option<&SharedText>,
 ) -> Result<(), NoMemory>
     requires whole { length fields.old ≡ 36 }
     requires postings { (f : ℕ) → f < 36 → ArePostings (slice_index_or fields.old f []) }
     ensures ok { OnOk result ((f : ℕ) → f < 36
         → slice_index_or fields.new f []
-        ≡ with_posting (value_of row.now f) place (option_copied product.entry)
+        ≡ with_posting (value_of row.now f) place
         (slice_index_or fields.old f [])) }
     ensures err { OnErr result ((f : ℕ) → f < 36
         → slice_index_or fields.new f [] ≡ slice_index_or fields.old f []) }
@@ -29,8 +27,8 @@ pub(crate) fn add_values(
     for (added, (field, value)) in row.iter().enumerate() {
         let at = usize::from(field.place());
         let index = &mut fields[at];
-        if let Err(error) = index.add(alloc, value, place, product) {
-            remove_values(fields, row, added, place, product);
+        if let Err(error) = index.add(alloc, value, place) {
+            remove_values(fields, row, added, place);
             return Err(error);
         }
     }
@@ -38,23 +36,17 @@ pub(crate) fn add_values(
 }
 
 /// Takes the first values of a row out of the postings.
-pub(crate) fn remove_values(
-    fields: &mut [Index],
-    row: &Row,
-    count: usize,
-    place: u32,
-    product: Option<&SharedText>,
-)
+pub(crate) fn remove_values(fields: &mut [Index], row: &Row, count: usize, place: u32)
     requires whole { length fields.old ≡ 36 }
     requires within { count ≤ length row.now }
     ensures { (f : ℕ) → slice_index_or fields.new f []
-        ≡ without_posting (value_of (take count row.now) f) place (option_copied product.entry)
+        ≡ without_posting (value_of (take count row.now) f) place
         (slice_index_or fields.old f []) }
 {
     for (field, value) in row.iter().take(count) {
         let at = usize::from(field.place());
         let index = &mut fields[at];
-        index.remove(value, place, product);
+        index.remove(value, place);
     }
 }
 

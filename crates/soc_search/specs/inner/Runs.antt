@@ -1,5 +1,5 @@
 -- Where rising values stand to the run of those that compare as asked with an operand.
-use Rattle.std.specs.Prelude.{ℕ, ◌≡◌, ◌≤◌, ◌<◌, not, Bool, true, false, List, if◌then◌else◌, length, slice_index_or}
+use Rattle.std.specs.Prelude.{ℕ, ◌≡◌, ◌≤◌, ◌<◌, not, Bool, true, false, List, Some, if◌then◌else◌, length, slice_index_or}
 use Rattle.std.specs.Ordering.{is_lt, is_gt}
 use Rattle.std.specs.declared.cmp.Ordering.{Ordering}
 use Rattle.std.specs.declared.cmp.Ordering.TheVariants.{Less, Equal, Greater}
@@ -9,7 +9,9 @@ use Rattle.soc_query.specs.declared.condition.Comparison.{Comparison}
 use Rattle.soc_query.specs.declared.condition.Comparison.TheVariants.{Below, AtMost, Above, AtLeast, Starts}
 use Rattle.soc_search.specs.declared.runs.Edge.{Edge}
 use Rattle.soc_search.specs.declared.runs.Edge.TheVariants.{First, End}
-use Rattle.soc_query.specs.Answers.{compares}
+use Rattle.soc_query.specs.declared.condition.Condition.{Condition}
+use Rattle.soc_query.specs.Answers.{compares, is_exact}
+use Rattle.soc_search.specs.inner.Selections.{is_met}
 
 -- whether the values that compare so with an operand stand in one run
 abbrev pub is_run : Comparison → Bool
@@ -34,6 +36,10 @@ stands how operand v = if compares how operand v then Equal else beside how (val
 abbrev pub comes_before : Edge → Ordering → Bool
 comes_before First r = is_lt r
 comes_before End r = not (is_gt r)
+
+-- the condition asks for no value, and this one doesn't meet it
+abbrev pub Misses : Condition → Value → Type 0
+Misses c v = (is_exact c ≡ false) × (is_met c (Some v) ≡ false)
 
 -- so many of the values pass the test, and they are the first
 abbrev pub IsFront : (Value → Bool) → List Value → ℕ → Type 0

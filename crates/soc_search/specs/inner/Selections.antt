@@ -1,18 +1,17 @@
 -- Which places a set selects, and which values a condition asks about.
-use Rattle.std.specs.Prelude.{◌≡◌, ◌==◌, ◌&&◌, not, if◌then◌else◌, ℕ, Bool, true, false, List, Option, None, Some, map, filter, ⊤}
-use Rattle.std.specs.List.{AllByRecursion}
+use Rattle.std.specs.Prelude.{◌≡◌, ◌==◌, ◌&&◌, not, if◌then◌else◌, ℕ, Bool, true, List, [], Option, None, Some, map, filter, ⊤}
+use Rattle.std.specs.List.{AllByRecursion, list_all, list_any}
 use Rattle.std.specs.Option.{option_map, option_map_or}
-use Rattle.soc_schema.specs.Values.{is_value}
 use Rattle.soc_store.specs.Stored.{places_of, row_at}
 use Rattle.soc_schema.specs.declared.value.Value.{Value}
 use Rattle.soc_schema.specs.declared.value.Cell.{Cell}
-use Rattle.soc_schema.specs.Rows.{value_of}
 use Rattle.soc_query.specs.declared.condition.Test.{Test}
 use Rattle.soc_query.specs.declared.condition.Test.TheVariants.{Absent, Compares}
 use Rattle.soc_query.specs.declared.condition.Condition.{Condition}
 use Rattle.soc_search.specs.declared.leaders.Counted.{Counted}
 use Rattle.soc_query.specs.declared.answer.Term.{Term}
-use Rattle.soc_query.specs.Answers.{compares, is_exact, meets}
+use Rattle.soc_search.specs.declared.selection.Selection.{Selection}
+use Rattle.soc_query.specs.Answers.{is_exact, meets_alone, meets_one, passes}
 use Rattle.soc_search.specs.inner.Places.{has}
 
 -- no set selects each place
@@ -24,30 +23,46 @@ selected (Some pages) p = has pages p
 abbrev pub Selects : (ℕ → Bool) → (List Cell → Bool) → List (ℕ × List Cell) → Type 0
 Selects set test rows = AllByRecursion (λ s. set s.0 ≡ test s.1) rows
 
--- whether the test asks about the value
-abbrev pub chosen : Test → Value → Bool
-chosen Absent v = true
-chosen (Compares how operand) v = compares how operand v
-
--- whether the row has a value that the condition asks about
-abbrev pub has_value : Condition → List Cell → Bool
-has_value c row = option_map_or (chosen c.test) (value_of row c.field) false
-
 abbrev pub operand_in : Test → Option Value
 operand_in Absent = None
 operand_in (Compares how operand) = Some operand
 
--- the value of the field that a condition asks for
-abbrev pub exact_value : ℕ → Condition → Option Value
-exact_value f c = if is_exact c && (c.field == f) then operand_in c.test else None
+-- the value that a condition asks for
+abbrev pub exact_value : Condition → Option Value
+exact_value c = if is_exact c then operand_in c.test else None
 
-abbrev pub reverses : Test → Bool → Bool
-reverses Absent negated = not negated
-reverses (Compares how operand) negated = negated
+-- whether a value of a condition's field, if any, meets it
+abbrev pub is_met : Condition → Option Value → Bool
+is_met c value = if c.negated then not (passes c.test value) else passes c.test value
 
--- whether rows without the values that a condition asks about meet it
-abbrev pub is_reversed : Condition → Bool
-is_reversed c = reverses c.test c.negated
+-- one of the values that are asked for is this one
+abbrev pub one_is_met : List Condition → Option Value → Bool
+one_is_met asked value = list_any (λ c. is_exact c && is_met c value) asked
+
+-- the conditions hold of a value of the field that each asks about
+abbrev pub are_met : List Condition → Option Value → Bool
+are_met asked value = list_all (λ c. if is_exact c then one_is_met asked value else is_met c value) asked
+
+-- rows with the value meet the conditions otherwise than those without the field do
+abbrev pub stands_out : List Condition → Value → Bool
+stands_out asked v = if are_met asked None then not (are_met asked (Some v)) else are_met asked (Some v)
+
+-- the places of the value that a condition asks for, where it meets them all
+abbrev pub hit_places : List Condition → ℕ → List (ℕ × List Cell) → Condition → List ℕ
+hit_places asked f rows c = option_map_or (λ v. if are_met asked (Some v) then places_of f v rows else []) (exact_value c) []
+
+-- the conditions on a field
+abbrev pub asked_of : ℕ → List Condition → List Condition
+asked_of f conditions = filter (λ c. c.field == f) conditions
+
+-- a value of the field is asked for, or none is
+abbrev pub is_turn : Bool → ℕ → List Condition → Bool
+is_turn exact f conditions = if exact then list_any is_exact (asked_of f conditions) else not (list_any is_exact (asked_of f conditions))
+
+-- a row meets the conditions on the fields that are picked
+abbrev pub meets_where : (ℕ → Bool) → List Condition → List Cell → Bool
+meets_where picks conditions row =
+    list_all (λ c. if picks c.field then (if is_exact c then meets_one conditions c.field row else meets_alone row c) else true) conditions
 
 -- a value that was counted, as a term
 abbrev pub as_term : Counted → Term
@@ -57,14 +72,12 @@ as_term c = record { value = c.value.now; count = c.count }
 abbrev pub row_of : List (ℕ × List Cell) → ℕ → Option (List Cell)
 row_of rows p = option_map (λ s. s.1) (row_at p rows)
 
--- the selected rows are among those at the places, if any are named
-abbrev pub AreAmong : (ℕ → Bool) → List (ℕ × List Cell) → Option (List ℕ) → Type 0
-AreAmong set rows None = ⊤
-AreAmong set rows (Some places) = filter set places ≡ map (λ s. s.0) (filter (λ s. set s.0) rows)
+-- the places are those of the selected rows, if they are listed
+abbrev pub AreListed : (ℕ → Bool) → List (ℕ × List Cell) → Option (List ℕ) → Type 0
+AreListed set rows None = ⊤
+AreListed set rows (Some places) = places ≡ map (λ s. s.0) (filter (λ s. set s.0) rows)
 
--- they are the places of the rows that have a value, which each row that meets the conditions has
-pub record AreCandidates (conditions : List Condition) (rows : List (ℕ × List Cell)) (places : List ℕ) : Type 0 where
-  pub field : ℕ
-  pub value : Value
-  pub are : places ≡ places_of field value rows
-  pub each : (row : List Cell) → meets conditions row ≡ true → is_value value (value_of row field) ≡ true
+-- the selected rows are those that pass the test
+abbrev pub Finds : Selection → (List Cell → Bool) → List (ℕ × List Cell) → Type 0
+Finds found test rows =
+    Selects (selected found.set) test rows × AreListed (selected found.set) rows (option_map (λ v. v.items) found.places)

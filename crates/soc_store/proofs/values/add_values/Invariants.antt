@@ -1,5 +1,4 @@
 use Rattle.std.proofs.Common.{◌≡◌, ℕ, [], get_or, take, drop}
-use Rattle.std.specs.Option.{option_copied}
 use Rattle.soc_schema.specs.Rows.{value_of}
 use Rattle.soc_store.specs.inner.Postings.{with_posting}
 use Rattle.soc_store.proofs.values.add_values.Given as goal
@@ -7,5 +6,5 @@ use Rattle.soc_store.proofs.values.add_values.Given as goal
 abbrev pub invariant-loop-added : goal.invariant-loop-added
 invariant-loop-added l = record {
   rest : l.field-iterator ≡ drop l.added l.row;
-  put : (f : ℕ) → get_or l.fields f [] ≡ with_posting (value_of (take l.added l.row) f) l.place (option_copied l.product) (get_or l.initial.fields f []);
+  put : (f : ℕ) → get_or l.fields f [] ≡ with_posting (value_of (take l.added l.row) f) l.place (get_or l.initial.fields f []);
 }

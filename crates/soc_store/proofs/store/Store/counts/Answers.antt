@@ -1,11 +1,15 @@
-use Rattle.std.proofs.Common.{◌∙◌, ap, subst}
-use Rattle.soc_schema.specs.Fields.{IsField}
-use Rattle.soc_store.specs.inner.Postings.{counts_in}
-use Rattle.soc_store.proofs.StoreLemmas.{counts_kept}
+use Rattle.std.proofs.Common.{◌≡◌, ◌∙◌, IfOk, ap, map, subst}
+use Rattle.soc_schema.specs.Rows.{value_of}
+use Rattle.soc_schema.specs.Values.{is_value}
+use Rattle.soc_store.specs.Stored.{PlacesRise, product_at, tally}
+use Rattle.soc_store.proofs.StoreLemmas.{products_there}
 use Rattle.soc_store.proofs.store.Store.counts.Goals as goal
 
-pub returns-in-Some : goal.returns-in-Some
-returns-in-Some c = c.counts.ensures ∙ ap counts_in c.in-Some.ensures ∙ counts_kept c.self.inside.fields c.self.inside.rows c.args.self.now c.self.invariant c.self.view_is c.from.result c.args.field (c.from.ensures ∙ c.place.ensures.value) (subst IsField c.place.ensures.value c.place.ensures.in_table) c.index-self-from.result c.args.value.now
-
-pub returns-in-None : goal.returns-in-None
-returns-in-None c = ap counts_in c.in-None.ensures ∙ counts_kept c.self.inside.fields c.self.inside.rows c.args.self.now c.self.invariant c.self.view_is c.from.result c.args.field (c.from.ensures ∙ c.place.ensures.value) (subst IsField c.place.ensures.value c.place.ensures.in_table) c.index-self-from.result c.args.value.now
+pub returns : goal.returns
+returns c =
+    let now = c.args.self.now in
+    let found = c.places.result.now in
+    subst (λ l. IfOk c.counts_at.result (λ counts. counts.items ≡ l))
+    (ap (λ rows. tally (map (product_at rows) found)) c.self.view_is ∙ ap (λ ps. tally (map (product_at now) ps)) c.places.ensures
+    ∙ ap tally (products_there now (λ s. is_value c.args.value.now (value_of s.1 c.args.field)) (subst PlacesRise c.self.view_is c.self.invariant.0)))
+    c.counts_at.ensures
