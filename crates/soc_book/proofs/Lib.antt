@@ -1,5 +1,6 @@
 pub mod Asking
 pub mod Changes
+pub mod Countings
 pub mod Deciding
 pub mod Filing
 pub mod Gatherings

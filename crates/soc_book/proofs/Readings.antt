@@ -29,13 +29,13 @@ use Rattle.soc_desk.specs.declared.desk.Reply.TheVariants as R
 use Rattle.soc_desk.specs.Asks.{IsStoreFault, IsAltered}
 use Rattle.soc_desk.specs.Basis.{Basis}
 use Rattle.soc_desk.specs.Decisions.{lacked, without}
-use Rattle.soc_desk.specs.Desk.{IfPermitted, Refuses, Step}
+use Rattle.soc_desk.specs.Desk.{IfElse, IfPermitted, Refuses, Step}
 use Rattle.soc_desk.specs.Grows.{Grows, IsGone}
 use Rattle.soc_desk.specs.Kinds.{IsReplyTo}
 use Rattle.soc_desk.specs.Log.{events, raw_of, row_in}
 use Rattle.soc_desk.specs.Reads.{raw_reply, processed_reply, dump_reply, no_crash}
 use Rattle.soc_desk.specs.State.{State, doubted}
-use Rattle.soc_desk.specs.View.{seen_of, view_of}
+use Rattle.soc_desk.specs.View.{is_in, seen_of, view_of}
 use Rattle.soc_desk.proofs.Found.{shows_all}
 use Rattle.soc_desk.proofs.Views.{true_is_not_false}
 use Rattle.soc_book.specs.declared.book.Change.{Change as Pending}
@@ -235,6 +235,43 @@ module _ {basis : Basis} {limits : Limits} {ledger : LedgerState} {rows : List (
           (refl, subst (AllByRecursion (λ cell. IsTrue (is_granted caller cell.field))) (sym own.2) (cells_granted caller own.0))
           (sym has_it.has ∙ ap is_some own.1, (refl, refl)) (λ never. absurd never) (λ never. absurd never)
           (λ is_told. inl (ap Some (seen_row is_told ∙ ap (λ o. option_map_or R.Row (option_map (granted_cells caller) o) (R.Refused F.NotProcessed)) own.1) ∙ ap (λ r. Some (R.Row r)) (sym own.2), refl))
+
+    -- ---- raw crashes for stacks
+
+    if_seen : (A B : Type 0) → is_in (view_of basis state.log caller) id ≡ true → A → IfElse (is_in (view_of basis state.log caller) id) A B
+    if_seen A B seen a = subst (λ b. IfElse b A B) (sym seen) a
+
+    if_unseen : (A B : Type 0) → is_in (view_of basis state.log caller) id ≡ false → B → IfElse (is_in (view_of basis state.log caller) id) A B
+    if_unseen A B unseen b = subst (λ c. IfElse c A B) (sym unseen) b
+
+    pub record_unseen : (refusal : Refusal) → Sees ledger caller id (Err refusal) → Does basis state disk (C.Stack caller id) (R.Refused refusal) state disk'
+    record_unseen F.NoCrash sees =
+        stays (C.Stack caller id) (R.Refused F.NoCrash) (refl, tt) (gone_for sees, (refl, refl)) (λ never. absurd never) (λ never. absurd never)
+        (λ is_told. if_unseen _ _ (ap is_some (none_of is_told sees)) (refl, refl))
+    record_unseen _ sees = absurd sees
+
+    pub record_no_memory : (number : ℕ) → Sees ledger caller id (Ok number) → Does basis state disk (C.Stack caller id) (R.Refused F.NoMemory) state disk'
+    record_no_memory number sees =
+        stays (C.Stack caller id) (R.Refused F.NoMemory) (refl, tt) (held number sees.0, (refl, refl)) (λ never. absurd never) (λ never. absurd never)
+        (λ is_told. if_seen _ _ (in_view is_told number sees) (inr (inl (refl, refl))))
+
+    record_failed : (number : ℕ) (refusal : Refusal) → Sees ledger caller id (Ok number) → IsRead basis state.log id (Err refusal) disk disk' → Does basis state disk (C.Stack caller id) (R.Refused refusal) state disk'
+    record_failed number F.StoreFault sees failed =
+        stays (C.Stack caller id) (R.Refused F.StoreFault) (refl, tt) (held number sees.0, (refl, refl)) (λ _. failed) (λ never. absurd never)
+        (λ is_told. if_seen _ _ (in_view is_told number sees) (inr (inr (refl, (refl, refl)))))
+    record_failed number (F.Altered other) sees altered =
+        stays (C.Stack caller id) (R.Refused (F.Altered other)) (refl, altered.0) (held number sees.0, (refl, refl)) (λ never. absurd never) (λ _. altered.1) (λ is_told. untold altered.1 is_told)
+    record_failed number F.NoMemory sees wanted = record_no_memory number sees
+    record_failed number _ sees never = absurd never
+
+    pub record_unread : (number : ℕ) (refusal : Refusal) → Sees ledger caller id (Ok number) → IsRead basis state.log (id_of ledger number) (Err refusal) disk disk' → Does basis state disk (C.Stack caller id) (R.Refused refusal) state disk'
+    record_unread number refusal sees read = record_failed number refusal sees (read_at number (Err refusal) sees.0 read)
+
+    pub recorded : (number : ℕ) (raw : RawCrash) → Sees ledger caller id (Ok number) → IsRead basis state.log (id_of ledger number) (Ok raw) disk disk' → Does basis state disk (C.Stack caller id) (R.Record raw) state disk'
+    recorded number raw sees read =
+        let is : IsRead basis state.log id (Ok raw) disk disk' = read_at number (Ok raw) sees.0 read in
+        stays (C.Stack caller id) (R.Record raw) (refl, is.0) (held number sees.0, (refl, refl)) (λ never. absurd never) (λ never. absurd never)
+        (λ is_told. if_seen _ _ (in_view is_told number sees) (inl (is.1 is_told, refl)))
 
     -- ---- dumps
 

@@ -57,6 +57,7 @@ impl<'a, D: Disk, R: Reporter> Book<'a, D, R> {
             Command::Raw { caller, id } => self.raw(&caller, id),
             Command::Processed { caller, id } => self.processed(&caller, id),
             Command::Dump { caller, id, name } => self.dump(&caller, id, name.as_str()),
+            Command::Stack { caller, id } => self.stack(&caller, id),
             Command::Search { query } => self.search(&query),
             Command::Tops { query } => self.tops(&query),
             Command::Turn { caller } => self.turn_by(&caller),
@@ -64,6 +65,7 @@ impl<'a, D: Disk, R: Reporter> Book<'a, D, R> {
             Command::Stop { caller } => self.stop_by(&caller),
             Command::Fetch { id } => self.fetch(id),
             Command::Finish { processed } => self.finish(processed),
+            Command::Counts { caller } => self.counts_by(&caller),
             Command::Submit { .. }
             | Command::Priority { .. }
             | Command::Reprocess { .. }

@@ -56,6 +56,15 @@ impl<'a, D: Disk, R: Reporter> Book<'a, D, R> {
         reply_of(self.dump_bytes(caller, id, name))
     }
 
+    /// The raw crash of a crash that the caller may see.
+    pub fn stack(&mut self, caller: &Caller, id: CrashId) -> Reply
+        ensures setting { SameSetting self.old self.new }
+        ensures kind { IsReplyTo (Command.Stack caller.now id) result }
+        ensures does { Serves self.old (Command.Stack caller.now id) result self.new }
+    {
+        reply_of(self.record(caller, id))
+    }
+
     /// The answer to a query.
     pub fn search(&mut self, query: &Query) -> Reply
         ensures setting { SameSetting self.old self.new }
@@ -122,6 +131,16 @@ impl<'a, D: Disk, R: Reporter> Book<'a, D, R> {
             return Err(Refusal::NoCrash);
         };
         Ok(Reply::Dump(Bytes::of(self.alloc, bytes)?))
+    }
+
+    fn record(&mut self, caller: &Caller, id: CrashId) -> Result<Reply, Refusal>
+        ensures setting { SameSetting self.old self.new }
+        ensures kind { IsReplyTo (Command.Stack caller.now id) (reply_of result) }
+        ensures does { Serves self.old (Command.Stack caller.now id) (reply_of result) self.new }
+    {
+        let number = self.seen(caller, id)?;
+        let raw = self.read(number)?;
+        Ok(Reply::Record(raw))
     }
 }
 

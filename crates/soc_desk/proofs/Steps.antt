@@ -24,8 +24,8 @@ use Rattle.soc_desk.specs.declared.desk.Refusal.TheVariants as F
 use Rattle.soc_desk.specs.Asks.{Gains}
 use Rattle.soc_desk.specs.Basis.{Basis}
 use Rattle.soc_desk.specs.Decisions.{Decision, answers, appends, decide, decide_repeated, decide_new, decide_priority, accepting, lacked}
-use Rattle.soc_desk.specs.Desk.{IfElse, Refuses, Decides, FailsRead, StepWriting, Fails, StepSearching, with_done, TurnsFirst, TurnsSome, DrainsAll, StepStop, IsFetched, Step}
-use Rattle.soc_desk.specs.Grows.{is_new, is_full, is_due_or_reported, Submits, Prioritises, Reprocesses, Withdraws, BehindDoubt, Writes, Turns, processed, Drains, Stops, Finishes, ReadsDump, ReadsHeld, Fetches, Grows}
+use Rattle.soc_desk.specs.Desk.{IfElse, Refuses, Decides, FailsRead, StepWriting, Fails, StepSearching, with_done, TurnsFirst, TurnsSome, DrainsAll, StepStop, IsFetched, IsRecord, StepCounts, Step}
+use Rattle.soc_desk.specs.Grows.{is_new, is_full, is_due_or_reported, Submits, Prioritises, Reprocesses, Withdraws, BehindDoubt, Writes, Turns, processed, Drains, Stops, Finishes, ReadsDump, ReadsHeld, Fetches, IsCounted, Grows}
 use Rattle.soc_desk.specs.Laws.{StepsGrow}
 use Rattle.soc_desk.specs.Log.{Change, Kept, IsLegal, ask, withdraw, keep, done, stop, accepted_of, event_of, events, raw_of}
 use Rattle.soc_desk.specs.Reads.{read_reply, raw_reply, processed_reply, dump_reply}
@@ -112,6 +112,7 @@ module _ (basis : Basis) (before : State) where
   fetched id (R.Raw _) held due is = absurd is
   fetched id (R.Row _) held due is = absurd is
   fetched id (R.Dump _) held due is = absurd is
+  fetched id (R.Record _) held due is = absurd is
   fetched id (R.Found _) held due is = absurd is
   fetched id (R.Tops _) held due is = absurd is
   fetched id (R.Turned _) held due is = absurd is
@@ -119,6 +120,7 @@ module _ (basis : Basis) (before : State) where
   fetched id (R.Kept _) held due is = absurd is
   fetched id R.Stopping held due is = absurd is
   fetched id (R.Finished _) held due is = absurd is
+  fetched id (R.Counted _) held due is = absurd is
   fetched id (R.Refused _) held due is = absurd is
 
   not_fetched : (id : List ℕ) (held : Bool) → is_held ev id ≡ held → is_due ev id ≡ false → Fetches ev id (if held then R.Fetched None else R.Refused F.NoCrash)
@@ -185,6 +187,46 @@ module _ (basis : Basis) (before : State) where
         stays command reply after same (grows reply (subst Reads (sym is) (wants (seen_held basis before.log id caller seen))))
     reading Reads wants faults command reads said reply after grows here holds (inr (seen, inr (may, (is, same)))) =
         stays command reply after same (grows reply (subst Reads (sym is) (faults (seen_held basis before.log id caller seen))))
+
+    recorded : (reply : Reply) (held : Option Crash) → is_held ev id ≡ true → IsRecord held reply → ReadsHeld caller ev id reply
+    recorded (R.Record raw) held there is = there
+    recorded (R.Fetched _) held there is = absurd is
+    recorded (R.Stored _ _) held there is = absurd is
+    recorded (R.Repeated _) held there is = absurd is
+    recorded (R.Asked _ _) held there is = absurd is
+    recorded R.Withdrawn held there is = absurd is
+    recorded (R.Raw _) held there is = absurd is
+    recorded (R.Row _) held there is = absurd is
+    recorded (R.Dump _) held there is = absurd is
+    recorded (R.Found _) held there is = absurd is
+    recorded (R.Tops _) held there is = absurd is
+    recorded (R.Turned _) held there is = absurd is
+    recorded (R.Drained _) held there is = absurd is
+    recorded (R.Kept _) held there is = absurd is
+    recorded R.Stopping held there is = absurd is
+    recorded (R.Finished _) held there is = absurd is
+    recorded (R.Counted _) held there is = absurd is
+    recorded (R.Refused _) held there is = absurd is
+
+    not_in : (o : Option Seen) → is_some o ≡ false → o ≡ None
+    not_in None is = refl
+    not_in (Some seen) is = cc
+
+    -- the record of a crash that the view has
+    records : (reply : Reply) (after : State) (b : Bool) → is_in view id ≡ b
+        → IfElse b ((IsRecord (raw_of before.log id) reply × (after ≡ before)) ⊎ Fails before true reply after) (Refuses before F.NoCrash reply after)
+        → Gains basis before (C.Stack caller id) reply after
+    records reply after true is (inl (got, same)) =
+        stays (C.Stack caller id) reply after same (recorded reply (raw_of before.log id) (seen_held basis before.log id caller is) got, (refl, refl))
+    records reply after true is (inr (inl (said, same))) =
+        stays (C.Stack caller id) reply after same (subst (ReadsHeld caller ev id) (sym said) (seen_held basis before.log id caller is), (refl, refl))
+    records reply after true is (inr (inr (reads, (said, same)))) =
+        stays (C.Stack caller id) reply after same (subst (ReadsHeld caller ev id) (sym said) (seen_held basis before.log id caller is), (refl, refl))
+    records reply after false is (said, same) =
+        stays (C.Stack caller id) reply after same (subst (ReadsHeld caller ev id) (sym said) (absent_gone basis before.log caller id told (not_in (value_of view id) is)), (refl, refl))
+
+  counting : (caller : Caller) (reply : Reply) (after : State) → StepCounts basis before reply after → Gains basis before (C.Counts caller) reply after
+  counting caller reply after (said, same) = stays (C.Counts caller) reply after same (subst (IsCounted ev doubt_now) (sym said) refl, (refl, refl))
 
   searching : (caller : Caller) (command : Command) (reply : Reply) (after : State) → Grows basis ev doubt_now command reply [] doubt_now → StepSearching basis before caller command reply after → Gains basis before command reply after
   searching caller command reply after grows (inl (is, same)) = stays command reply after same grows
@@ -420,6 +462,8 @@ module _ (basis : Basis) (before : State) (legal : IsLegalState basis before) (i
       permitted basis before (lacked (C.Dump caller id name)) (C.Dump caller id name) reply after _ (λ lack. (tt, (refl, refl)))
       (reading basis before caller id legal.log.events_legal (legal.log.told is_told) (ReadsDump (ev basis before) id) (λ held. held) (λ held. held) (C.Dump caller id name) true (dump_reply name (value_of (view_now caller) id)) reply after (λ r holds. (holds, (refl, refl))) refl
       (dump_answer basis before caller id legal.log.events_legal (legal.log.told is_told) name (value_of (view_now caller) id) refl)) step
+  grows (C.Stack caller id) reply after step =
+      records basis before caller id legal.log.events_legal (legal.log.told is_told) reply after (is_in (view_now caller) id) refl step
   grows (C.Search query) reply after step = searching basis before query.caller (C.Search query) reply after (refl, refl) step
   grows (C.Tops query) reply after step = searching basis before query.caller (C.Tops query) reply after (refl, refl) step
   grows (C.Turn caller) reply after step =
@@ -430,6 +474,8 @@ module _ (basis : Basis) (before : State) (legal : IsLegalState basis before) (i
       permitted basis before (lacked (C.Stop caller)) (C.Stop caller) reply after _ (λ lack. (refl, refl)) (stepped_stop basis before caller reply after) step
   grows (C.Fetch id) reply after step = fetches basis before id reply after (is_due (ev basis before) id) refl step
   grows (C.Finish made) reply after step = finishes basis before (C.Finish made) made.crash.id reply after (is_due (ev basis before) made.crash.id) (λ r piece holds. (holds, refl)) refl step
+  grows (C.Counts caller) reply after step =
+      permitted basis before (lacked (C.Counts caller)) (C.Counts caller) reply after _ (λ lack. (tt, (refl, refl))) (counting basis before caller reply after) step
 
 pub steps_grow : StepsGrow
 steps_grow basis before command reply after is_told legal step = grows basis before legal is_told command reply after step

@@ -17,6 +17,7 @@ pub data CommandText : Type 0 where
   to_show_raw : Caller → List ℕ → CommandText
   to_show_report : Caller → List ℕ → CommandText
   to_show_dump : Caller → List ℕ → List ℕ → CommandText
+  to_show_stack : Caller → List ℕ → CommandText
   to_search : Asked → CommandText
   to_show_tops : TopsQuery → CommandText
   to_turn : Caller → CommandText
@@ -24,6 +25,7 @@ pub data CommandText : Type 0 where
   to_stop : Caller → CommandText
   to_fetch : List ℕ → CommandText
   to_finish : Report → CommandText
+  to_count : Caller → CommandText
 
 abbrev pub command_text : Command → CommandText
 command_text (C.Submit raw) = to_submit (crash_of raw)
@@ -33,6 +35,7 @@ command_text (C.Withdraw caller id) = to_withdraw caller id
 command_text (C.Raw caller id) = to_show_raw caller id
 command_text (C.Processed caller id) = to_show_report caller id
 command_text (C.Dump caller id name) = to_show_dump caller id name
+command_text (C.Stack caller id) = to_show_stack caller id
 command_text (C.Search query) = to_search query
 command_text (C.Tops query) = to_show_tops query
 command_text (C.Turn caller) = to_turn caller
@@ -40,3 +43,4 @@ command_text (C.Drain caller) = to_drain caller
 command_text (C.Stop caller) = to_stop caller
 command_text (C.Fetch id) = to_fetch id
 command_text (C.Finish processed) = to_finish processed
+command_text (C.Counts caller) = to_count caller

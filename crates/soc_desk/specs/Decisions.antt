@@ -32,6 +32,7 @@ lacked (C.Withdraw caller id) = without caller Operate
 lacked (C.Raw caller id) = None
 lacked (C.Processed caller id) = None
 lacked (C.Dump caller id name) = without caller ViewRawdump
+lacked (C.Stack caller id) = None
 lacked (C.Search query) = None
 lacked (C.Tops query) = None
 lacked (C.Turn caller) = without caller Operate
@@ -39,6 +40,7 @@ lacked (C.Drain caller) = without caller Operate
 lacked (C.Stop caller) = without caller Operate
 lacked (C.Fetch id) = None
 lacked (C.Finish processed) = None
+lacked (C.Counts caller) = without caller Operate
 
 -- what is decided: a reply, or one more change and the reply once it is written
 pub data Decision : Type 0 where

@@ -16,6 +16,7 @@ use Rattle.soc_desk.specs.declared.desk.Reply.TheVariants as R
 use Rattle.soc_desk.specs.declared.desk.Refusal.{Refusal}
 use Rattle.soc_desk.specs.declared.desk.Refusal.TheVariants as F
 use Rattle.soc_desk.specs.Basis.{Basis}
+use Rattle.soc_desk.specs.Counts.{counts_of}
 use Rattle.soc_desk.specs.Decisions.{Decision, answers, appends, decide, lacked}
 use Rattle.soc_desk.specs.Log.{Kept, Change, keep, done, stop, events, raw_of}
 use Rattle.soc_desk.specs.Reads.{read_reply}
@@ -95,6 +96,21 @@ abbrev pub StepSearching : Basis → State → Caller → Command → Reply → 
 StepSearching basis before caller command reply after =
     ((read_reply (view_of basis before.log caller) command ≡ Some reply) × (after ≡ before)) ⊎ Refuses before F.NoMemory reply after
 
+-- the raw crash of the log was given
+abbrev pub IsRecord : Option Crash → Reply → Type 0
+IsRecord held (R.Record raw) = held ≡ Some (crash_of raw)
+IsRecord held _ = ⊥
+
+-- the raw crash of a crash that the caller's view has
+abbrev pub StepRecord : Basis → State → Caller → List ℕ → Reply → State → Type 0
+StepRecord basis before caller id reply after =
+    IfElse (is_in (view_of basis before.log caller) id)
+    ((IsRecord (raw_of before.log id) reply × (after ≡ before)) ⊎ Fails before true reply after)
+    (Refuses before F.NoCrash reply after)
+
+abbrev pub StepCounts : Basis → State → Reply → State → Type 0
+StepCounts basis before reply after = (reply ≡ R.Counted (counts_of basis before)) × (after ≡ before)
+
 -- ---- processing
 
 -- these crashes were processed
@@ -154,6 +170,7 @@ Step basis before (C.Withdraw caller id) reply after = StepWriting basis before 
 Step basis before (C.Raw caller id) reply after = StepReading basis before caller id true (C.Raw caller id) reply after
 Step basis before (C.Processed caller id) reply after = StepReading basis before caller id false (C.Processed caller id) reply after
 Step basis before (C.Dump caller id name) reply after = StepReading basis before caller id true (C.Dump caller id name) reply after
+Step basis before (C.Stack caller id) reply after = StepRecord basis before caller id reply after
 Step basis before (C.Search query) reply after = StepSearching basis before query.caller (C.Search query) reply after
 Step basis before (C.Tops query) reply after = StepSearching basis before query.caller (C.Tops query) reply after
 Step basis before (C.Turn caller) reply after =
@@ -163,3 +180,4 @@ Step basis before (C.Drain caller) reply after =
 Step basis before (C.Stop caller) reply after = IfPermitted before (C.Stop caller) reply after (StepStop basis before reply after)
 Step basis before (C.Fetch id) reply after = StepFetch basis before id reply after
 Step basis before (C.Finish processed) reply after = StepFinish basis before processed.crash.id reply after
+Step basis before (C.Counts caller) reply after = IfPermitted before (C.Counts caller) reply after (StepCounts basis before reply after)

@@ -18,6 +18,7 @@ use Rattle.soc_ledger.specs.declared.event.Event.TheVariants as E
 use Rattle.soc_ledger.specs.Events.{accepted_ids, has_stop}
 use Rattle.soc_ledger.specs.Legal.{IsLegal as AreLegal}
 use Rattle.soc_desk.specs.Basis.{Basis}
+use Rattle.soc_desk.specs.Counts.{counts_of, journal_size}
 use Rattle.soc_desk.specs.Decisions.{answers, appends, decide, decide_submission, accepting}
 use Rattle.soc_desk.specs.Desk.{Step, with_done}
 use Rattle.soc_desk.specs.Grows.{Grows, is_new}
@@ -412,3 +413,25 @@ opened_untold = refl
 
 opened_told : log_of (map (as_told true) kept_two) ≡ accepted firefox ∷ keep (ask first) ∷ []
 opened_told = refl
+
+-- ---- counts
+
+-- of events alone, a withdrawn crash counts as withdrawn only, and a doubt isn't counted
+counts_of_withdrawn : (record (counts_of basis (record { log = withdrawn; doubt = ask second ∷ [] })) { journal_size = 0 })
+    ≡ record { asks = 0; crashes = 1; due = 0; journal_size = 0; reports = 0; withdrawn = 1; in_doubt = true }
+counts_of_withdrawn = refl
+
+-- the header alone
+size_of_nothing : journal_size [] ≡ 8
+size_of_nothing = refl
+
+counts_of_nothing : Step basis (settled []) (C.Counts operator)
+    (R.Counted (record { asks = 0; crashes = 0; due = 0; journal_size = 8; reports = 0; withdrawn = 0; in_doubt = false })) (settled [])
+counts_of_nothing = (refl, refl)
+
+counts_for_no_operator : Step basis (settled []) (C.Counts caller) (R.Refused (F.NoPermission Operate)) (settled [])
+counts_for_no_operator = (refl, refl)
+
+-- a raw crash is given of a crash that is shown to the caller, and of no other
+raw_crash_of_another_product : Step basis (settled log) (C.Stack limited first) (R.Refused F.NoCrash) (settled log)
+raw_crash_of_another_product = (refl, refl)

@@ -16,6 +16,7 @@ use Rattle.soc_desk.specs.declared.desk.Reply.TheVariants as R
 use Rattle.soc_desk.specs.declared.desk.Refusal.{Refusal}
 use Rattle.soc_desk.specs.declared.desk.Refusal.TheVariants as F
 use Rattle.soc_desk.specs.Basis.{Basis}
+use Rattle.soc_desk.specs.Counts.{counts_with}
 
 -- ---- crashes that aren't found
 
@@ -189,6 +190,12 @@ Fetches log id (R.Fetched (Some raw)) = IsTrue (is_due log id)
 Fetches log id (R.Refused refusal) = FetchFails log id refusal
 Fetches log id _ = ⊥
 
+-- the counts are those of the log; of the journal's size its events tell nothing
+abbrev pub IsCounted : List Event → List Event → Reply → Type 0
+IsCounted log doubt (R.Counted counts) = counts ≡ counts_with log doubt counts.journal_size
+IsCounted log doubt (R.Refused refusal) = ⊤
+IsCounted log doubt _ = ⊥
+
 -- ---- every command
 
 -- The events that a command adds under its reply to a log with events in doubt, what is in doubt afterwards, and what the
@@ -205,6 +212,8 @@ Grows basis log doubt (C.Finish processed) reply piece after = Finishes log proc
 Grows basis log doubt (C.Raw caller id) reply piece after = ReadsHeld caller log id reply × StaysInDoubt doubt piece after
 Grows basis log doubt (C.Processed caller id) reply piece after = ReadsHeld caller log id reply × StaysInDoubt doubt piece after
 Grows basis log doubt (C.Dump caller id name) reply piece after = ReadsDump log id reply × StaysInDoubt doubt piece after
+Grows basis log doubt (C.Stack caller id) reply piece after = ReadsHeld caller log id reply × StaysInDoubt doubt piece after
 Grows basis log doubt (C.Fetch id) reply piece after = Fetches log id reply × StaysInDoubt doubt piece after
 Grows basis log doubt (C.Search query) reply piece after = StaysInDoubt doubt piece after
 Grows basis log doubt (C.Tops query) reply piece after = StaysInDoubt doubt piece after
+Grows basis log doubt (C.Counts caller) reply piece after = IsCounted log doubt reply × StaysInDoubt doubt piece after

@@ -67,6 +67,7 @@ MayRefuse (C.Withdraw caller id) refusal = RefusesAsk refusal
 MayRefuse (C.Raw caller id) refusal = RefusesRaw id refusal
 MayRefuse (C.Processed caller id) refusal = RefusesProcessed refusal
 MayRefuse (C.Dump caller id name) refusal = RefusesRaw id refusal
+MayRefuse (C.Stack caller id) refusal = RefusesRaw id refusal
 MayRefuse (C.Search query) refusal = IsNoMemory refusal
 MayRefuse (C.Tops query) refusal = IsNoMemory refusal
 MayRefuse (C.Turn caller) refusal = RefusesTurn refusal
@@ -74,6 +75,7 @@ MayRefuse (C.Drain caller) refusal = RefusesTurn refusal
 MayRefuse (C.Stop caller) refusal = IsNoMemory refusal
 MayRefuse (C.Fetch id) refusal = RefusesRaw id refusal
 MayRefuse (C.Finish processed) refusal = IsNoMemory refusal
+MayRefuse (C.Counts caller) refusal = ⊥
 
 -- what is answered of the command's own kind
 abbrev pub IsOwnReply : Command → Reply → Type 0
@@ -86,6 +88,7 @@ IsOwnReply (C.Raw caller id) (R.Raw annotations) =
     AllByRecursion (λ pair. IsTrue (holds caller.permissions (permission_of_annotation pair.0))) annotations
 IsOwnReply (C.Processed caller id) (R.Row row) = AllByRecursion (λ cell. IsTrue (is_granted caller cell.field)) row
 IsOwnReply (C.Dump caller id name) (R.Dump bytes) = ⊤
+IsOwnReply (C.Stack caller id) (R.Record raw) = raw.id ≡ id
 IsOwnReply (C.Search query) (R.Found answer) =
     (answer.columns ≡ query.columns) × (map (λ facet. facet.field) answer.facets ≡ query.facets)
     × AllByRecursion (λ hit. AllByRecursion (λ cell. IsTrue (is_granted query.caller cell.field)) hit) answer.hits
@@ -96,6 +99,7 @@ IsOwnReply (C.Stop caller) R.Stopping = ⊤
 IsOwnReply (C.Fetch id) (R.Fetched None) = ⊤
 IsOwnReply (C.Fetch id) (R.Fetched (Some raw)) = raw.id ≡ id
 IsOwnReply (C.Finish processed) (R.Finished changed) = ⊤
+IsOwnReply (C.Counts caller) (R.Counted counts) = ⊤
 IsOwnReply command (R.Refused refusal) = MayRefuse command refusal
 IsOwnReply _ _ = ⊥
 

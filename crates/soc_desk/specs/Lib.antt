@@ -2,6 +2,7 @@ pub mod Asks
 pub mod Basis
 pub mod Batches
 pub mod Commands
+pub mod Counts
 pub mod Decisions
 pub mod Desk
 pub mod Grows

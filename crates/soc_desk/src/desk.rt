@@ -43,6 +43,11 @@ pub enum Command {
         id: CrashId,
         name: Text,
     },
+    /// Give the raw crash of a crash, of which its stack is made.
+    Stack {
+        caller: Caller,
+        id: CrashId,
+    },
     /// Search the reports. The query holds its caller.
     Search {
         query: Query,
@@ -71,6 +76,10 @@ pub enum Command {
     Finish {
         processed: Processed,
     },
+    /// Count what the log has.
+    Counts {
+        caller: Caller,
+    },
 }
 
 /// What a desk answers.
@@ -90,6 +99,8 @@ pub enum Reply {
     Row(Row),
     /// A dump's bytes.
     Dump(Bytes),
+    /// The whole raw crash of a crash that the caller may see. What isn't granted is in it too.
+    Record(RawCrash),
     /// What a search found.
     Found(Answer),
     /// The top crashers.
@@ -106,8 +117,29 @@ pub enum Reply {
     Fetched(Option<RawCrash>),
     /// Whether the crash was due and has its row now.
     Finished { changed: bool },
+    /// What the log has, counted.
+    Counted(Counts),
     /// The command was refused.
     Refused(Refusal),
+}
+
+/// What a log has, counted.
+#[derive(Clone, Copy, Debug, PartialEq, Eq)]
+pub struct Counts {
+    /// How often a crash was asked for.
+    pub asks: u64,
+    /// How many crashes are held.
+    pub crashes: u32,
+    /// How many crashes are due.
+    pub due: u32,
+    /// How many bytes the journal's header and entries have.
+    pub journal_size: u64,
+    /// How many held crashes have a report.
+    pub reports: u32,
+    /// How many crashes were withdrawn.
+    pub withdrawn: u32,
+    /// Whether a write failed, and it isn't known yet what of it was kept.
+    pub in_doubt: bool,
 }
 
 /// Why a command is refused.

@@ -5,7 +5,7 @@ mod desk;
 mod keeping;
 mod laws;
 
-pub use desk::{Command, Desk, Limits, Receipt, Refusal, Reply};
+pub use desk::{Command, Counts, Desk, Limits, Receipt, Refusal, Reply};
 pub use keeping::KeepingDesk;
 pub use laws::{
     acknowledges, batches_are_runs, changes_last, digests_decide, drains_all, due_by_history,

@@ -143,6 +143,9 @@ pub fn command(alloc: Global, act: &str) -> Result<Command, Fault>
         "stop" => Ok(Command::Stop {
             caller: caller(alloc, first)?,
         }),
+        "counts" => Ok(Command::Counts {
+            caller: caller(alloc, first)?,
+        }),
         _ => command_on(alloc, act),
     }
 }
@@ -158,6 +161,7 @@ fn command_on(alloc: Global, act: &str) -> Result<Command, Fault>
         "reprocess" => Ok(Command::Reprocess { caller, id }),
         "withdraw" => Ok(Command::Withdraw { caller, id }),
         "raw" => Ok(Command::Raw { caller, id }),
+        "stack" => Ok(Command::Stack { caller, id }),
         "processed" => Ok(Command::Processed { caller, id }),
         "dump" => {
             let name = Text::of(alloc, word(act, 3))?;

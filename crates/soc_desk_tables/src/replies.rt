@@ -1,6 +1,7 @@
 //! Replies of a desk in a few words.
 use soc_base::Texts;
-use soc_desk::{Refusal, Reply};
+use soc_desk::{Counts, Refusal, Reply};
+use soc_raw::RawCrash;
 use soc_schema::{Permission, Row};
 use soc_tables::{Fault, copy, shown};
 use std::alloc::Global;
@@ -11,6 +12,8 @@ pub fn reply_text(alloc: Global, reply: &Reply) -> Result<String, Fault> {
         Reply::Raw(texts) => raw_text(alloc, texts),
         Reply::Row(row) => row_text(alloc, row),
         Reply::Dump(bytes) => dump_text(alloc, bytes.as_slice()),
+        Reply::Record(raw) => record_text(alloc, raw),
+        Reply::Counted(counts) => counts_text(alloc, counts),
         Reply::Found(answer) => counted(alloc, "found", answer.total),
         Reply::Tops(tops) => counted(alloc, "tops", tops.total),
         Reply::Drained(count) => counted(alloc, "drained", *count),
@@ -44,6 +47,26 @@ fn row_text(alloc: Global, row: &Row) -> Result<String, Fault> {
 fn dump_text(alloc: Global, bytes: &[u8]) -> Result<String, Fault> {
     let bytes = shown(alloc, bytes)?;
     Ok(format!(in alloc; "dump {}", bytes.as_str())?)
+}
+
+/// A raw crash by how many annotations and dumps it has.
+fn record_text(alloc: Global, raw: &RawCrash) -> Result<String, Fault> {
+    let (annotations, dumps) = (raw.annotations.len(), raw.dumps.len());
+    Ok(format!(in alloc; "record of {annotations} annotations and {dumps} dumps")?)
+}
+
+/// Counts in the order of their names.
+fn counts_text(alloc: Global, counts: &Counts) -> Result<String, Fault> {
+    let doubt = if counts.in_doubt { ", in doubt" } else { "" };
+    Ok(format!(in alloc;
+        "counts {} {} {} {} {} {}{doubt}",
+        counts.asks,
+        counts.crashes,
+        counts.due,
+        counts.journal_size,
+        counts.reports,
+        counts.withdrawn
+    )?)
 }
 
 fn reply_word(reply: &Reply) -> &'static str {

@@ -214,6 +214,7 @@ fn kind_of(row: &Row<'_>) -> Result<Kind, Fault> {
         "json" => Ok(Kind::Json),
         "octets" => Ok(Kind::Octets),
         "html" => Ok(Kind::Html),
+        "own page" => Ok(Kind::OwnPage),
         _ => Err(Fault::new("no kind")),
     }
 }

@@ -4,7 +4,7 @@ use Rattle.http.specs.StatusCode.{reason_phrase}
 use Rattle.soc_http.specs.declared.verb.Verb.{Verb}
 use Rattle.soc_http.specs.declared.verb.Verb.TheVariants.{Get, Post, Other}
 use Rattle.soc_http.specs.declared.reply.Kind.{Kind}
-use Rattle.soc_http.specs.declared.reply.Kind.TheVariants.{Plain, Json, Octets, Html}
+use Rattle.soc_http.specs.declared.reply.Kind.TheVariants.{Plain, Json, Octets, Html, OwnPage}
 use Rattle.soc_http.specs.declared.reply.Answered.{Answered}
 
 -- CR LF
@@ -32,6 +32,18 @@ media_type Plain = codes "text/plain"
 media_type Json = codes "application/json"
 media_type Octets = codes "application/octet-stream"
 media_type Html = codes "text/html; charset=utf-8"
+media_type OwnPage = codes "text/html; charset=utf-8"
+
+-- The lines by which a browser keeps the service's own page to itself: it isn't stored, framed or sent away, and asks nothing
+-- but this service.
+abbrev pub policy_lines : Kind → List ℕ
+policy_lines OwnPage =
+    codes "Cache-Control: no-store\r\n"
+    ++ codes "Content-Security-Policy: default-src 'none'; connect-src 'self'; img-src 'self' data:; "
+    ++ codes "script-src 'unsafe-inline'; style-src 'unsafe-inline'; base-uri 'none'; form-action 'none'; frame-ancestors 'none'\r\n"
+    ++ codes "Referrer-Policy: no-referrer\r\n"
+    ++ codes "X-Content-Type-Options: nosniff\r\n"
+policy_lines _ = []
 
 -- the line that names the method a path takes
 abbrev pub allow_line : Option Verb → List ℕ
@@ -51,7 +63,7 @@ reply_head reply =
     codes "HTTP/1.1 " ++ decimal reply.status ++ codes " " ++ phrase_of reply.status ++ line_end
     ++ codes "Content-Type: " ++ media_type reply.kind ++ line_end
     ++ codes "Content-Length: " ++ decimal (length reply.body) ++ line_end
-    ++ allow_line reply.allow ++ close_line reply.last ++ line_end
+    ++ policy_lines reply.kind ++ allow_line reply.allow ++ close_line reply.last ++ line_end
 
 -- the whole reply
 abbrev pub reply_text : Answered → List ℕ

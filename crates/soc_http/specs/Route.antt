@@ -16,10 +16,13 @@ to verb route = Some (record { verb = verb; route = route })
 abbrev pub literal : List ℕ → Verb → Route → List ℕ × Target
 literal path verb route = (path, record { verb = verb; route = route })
 
--- the literal paths, in the order of their bytes
+-- the literal paths, in the order of their bytes, and behind them the one that all begin with
 abbrev pub literals : List (List ℕ × Target)
 literals =
-    literal (codes "/api/PriorityJob/") Post R.PriorityJob
+    literal (codes "/__heartbeat__") Get R.Heartbeat
+    ∷ literal (codes "/__lbheartbeat__") Get R.Alive
+    ∷ literal (codes "/__version__") Get R.Version
+    ∷ literal (codes "/api/PriorityJob/") Post R.PriorityJob
     ∷ literal (codes "/api/ProcessedCrash/") Get R.ProcessedCrash
     ∷ literal (codes "/api/RawCrash/") Get R.RawCrash
     ∷ literal (codes "/api/RawDump/") Get R.RawDump
@@ -28,12 +31,14 @@ literals =
     ∷ literal (codes "/api/SuperSearchFields/") Get R.SuperSearchFields
     ∷ literal (codes "/api/TopCrashers/") Get R.Tops
     ∷ literal (codes "/api/Withdrawal/") Post R.Withdrawal
+    ∷ literal (codes "/control/counts") Get R.Counts
     ∷ literal (codes "/control/drain") Post R.Drain
     ∷ literal (codes "/control/stop") Post R.Stop
     ∷ literal (codes "/control/turn") Post R.Turn
     ∷ literal (codes "/search/") Get R.Search
     ∷ literal (codes "/submit") Post R.Submit
     ∷ literal (codes "/topcrashers/") Get R.TopsPage
+    ∷ literal (codes "/") Get R.Front
     ∷ []
 
 -- the target of a path in such a table

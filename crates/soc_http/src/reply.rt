@@ -1,7 +1,7 @@
 //! Replies.
 ghost use Rattle.std.specs.Prelude.{◌≡◌, ◌≤◌, OnOk, OnErr, length, decimal};
 ghost use Rattle.soc_edge.specs.Told.{Told, Writes, WritesFront, WriteFailed};
-ghost use Rattle.soc_http.specs.Reply.{reply_text, phrase_of, media_type, allow_line, close_line};
+ghost use Rattle.soc_http.specs.Reply.{reply_text, phrase_of, media_type, policy_lines, allow_line, close_line};
 ghost use Rattle.soc_http.specs.inner.Pieces.{pieces_text};
 
 use crate::pieces::write_pieces;
@@ -22,6 +22,8 @@ pub enum Kind {
     Octets,
     /// `text/html; charset=utf-8`
     Html,
+    /// The service's own page: HTML, with the lines that say what a browser lets it do.
+    OwnPage,
 }
 
 /// What a message is answered.
@@ -67,7 +69,24 @@ fn media_type(kind: Kind) -> &'static [u8]
         Kind::Plain => b"text/plain",
         Kind::Json => b"application/json",
         Kind::Octets => b"application/octet-stream",
-        Kind::Html => b"text/html; charset=utf-8",
+        Kind::Html | Kind::OwnPage => b"text/html; charset=utf-8",
+    }
+}
+
+/// What a browser lets the service's own page do.
+const POLICY: &[u8] = b"Cache-Control: no-store\r\n\
+    Content-Security-Policy: default-src 'none'; connect-src 'self'; img-src 'self' data:; \
+    script-src 'unsafe-inline'; style-src 'unsafe-inline'; base-uri 'none'; form-action 'none'; \
+    frame-ancestors 'none'\r\n\
+    Referrer-Policy: no-referrer\r\n\
+    X-Content-Type-Options: nosniff\r\n";
+
+fn policy_lines(kind: Kind) -> &'static [u8]
+    ensures { result.now ≡ policy_lines kind }
+{
+    match kind {
+        Kind::OwnPage => POLICY,
+        Kind::Plain | Kind::Json | Kind::Octets | Kind::Html => b"",
     }
 }
 
@@ -108,13 +127,14 @@ pub fn write_reply<K: Sink>(sink: &mut K, answered: &Answered) -> Result<(), Wri
 }
 
 /// The pieces of a reply's text, in order.
-fn pieces_of<'a>(answered: &'a Answered, status: &'a [u8], body_length: &'a [u8]) -> [&'a [u8]; 13]
+fn pieces_of<'a>(answered: &'a Answered, status: &'a [u8], body_length: &'a [u8]) -> [&'a [u8]; 14]
     ensures { status.now ≡ decimal answered.now.status
         → body_length.now ≡ decimal (length answered.now.body)
         → pieces_text result ≡ reply_text answered.now }
 {
     let phrase: &'a [u8] = phrase_of(answered.status);
     let kind: &'a [u8] = media_type(answered.kind);
+    let policy: &'a [u8] = policy_lines(answered.kind);
     let allow: &'a [u8] = allow_line(answered.allow);
     let close: &'a [u8] = close_line(answered.last);
     let version: &'a [u8] = b"HTTP/1.1 ";
@@ -132,6 +152,7 @@ fn pieces_of<'a>(answered: &'a Answered, status: &'a [u8], body_length: &'a [u8]
         content_length,
         body_length,
         end,
+        policy,
         allow,
         close,
         end,

@@ -27,6 +27,16 @@ pub enum Route {
     Turn,
     Drain,
     Stop,
+    /// What the log has, counted.
+    Counts,
+    /// Whether the service answers, by a turn of its desk.
+    Heartbeat,
+    /// Whether the service answers, without its desk.
+    Alive,
+    /// Which program answers.
+    Version,
+    /// The service's own page.
+    Front,
     /// The page of one report, with the id parameter as the path has it.
     Report(Text),
     /// The page of a search.
@@ -103,12 +113,14 @@ fn fill(literals: &mut Router<Target>) -> Result<(), NoMemory>
     requires { literals.old ≡ [] }
     ensures { OnOk result (literals.new ≡ rows_of table) }
 {
+    add(literals, "/", Verb::Get, Route::Front)?;
     add(literals, "/topcrashers/", Verb::Get, Route::TopsPage)?;
     add(literals, "/submit", Verb::Post, Route::Submit)?;
     add(literals, "/search/", Verb::Get, Route::Search)?;
     add(literals, "/control/turn", Verb::Post, Route::Turn)?;
     add(literals, "/control/stop", Verb::Post, Route::Stop)?;
     add(literals, "/control/drain", Verb::Post, Route::Drain)?;
+    add(literals, "/control/counts", Verb::Get, Route::Counts)?;
     add(literals, "/api/Withdrawal/", Verb::Post, Route::Withdrawal)?;
     add(literals, "/api/TopCrashers/", Verb::Get, Route::Tops)?;
     add(
@@ -137,7 +149,10 @@ fn fill(literals: &mut Router<Target>) -> Result<(), NoMemory>
         "/api/PriorityJob/",
         Verb::Post,
         Route::PriorityJob,
-    )
+    )?;
+    add(literals, "/__version__", Verb::Get, Route::Version)?;
+    add(literals, "/__lbheartbeat__", Verb::Get, Route::Alive)?;
+    add(literals, "/__heartbeat__", Verb::Get, Route::Heartbeat)
 }
 
 /// A copy of a route.
@@ -158,6 +173,11 @@ fn copy_of(alloc: Global, route: &Route) -> Result<Route, NoMemory>
         Route::Turn => Route::Turn,
         Route::Drain => Route::Drain,
         Route::Stop => Route::Stop,
+        Route::Counts => Route::Counts,
+        Route::Heartbeat => Route::Heartbeat,
+        Route::Alive => Route::Alive,
+        Route::Version => Route::Version,
+        Route::Front => Route::Front,
         Route::Report(id) => Route::Report(Text::of(alloc, id.as_str())?),
         Route::Search => Route::Search,
         Route::TopsPage => Route::TopsPage,

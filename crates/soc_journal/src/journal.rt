@@ -245,8 +245,8 @@ impl Journal {
         }
     }
 
-    /// Where the closed gate stands.
-    pub(crate) fn gate(&self) -> u64
+    /// Where the closed gate stands: how many bytes header and entries have.
+    pub fn gate(&self) -> u64
         ensures { result ≡ self.now.gate }
     {
         self.gate

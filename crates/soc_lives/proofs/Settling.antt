@@ -20,7 +20,7 @@ use Rattle.soc_desk.specs.declared.desk.Reply.TheVariants as R
 use Rattle.soc_desk.specs.Basis.{Basis}
 use Rattle.soc_desk.specs.Batches.{AcceptNew}
 use Rattle.soc_desk.specs.Decisions.{Decision, accepting, answers, appends, decide, decide_new, decide_priority, decide_repeated, decide_submission, lacked}
-use Rattle.soc_desk.specs.Desk.{Decides, DrainsAll, Fails, FailsMend, FailsRead, IfElse, IsFetched, Refuses, SettlesAndDecides, Step, StepFetch, StepFinish, StepReading, StepSearching, StepStop, StepWriting, TurnsFirst, with_done}
+use Rattle.soc_desk.specs.Desk.{Decides, DrainsAll, Fails, FailsMend, FailsRead, IfElse, IsFetched, IsRecord, Refuses, SettlesAndDecides, Step, StepFetch, StepFinish, StepReading, StepRecord, StepSearching, StepStop, StepWriting, TurnsFirst, with_done}
 use Rattle.soc_desk.specs.Keeps.{KeepsFirst}
 use Rattle.soc_desk.specs.Log.{Change, Kept, ask, withdraw, done, keep, stop, events, raw_of}
 use Rattle.soc_desk.specs.Reads.{read_reply}
@@ -126,6 +126,14 @@ module _ (basis : Basis) (before : State) (reply : Reply) (after : State) where
     by true held (inr fails) = failed true fails
     by false held (said, same) = stays before after same
 
+  records : (caller : Caller) (id : List ℕ) → StepRecord basis before caller id reply after → LeavesDoubt before after
+  records caller id step = by (is_in (view_of basis before.log caller) id) step where
+    by : (seen : Bool) → IfElse seen ((IsRecord (raw_of before.log id) reply × (after ≡ before)) ⊎ Fails before true reply after) (Refuses before F.NoCrash reply after)
+        → LeavesDoubt before after
+    by true (inl (said, same)) = stays before after same
+    by true (inr fails) = failed true fails
+    by false (said, same) = stays before after same
+
   finishes : (id : List ℕ) → StepFinish basis before id reply after → LeavesDoubt before after
   finishes id (inl (said, same)) = stays before after same
   finishes id (inr step) = by (is_due (events basis before.log) id) step where
@@ -204,6 +212,7 @@ asked_once basis before (C.Withdraw caller id) reply after step = writes basis b
 asked_once basis before (C.Raw caller id) reply after step = inl (reads_only basis before reply after caller id true (C.Raw caller id) step)
 asked_once basis before (C.Processed caller id) reply after step = inl (reads_only basis before reply after caller id false (C.Processed caller id) step)
 asked_once basis before (C.Dump caller id name) reply after step = inl (reads_only basis before reply after caller id true (C.Dump caller id name) step)
+asked_once basis before (C.Stack caller id) reply after step = inl (records basis before reply after caller id step)
 asked_once basis before (C.Search query) reply after step = inl (searches basis before reply after query.caller (C.Search query) step)
 asked_once basis before (C.Tops query) reply after step = inl (searches basis before reply after query.caller (C.Tops query) step)
 asked_once basis before (C.Turn caller) reply after step =
@@ -213,6 +222,8 @@ asked_once basis before (C.Drain caller) reply after step =
 asked_once basis before (C.Stop caller) reply after step = inl (permitted basis before reply after _ (lacked (C.Stop caller)) (stops basis before reply after) (stays before after) step)
 asked_once basis before (C.Fetch id) reply after step = inl (fetches basis before reply after id step)
 asked_once basis before (C.Finish processed) reply after step = inl (finishes basis before reply after processed.crash.id step)
+asked_once basis before (C.Counts caller) reply after step =
+    inl (permitted basis before reply after _ (lacked (C.Counts caller)) (λ counts. stays before after counts.1) (stays before after) step)
 
 -- ---- other actions
 

@@ -14,7 +14,7 @@ use Rattle.soc_replay.specs.declared.refusal.FilesFault.TheVariants.{Tree}
 use Rattle.soc_replay.specs.Refusals.{of_kit}
 use Rattle.soc_replay.specs.declared.setup.Setup.{Setup}
 use Rattle.soc_replay.specs.declared.texts.Texts.{Texts}
-use Rattle.soc_replay.specs.Files.{files_say, kit_says, missing_says, setup_says}
+use Rattle.soc_replay.specs.Files.{files_say, kit_says, missing_says, setup_in, setup_says, shown_at}
 use Rattle.soc_replay.specs.Setup.{setup_of}
 use Rattle.soc_replay.specs.inner.Texts.{AreTexts}
 
@@ -53,12 +53,15 @@ kit_not_tree (Err fault) texts (kit.BadPattern list line) gives reads is = cc
 
 -- ---- what is said
 
-pub says_said : (told : Option Files) (texts : Texts) (setup : Setup) → IfSome told (λ files. AreTexts files texts) → setup_of texts.settings texts.tokens ≡ Ok setup → refusal_of texts.kit ≡ None
+pub says_said : (told : Option Files) (texts : Texts) (setup : Setup) → IfSome told (λ files. AreTexts files texts) → setup_of texts.settings texts.tokens texts.page texts.version ≡ Ok setup → refusal_of texts.kit ≡ None
     → IfSome told (λ files. files_say files ≡ Ok (record { setup = setup; texts = texts.kit }))
 says_said None texts setup are says none = tt
 says_said (Some files) texts setup are says none =
-    let as_said : setup_of (text_at files (codes "settings.toml")) (text_at files (codes "tokens.toml")) ≡ Ok setup =
-    sym (ap (λ (s : List ℕ). setup_of s (text_at files (codes "tokens.toml"))) are.settings) ∙ (sym (ap (λ (t : List ℕ). setup_of texts.settings t) are.tokens) ∙ says) in
+    let as_said : setup_in files ≡ Ok setup =
+    sym (ap (λ (s : List ℕ). setup_of s (text_at files (codes "tokens.toml")) (shown_at files (codes "ui.html")) (shown_at files (codes "version.json"))) are.settings)
+    ∙ (sym (ap (λ (t : List ℕ). setup_of texts.settings t (shown_at files (codes "ui.html")) (shown_at files (codes "version.json"))) are.tokens)
+    ∙ (sym (ap (λ (p : Option (List ℕ)). setup_of texts.settings texts.tokens p (shown_at files (codes "version.json"))) are.page)
+    ∙ (sym (ap (λ (v : Option (List ℕ)). setup_of texts.settings texts.tokens texts.page v) are.version) ∙ says))) in
     ap (λ m. missing_says files m) are.none_missing
     ∙ (ap (λ (s : Result Setup FilesFault). setup_says (texts_in files) s) as_said
     ∙ (sym (ap (λ (k : KitTexts). kit_says setup k (refusal_of k)) are.kit)

@@ -6,18 +6,22 @@ use Rattle.soc_report.specs.declared.error.KitError.TheVariants as kit
 use Rattle.soc_report.specs.Texts.{Files, IsReadFrom, text_at}
 use Rattle.soc_replay.specs.Refusals.{of_kit}
 use Rattle.soc_replay.specs.declared.texts.Texts.{Texts}
+use Rattle.soc_replay.specs.Files.{shown_at}
 use Rattle.soc_replay.specs.inner.Texts.{AreTexts, IsReadFault}
 
 -- all were read from the same tree
-pub texts_are : (first second third : Option Files) (texts : Texts)
+pub texts_are : (first second third fourth fifth : Option Files) (texts : Texts)
     → IfSome first (λ files. texts.settings ≡ text_at files (codes "settings.toml")) → second ≡ first
     → IfSome second (λ files. texts.tokens ≡ text_at files (codes "tokens.toml")) → third ≡ second
-    → IfSome third (IsReadFrom (Ok texts.kit)) → IfSome first (λ files. AreTexts files texts)
-texts_are None second third texts settings same tokens as_before read = tt
-texts_are (Some files) second third texts settings same tokens as_before read =
+    → IfSome third (IsReadFrom (Ok texts.kit)) → fourth ≡ third → IfSome fourth (λ files. texts.page ≡ shown_at files (codes "ui.html")) → fifth ≡ fourth
+    → IfSome fifth (λ files. texts.version ≡ shown_at files (codes "version.json")) → IfSome first (λ files. AreTexts files texts)
+texts_are None second third fourth fifth texts settings same tokens as_before read afterwards page last version = tt
+texts_are (Some files) second third fourth fifth texts settings same tokens as_before read afterwards page last version =
     let brought = subst (λ (told : Option Files). IfSome told (λ f. texts.tokens ≡ text_at f (codes "tokens.toml"))) same tokens in
     let made = subst (λ (told : Option Files). IfSome told (IsReadFrom (Ok texts.kit))) (as_before ∙ same) read in
-    record { settings = settings; tokens = brought; none_missing = made.0; kit = made.1 }
+    let shown = subst (λ (told : Option Files). IfSome told (λ f. texts.page ≡ shown_at f (codes "ui.html"))) (afterwards ∙ (as_before ∙ same)) page in
+    let named = subst (λ (told : Option Files). IfSome told (λ f. texts.version ≡ shown_at f (codes "version.json"))) (last ∙ (afterwards ∙ (as_before ∙ same))) version in
+    record { settings = settings; tokens = brought; none_missing = made.0; kit = made.1; page = shown; version = named }
 
 fault : (files : Files) (error : KitError) → IsReadFrom (Err error) files → IsReadFault files (of_kit error)
 fault files (kit.Missing name) is = is

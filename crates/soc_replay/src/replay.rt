@@ -67,7 +67,7 @@ fn run<T: Tree, X: Source + Sink, D: Disk, C: Clock, W: Draws, P: Maker>(
         → DiskFailed (D.state world.old.disk) (D.state world.new.disk)) }
 {
     let texts = read_texts(alloc, &mut world.tree)?;
-    let setup = set_up(alloc, texts.settings.as_slice(), texts.tokens.as_slice())?;
+    let setup = set_up(alloc, &texts)?;
     let kit = Kit::read(alloc, &texts.kit, &mut world.maker)?;
     Ok(serve(
         alloc,

@@ -14,7 +14,8 @@ use std::alloc::Global;
 pub(crate) fn read_files<T: Tree>(alloc: Global, tree: &mut T) -> Result<(Texts, Setup), FilesFault>
     ensures told { IfOk result (λ files.
         IfSome (T.told tree.old).files (λ told. AreTexts told files.0)) }
-    ensures says { IfOk result (λ files. setup_of files.0.settings files.0.tokens ≡ Ok files.1) }
+    ensures says { IfOk result (λ files. setup_of files.0.settings files.0.tokens
+        files.0.page files.0.version ≡ Ok files.1) }
     ensures fault { IfErr result (λ fault.
         IfSome (T.told tree.old).files (λ files. IsFilesFault (files_say files) fault)) }
     ensures kinds { IsErrOf result FilesFault.Maker → ⊥ }
@@ -23,6 +24,6 @@ pub(crate) fn read_files<T: Tree>(alloc: Global, tree: &mut T) -> Result<(Texts,
         → TreeFailed (T.told tree.old) (T.told tree.new) }
 {
     let texts = read_texts(alloc, tree)?;
-    let setup = set_up(alloc, texts.settings.as_slice(), texts.tokens.as_slice())?;
+    let setup = set_up(alloc, &texts)?;
     Ok((texts, setup))
 }

@@ -122,6 +122,8 @@ kept_by basis log doubt (C.Dump caller id name) reply piece after journal grows 
 kept_by basis log doubt (C.Fetch id) reply piece after journal grows = subst AreKept (sym grows.1.0) refl
 kept_by basis log doubt (C.Search query) reply piece after journal grows = subst AreKept (sym grows.0) refl
 kept_by basis log doubt (C.Tops query) reply piece after journal grows = subst AreKept (sym grows.0) refl
+kept_by basis log doubt (C.Stack caller id) reply piece after journal grows = subst AreKept (sym grows.1.0) refl
+kept_by basis log doubt (C.Counts caller) reply piece after journal grows = subst AreKept (sym grows.1.0) refl
 
 at_most : (b : Bool) (n : ℕ) → (if b then n else 0) ≤ n
 at_most true n = omega arith

@@ -1,6 +1,6 @@
 -- What a head asks for, and what is had of the body behind it.
-use Rattle.std.proofs.Common.{◌≡◌, ℕ, List, [], Option, Some, Result, Ok, Err, refl, sym, ap, subst, ◌∙◌, inl, inr}
-use Rattle.std.specs.Prelude.{IfOk}
+use Rattle.std.proofs.Common.{◌≡◌, ℕ, List, [], true, false, Option, Some, Result, Ok, Err, refl, sym, ap, subst, ◌∙◌, inl, inr}
+use Rattle.std.specs.Prelude.{if◌then◌else◌, IfOk}
 use Rattle.soc_base.specs.declared.no_memory.NoMemory.{NoMemory}
 use Rattle.soc_forms.specs.declared.form_error.FormError.TheVariants.{Malformed}
 use Rattle.soc_forms.specs.declared.reasons.Reason.{Reason}
@@ -12,7 +12,9 @@ use Rattle.soc_forms.specs.Submissions.{SubmissionOf, SubmissionText}
 use Rattle.soc_http.specs.declared.head.Head.{Head}
 use Rattle.soc_http.specs.declared.route.Route.{Route}
 use Rattle.soc_http.specs.declared.route.Route.TheVariants as R
-use Rattle.soc_http.specs.Route.{route_of}
+use Rattle.soc_http.specs.declared.route.RouteError.{RouteError}
+use Rattle.soc_http.specs.declared.route.RouteError.TheVariants.{NoRoute, WrongVerb, NoMemory as Wanting}
+use Rattle.soc_http.specs.Route.{IsRouteOf, route_of}
 use Rattle.soc_schema.specs.declared.caller.Caller.{Caller}
 use Rattle.soc_session.specs.declared.intake.Content.{Content}
 use Rattle.soc_session.specs.declared.intake.Content.TheVariants.{Decided, Submitted}
@@ -21,9 +23,9 @@ use Rattle.soc_session.specs.declared.intake.Intake.TheVariants.{Passes, Feeds, 
 use Rattle.soc_session.specs.declared.plans.Plan.{Plan as Planning}
 use Rattle.soc_session.specs.declared.routes.asks.Action.{Action}
 use Rattle.soc_session.specs.declared.rules.Rules.{Rules}
-use Rattle.soc_session.specs.Plan.{Plan, says, Plans, PlansRoute, asker_of, encoding_in, kinds_in}
+use Rattle.soc_session.specs.Plan.{Plan, says, Plans, PlansRoute, asker_of, encoding_in, found_at, kinds_in, lacks_page}
 use Rattle.soc_session.specs.Replies.{malformed}
-use Rattle.soc_session.specs.inner.Intakes.{Awaits, AwaitsAt, AwaitsSubmission, IsFormReady, IsOfBody, Says, asks_of}
+use Rattle.soc_session.specs.inner.Intakes.{Awaits, AwaitsAt, AwaitsSubmission, IsFormReady, IsFound, IsOfBody, Says, asks_of}
 use Rattle.soc_session.specs.inner.Passing.{IsPassing}
 use Rattle.soc_session.specs.inner.Plans.{message_of, plan_text}
 use Rattle.soc_session.proofs.PlanLemmas.{Plans-for}
@@ -44,34 +46,45 @@ Awaits-malformed head reason (Err error) (Err other) fault is passes = tt
 
 -- ---- a route
 
--- a route whose plan the head gives
-pub Awaits-passing : (route at : Route) (caller : Caller) (head : Head) (said : Result Planning NoMemory) (result : Result Intake NoMemory) (plan : Plan) → route ≡ at → IfOk said (λ p. plan_text p ≡ plan)
-    → ((rules : Rules) (body : List ℕ) → PlansRoute rules (message_of head body) [] plan at caller) → IsPassing said result → AwaitsAt route caller head result
-Awaits-passing route at caller head (Ok p) (Ok (Passes q)) plan is said plans passes =
-    let same : q ≡ p = cc in
-    λ rules body. subst (λ r. PlansRoute rules (message_of head body) [] (plan_text q) r caller) (sym is)
-    (subst (λ t. PlansRoute rules (message_of head body) [] t at caller) (sym (ap plan_text same ∙ said)) (plans rules body))
-Awaits-passing route at caller head (Ok p) (Ok (Feeds fresh)) plan is said plans passes = absurd (let never : ⊥ = cc in never)
-Awaits-passing route at caller head (Ok p) (Ok (Collects action asker)) plan is said plans passes = absurd (let never : ⊥ = cc in never)
-Awaits-passing route at caller head (Ok p) (Err error) plan is said plans passes = tt
-Awaits-passing route at caller head (Err error) (Ok intake) plan is said plans passes = absurd passes
-Awaits-passing route at caller head (Err error) (Err other) plan is said plans passes = tt
+-- the path of the page, where there is none
+pub found-none : (rules : Rules) (head : Head) → lacks_page rules head ≡ true → IsFound (found_at rules head) (Err NoRoute)
+found-none rules head lacks = ap (λ b. if b then Err NoRoute else route_of head.verb head.path) lacks
 
-pub Awaits-plan : (route at : Route) (caller : Caller) (head : Head) (p : Planning) (plan : Plan) → route ≡ at → plan_text p ≡ plan
-    → ((rules : Rules) (body : List ℕ) → PlansRoute rules (message_of head body) [] plan at caller) → AwaitsAt route caller head (Ok (Passes p))
-Awaits-plan route at caller head p plan is said plans = Awaits-passing route at caller head (Ok p) (Ok (Passes p)) plan is said plans refl
+-- any other path
+pub found-else : (rules : Rules) (head : Head) (result : Result Route RouteError) → lacks_page rules head ≡ false → IsRouteOf head.verb head.path result → IsFound (found_at rules head) result
+found-else rules head (Ok route) lacks is = ap (λ b. if b then Err NoRoute else route_of head.verb head.path) lacks ∙ is
+found-else rules head (Err NoRoute) lacks is = ap (λ b. if b then Err NoRoute else route_of head.verb head.path) lacks ∙ is
+found-else rules head (Err (WrongVerb allow)) lacks is = ap (λ b. if b then Err NoRoute else route_of head.verb head.path) lacks ∙ is
+found-else rules head (Err Wanting) lacks is = tt
+
+-- a route whose plan the head gives
+pub Awaits-passing : (rules : Rules) (route at : Route) (caller : Caller) (head : Head) (said : Result Planning NoMemory) (result : Result Intake NoMemory) (plan : Plan) → route ≡ at → IfOk said (λ p. plan_text p ≡ plan)
+    → ((body : List ℕ) → PlansRoute rules (message_of head body) [] plan at caller) → IsPassing said result → AwaitsAt rules route caller head result
+Awaits-passing rules route at caller head (Ok p) (Ok (Passes q)) plan is said plans passes =
+    let same : q ≡ p = cc in
+    λ body. subst (λ r. PlansRoute rules (message_of head body) [] (plan_text q) r caller) (sym is)
+    (subst (λ t. PlansRoute rules (message_of head body) [] t at caller) (sym (ap plan_text same ∙ said)) (plans body))
+Awaits-passing rules route at caller head (Ok p) (Ok (Feeds fresh)) plan is said plans passes = absurd (let never : ⊥ = cc in never)
+Awaits-passing rules route at caller head (Ok p) (Ok (Collects action asker)) plan is said plans passes = absurd (let never : ⊥ = cc in never)
+Awaits-passing rules route at caller head (Ok p) (Err error) plan is said plans passes = tt
+Awaits-passing rules route at caller head (Err error) (Ok intake) plan is said plans passes = absurd passes
+Awaits-passing rules route at caller head (Err error) (Err other) plan is said plans passes = tt
+
+pub Awaits-plan : (rules : Rules) (route at : Route) (caller : Caller) (head : Head) (p : Planning) (plan : Plan) → route ≡ at → plan_text p ≡ plan
+    → ((body : List ℕ) → PlansRoute rules (message_of head body) [] plan at caller) → AwaitsAt rules route caller head (Ok (Passes p))
+Awaits-plan rules route at caller head p plan is said plans = Awaits-passing rules route at caller head (Ok p) (Ok (Passes p)) plan is said plans refl
 
 -- a submission's route
-pub Awaits-submit : (route : Route) (caller : Caller) (head : Head) (result : Result Intake NoMemory) → route ≡ R.Submit → AwaitsSubmission head result → AwaitsAt route caller head result
-Awaits-submit route caller head (Ok (Passes plan)) is awaits = λ rules body. subst (λ r. PlansRoute rules (message_of head body) [] (plan_text plan) r caller) (sym is) (awaits rules body)
-Awaits-submit route caller head (Ok (Feeds fresh)) is awaits = (is, awaits)
-Awaits-submit route caller head (Ok (Collects action asker)) is awaits = absurd awaits
-Awaits-submit route caller head (Err error) is awaits = tt
+pub Awaits-submit : (rules : Rules) (route : Route) (caller : Caller) (head : Head) (result : Result Intake NoMemory) → route ≡ R.Submit → AwaitsSubmission head result → AwaitsAt rules route caller head result
+Awaits-submit rules route caller head (Ok (Passes plan)) is awaits = λ body. subst (λ r. PlansRoute rules (message_of head body) [] (plan_text plan) r caller) (sym is) (awaits rules body)
+Awaits-submit rules route caller head (Ok (Feeds fresh)) is awaits = (is, awaits)
+Awaits-submit rules route caller head (Ok (Collects action asker)) is awaits = absurd awaits
+Awaits-submit rules route caller head (Err error) is awaits = tt
 
 -- a route whose form names a crash
-pub Awaits-collects : (route at : Route) (caller : Caller) (head : Head) (action : Action) → route ≡ at
-    → ((rules : Rules) (body : List ℕ) → PlansRoute rules (message_of head body) [] (asks_of action caller body) at caller) → AwaitsAt route caller head (Ok (Collects action caller))
-Awaits-collects route at caller head action is plans = λ rules body. subst (λ r. PlansRoute rules (message_of head body) [] (asks_of action caller body) r caller) (sym is) (plans rules body)
+pub Awaits-collects : (rules : Rules) (route at : Route) (caller : Caller) (head : Head) (action : Action) → route ≡ at
+    → ((body : List ℕ) → PlansRoute rules (message_of head body) [] (asks_of action caller body) at caller) → AwaitsAt rules route caller head (Ok (Collects action caller))
+Awaits-collects rules route at caller head action is plans = λ body. subst (λ r. PlansRoute rules (message_of head body) [] (asks_of action caller body) r caller) (sym is) (plans body)
 
 -- ---- any message
 
@@ -88,14 +101,14 @@ Awaits-refused rules head (Err error) (Ok intake) plan said plans passes = absur
 Awaits-refused rules head (Err error) (Err other) plan said plans passes = tt
 
 -- a known caller's route
-pub Awaits-for : (rules : Rules) (route : Route) (caller : Caller) (head : Head) (result : Result Intake NoMemory) → route_of head.verb head.path ≡ Ok route → Some caller ≡ asker_of rules head
-    → AwaitsAt route caller head result → Awaits rules head result
-Awaits-for rules route caller head (Ok (Passes plan)) at who awaits = λ body. Plans-for rules (message_of head body) [] (plan_text plan) route (Some caller) at who (awaits rules body)
+pub Awaits-for : (rules : Rules) (route : Route) (caller : Caller) (head : Head) (result : Result Intake NoMemory) → found_at rules head ≡ Ok route → Some caller ≡ asker_of rules head
+    → AwaitsAt rules route caller head result → Awaits rules head result
+Awaits-for rules route caller head (Ok (Passes plan)) at who awaits = λ body. Plans-for rules (message_of head body) [] (plan_text plan) route (Some caller) at who (awaits body)
 Awaits-for rules route caller head (Ok (Feeds fresh)) at who (is, new) = (
   λ body drawn plan p. Plans-for rules (message_of head body) drawn plan route (Some caller) at who (subst (λ r. PlansRoute rules (message_of head body) drawn plan r caller) (sym is) p),
   new,
 )
-Awaits-for rules route caller head (Ok (Collects action asker)) at who awaits = λ body. Plans-for rules (message_of head body) [] (asks_of action asker body) route (Some caller) at who (awaits rules body)
+Awaits-for rules route caller head (Ok (Collects action asker)) at who awaits = λ body. Plans-for rules (message_of head body) [] (asks_of action asker body) route (Some caller) at who (awaits body)
 Awaits-for rules route caller head (Err error) at who awaits = tt
 
 pub form-ready : (rules : Rules) (head : Head) (intake : Result Intake NoMemory) → Awaits rules head intake → IsFormReady intake

@@ -18,7 +18,7 @@ put_more out a b p q first second = second ∙ ap (λ l. l ++ b) first ∙ appen
 pub put-three : (out a b c p q r : List ℕ) → p ≡ out ++ a → q ≡ p ++ b → r ≡ q ++ c → r ≡ out ++ (a ++ b ++ c)
 put-three out a b c p q r first second third = put_more out (a ++ b) c q r (put_more out a b p q first second) third
 
-put_seven : (out a b c d e f g p q r s t u v : List ℕ) → p ≡ out ++ a → q ≡ p ++ b → r ≡ q ++ c → s ≡ r ++ d → t ≡ s ++ e → u ≡ t ++ f → v ≡ u ++ g
+pub put_seven : (out a b c d e f g p q r s t u v : List ℕ) → p ≡ out ++ a → q ≡ p ++ b → r ≡ q ++ c → s ≡ r ++ d → t ≡ s ++ e → u ≡ t ++ f → v ≡ u ++ g
     → v ≡ out ++ (a ++ b ++ c ++ d ++ e ++ f ++ g)
 put_seven out a b c d e f g p q r s t u v one two three four five six seven =
     put_more out (a ++ b ++ c ++ d ++ e ++ f) g u v

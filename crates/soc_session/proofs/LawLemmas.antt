@@ -13,7 +13,7 @@ use Rattle.soc_http.specs.Route.{is_verb, route_of, taken_with, target_of}
 use Rattle.soc_forms.proofs.LawLemmas.{one_submission}
 use Rattle.soc_session.specs.declared.rules.Rules.{Rules}
 use Rattle.soc_session.specs.Laws.{IsOnePlan}
-use Rattle.soc_session.specs.Plan.{Drawn, Plan, says, PlansAt, PlansFor, PlansRoute, PlansSubmission, Undrawn, asker_of, plan_of}
+use Rattle.soc_session.specs.Plan.{Drawn, Plan, says, PlansAt, PlansFor, PlansRoute, PlansSubmission, Undrawn, asker_of, found_at, lacks_page, plan_of}
 use Rattle.soc_session.specs.Replies.{malformed}
 
 -- ---- once
@@ -43,6 +43,11 @@ route_once rules message drawn plan plan' R.Tops caller p q = undrawn_once drawn
 route_once rules message drawn plan plan' R.Turn caller p q = undrawn_once drawn plan plan' _ p q
 route_once rules message drawn plan plan' R.Drain caller p q = undrawn_once drawn plan plan' _ p q
 route_once rules message drawn plan plan' R.Stop caller p q = undrawn_once drawn plan plan' _ p q
+route_once rules message drawn plan plan' R.Counts caller p q = undrawn_once drawn plan plan' _ p q
+route_once rules message drawn plan plan' R.Heartbeat caller p q = undrawn_once drawn plan plan' _ p q
+route_once rules message drawn plan plan' R.Alive caller p q = undrawn_once drawn plan plan' _ p q
+route_once rules message drawn plan plan' R.Version caller p q = undrawn_once drawn plan plan' _ p q
+route_once rules message drawn plan plan' R.Front caller p q = undrawn_once drawn plan plan' _ p q
 route_once rules message drawn plan plan' (R.Report text) caller p q = undrawn_once drawn plan plan' _ p q
 route_once rules message drawn plan plan' R.Search caller p q = undrawn_once drawn plan plan' _ p q
 route_once rules message drawn plan plan' R.TopsPage caller p q = undrawn_once drawn plan plan' _ p q
@@ -89,6 +94,11 @@ route_draws rules message drawn drawn' plan plan' R.Tops caller p q = undrawn_bo
 route_draws rules message drawn drawn' plan plan' R.Turn caller p q = undrawn_both drawn drawn' plan plan' _ p q
 route_draws rules message drawn drawn' plan plan' R.Drain caller p q = undrawn_both drawn drawn' plan plan' _ p q
 route_draws rules message drawn drawn' plan plan' R.Stop caller p q = undrawn_both drawn drawn' plan plan' _ p q
+route_draws rules message drawn drawn' plan plan' R.Counts caller p q = undrawn_both drawn drawn' plan plan' _ p q
+route_draws rules message drawn drawn' plan plan' R.Heartbeat caller p q = undrawn_both drawn drawn' plan plan' _ p q
+route_draws rules message drawn drawn' plan plan' R.Alive caller p q = undrawn_both drawn drawn' plan plan' _ p q
+route_draws rules message drawn drawn' plan plan' R.Version caller p q = undrawn_both drawn drawn' plan plan' _ p q
+route_draws rules message drawn drawn' plan plan' R.Front caller p q = undrawn_both drawn drawn' plan plan' _ p q
 route_draws rules message drawn drawn' plan plan' (R.Report text) caller p q = undrawn_both drawn drawn' plan plan' _ p q
 route_draws rules message drawn drawn' plan plan' R.Search caller p q = undrawn_both drawn drawn' plan plan' _ p q
 route_draws rules message drawn drawn' plan plan' R.TopsPage caller p q = undrawn_both drawn drawn' plan plan' _ p q
@@ -126,6 +136,11 @@ some_for rules message R.Tops (Some caller) = inr (_, (refl, refl))
 some_for rules message R.Turn (Some caller) = inr (_, (refl, refl))
 some_for rules message R.Drain (Some caller) = inr (_, (refl, refl))
 some_for rules message R.Stop (Some caller) = inr (_, (refl, refl))
+some_for rules message R.Counts (Some caller) = inr (_, (refl, refl))
+some_for rules message R.Heartbeat (Some caller) = inr (_, (refl, refl))
+some_for rules message R.Alive (Some caller) = inr (_, (refl, refl))
+some_for rules message R.Version (Some caller) = inr (_, (refl, refl))
+some_for rules message R.Front (Some caller) = inr (_, (refl, refl))
 some_for rules message (R.Report text) (Some caller) = inr (_, (refl, refl))
 some_for rules message R.Search (Some caller) = inr (_, (refl, refl))
 some_for rules message R.TopsPage (Some caller) = inr (_, (refl, refl))
@@ -142,9 +157,13 @@ some_at : (rules : Rules) (message : Message) (verb : Verb) (target : Option Tar
 some_at rules message verb None = inr (_, (refl, refl))
 some_at rules message verb (Some target) = some_taken rules message target (is_verb verb target.verb)
 
+some_found : (rules : Rules) (message : Message) (lacks : Bool) → SomeAt rules message (if lacks then Err NoRoute else route_of message.head.verb message.head.path)
+some_found rules message true = inr (_, (refl, refl))
+some_found rules message false = some_at rules message message.head.verb (target_of message.head.path)
+
 pub one_plan : IsOnePlan
 one_plan = record {
-  once = λ rules message drawn plan plan' p q. at_once rules message drawn plan plan' (route_of message.head.verb message.head.path) p q;
-  draws = λ rules message drawn drawn' plan plan' p q. at_draws rules message drawn drawn' plan plan' (route_of message.head.verb message.head.path) p q;
-  some = λ rules message. some_at rules message message.head.verb (target_of message.head.path);
+  once = λ rules message drawn plan plan' p q. at_once rules message drawn plan plan' (found_at rules message.head) p q;
+  draws = λ rules message drawn drawn' plan plan' p q. at_draws rules message drawn drawn' plan plan' (found_at rules message.head) p q;
+  some = λ rules message. some_found rules message (lacks_page rules message.head);
 }

@@ -16,12 +16,11 @@ use Rattle.soc_tops.specs.Asked.{IsRefusal as IsTopsRefusal}
 use Rattle.soc_http.specs.declared.route.Route.{Route}
 use Rattle.soc_http.specs.declared.route.RouteError.{RouteError}
 use Rattle.soc_http.specs.Message.{Message}
-use Rattle.soc_http.specs.Route.{route_of}
 use Rattle.soc_desk.specs.Commands.{CommandText}
 use Rattle.soc_session.specs.declared.forms.ReplyForm.{ReplyForm}
 use Rattle.soc_session.specs.declared.plans.Plan.{Plan as Planned}
 use Rattle.soc_session.specs.declared.rules.Rules.{Rules}
-use Rattle.soc_session.specs.Plan.{Drawn, IsDrawn, Plan, says, asks, about, search_by, tops_by, MayDrawFor, Plans, PlansAt, PlansFor, PlansSubmission, HoldsSubmission, asker_of, plan_of}
+use Rattle.soc_session.specs.Plan.{Drawn, IsDrawn, Plan, says, asks, about, search_by, tops_by, MayDrawFor, Plans, PlansAt, PlansFor, PlansSubmission, HoldsSubmission, asker_of, found_at, plan_of}
 use Rattle.soc_session.specs.Replies.{not_found, query_refusal, tops_refusal}
 use Rattle.soc_session.specs.inner.Intakes.{IsSubmitted}
 use Rattle.soc_session.specs.inner.Plans.{Draws, HandsDrawn, plan_text}
@@ -60,11 +59,11 @@ Draws-submitted rules message x y result submitted draws =
 
 -- a route's plans are the message's
 pub Plans-at : (rules : Rules) (message : Message) (drawn : List Drawn) (plan : Plan) (found : Result Route RouteError)
-    → route_of message.head.verb message.head.path ≡ found → PlansAt rules message drawn plan found → Plans rules message drawn plan
+    → found_at rules message.head ≡ found → PlansAt rules message drawn plan found → Plans rules message drawn plan
 Plans-at rules message drawn plan found is plans = subst (PlansAt rules message drawn plan) (sym is) plans
 
 pub Plans-for : (rules : Rules) (message : Message) (drawn : List Drawn) (plan : Plan) (route : Route) (asker : Option Caller)
-    → route_of message.head.verb message.head.path ≡ Ok route → asker ≡ asker_of rules message.head → PlansFor rules message drawn plan route asker
+    → found_at rules message.head ≡ Ok route → asker ≡ asker_of rules message.head → PlansFor rules message drawn plan route asker
     → Plans rules message drawn plan
 Plans-for rules message drawn plan route asker is who plans =
     Plans-at rules message drawn plan (Ok route) is (subst (PlansFor rules message drawn plan route) who plans)

@@ -1,16 +1,17 @@
 -- Worked rows of what is answered, computed.
-use Rattle.std.specs.Prelude.{◌≡◌, [], ◌∷◌, codes, None, refl}
+use Rattle.std.specs.Prelude.{◌≡◌, true, false, [], ◌∷◌, codes, None, refl}
 use Rattle.std.specs.Fmt.{digits}
 use Rattle.soc_raw.specs.CrashId.{is_id}
 use Rattle.soc_schema.specs.declared.permission.Permission.TheVariants.{ProtectedData}
 use Rattle.soc_query.specs.declared.error.QueryError.TheVariants.{NotGranted}
 use Rattle.soc_http.specs.declared.reply.Kind.TheVariants.{Json, Html}
+use Rattle.soc_desk.specs.declared.desk.Counts.{Counts}
 use Rattle.soc_desk.specs.declared.desk.Refusal.TheVariants as F
 use Rattle.soc_desk.specs.declared.desk.Reply.TheVariants as D
 use Rattle.soc_session.specs.declared.forms.ReplyForm.TheVariants as form
 use Rattle.soc_session.specs.Parameters.{crash_named, dump_named, id_in}
 use Rattle.soc_session.specs.Plan.{about, says}
-use Rattle.soc_session.specs.Replies.{desk_reply, good, not_found, plain, query_refusal}
+use Rattle.soc_session.specs.Replies.{desk_reply, good, not_found, plain, query_refusal, version_reply}
 use Rattle.soc_desk.specs.Commands.{to_withdraw}
 use Rattle.soc_schema.specs.declared.caller.Caller.{Caller}
 
@@ -52,3 +53,20 @@ dump_of_the_empty_name = refl
 
 withdrawal_of_no_crash : (caller : Caller) → about None (to_withdraw caller) form.Data ≡ says not_found
 withdrawal_of_no_crash caller = refl
+
+abbrev counted : Counts
+counted = record { asks = 3; crashes = 2; due = 1; journal_size = 114; reports = 1; withdrawn = 0; in_doubt = true }
+
+-- the doubt isn't one of the numbers
+counts_of_a_log_in_doubt : desk_reply form.Data (D.Counted counted) ≡ good Json (codes "{\"asks\":3,\"crashes\":2,\"due\":1,\"journal_size\":114,\"reports\":1,\"withdrawn\":0}")
+unfolding digits
+counts_of_a_log_in_doubt = refl
+
+heartbeat_of_a_log_in_doubt : desk_reply form.Heartbeat (D.Counted counted) ≡ plain 503 (codes "store_fault")
+heartbeat_of_a_log_in_doubt = refl
+
+heartbeat : desk_reply form.Heartbeat (D.Counted (record counted { in_doubt = false })) ≡ plain 200 (codes "ok")
+heartbeat = refl
+
+version_that_is_not_told : version_reply None ≡ good Json (codes "{\"name\":\"socorro\"}")
+version_that_is_not_told = refl

@@ -9,6 +9,7 @@ use Rattle.soc_schema.specs.declared.field.FieldKind.TheVariants.{Text, Number, 
 use Rattle.soc_schema.specs.Fields.{FieldEntry, field_table}
 use Rattle.soc_schema.specs.Permits.{holds, permission_name}
 use Rattle.soc_schema.specs.Commas.{joined}
+use Rattle.soc_desk.specs.declared.desk.Counts.{Counts}
 
 -- ---- annotations
 
@@ -50,3 +51,15 @@ turned_json (Some id) = codes "{\"processed\":\"" ++ id ++ codes "\"}"
 
 abbrev pub drained_json : ℕ → List ℕ
 drained_json count = codes "{\"processed\":" ++ decimal count ++ codes "}"
+
+-- ---- what a log has
+
+abbrev pub count_json : List ℕ → ℕ → List ℕ
+count_json front count = front ++ decimal count
+
+-- an object of numbers, without the doubt
+abbrev pub counts_json : Counts → List ℕ
+counts_json counts =
+    count_json (codes "{\"asks\":") counts.asks ++ count_json (codes ",\"crashes\":") counts.crashes ++ count_json (codes ",\"due\":") counts.due
+    ++ count_json (codes ",\"journal_size\":") counts.journal_size ++ count_json (codes ",\"reports\":") counts.reports
+    ++ count_json (codes ",\"withdrawn\":") counts.withdrawn ++ codes "}"

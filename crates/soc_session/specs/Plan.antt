@@ -1,5 +1,5 @@
 -- What a message comes to under the rules: a reply that needs no desk, or what the desk is asked. This project's profile.
-use Rattle.std.specs.Prelude.{◌≡◌, ℕ, ◌<◌, ◌^◌, List, [], ◌∷◌, length, Option, None, Some, Result, Ok, Err, codes, ⊤}
+use Rattle.std.specs.Prelude.{◌≡◌, ℕ, ◌<◌, ◌^◌, Bool, true, ◌&&◌, if◌then◌else◌, List, [], ◌∷◌, length, bytes_eq, is_none, Option, None, Some, Result, Ok, Err, codes, ⊤}
 use Rattle.soc_raw.specs.CrashId.{id_text}
 use Rattle.soc_raw.specs.Day.{IsMoment, day_of}
 use Rattle.soc_raw.specs.Record.{Crash}
@@ -10,6 +10,8 @@ use Rattle.soc_throttle.specs.declared.rule.Outcome.TheVariants.{Accept, Defer, 
 use Rattle.soc_throttle.specs.declared.rule.Rule.{Rule}
 use Rattle.soc_throttle.specs.Verdicts.{verdict_of}
 use Rattle.soc_schema.specs.declared.caller.Caller.{Caller}
+use Rattle.soc_schema.specs.declared.caller.Products.TheVariants.{All}
+use Rattle.soc_schema.specs.Permits.{public_alone}
 use Rattle.soc_forms.specs.declared.reasons.Reason.{Reason}
 use Rattle.soc_forms.specs.Submissions.{SubmissionText, SubmissionOf, SubmissionFault}
 use Rattle.soc_query.specs.declared.error.QueryError.{QueryError}
@@ -29,14 +31,14 @@ use Rattle.soc_http.specs.Lines.{encoding_of, lines_named}
 use Rattle.soc_http.specs.Query.{query_pairs}
 use Rattle.soc_http.specs.Request.{values_of}
 use Rattle.soc_http.specs.Route.{route_of}
-use Rattle.soc_desk.specs.Commands.{CommandText, to_submit, to_prioritise, to_reprocess, to_withdraw, to_show_raw, to_show_report, to_show_dump, to_search, to_show_tops, to_turn, to_drain, to_stop}
+use Rattle.soc_desk.specs.Commands.{CommandText, to_submit, to_prioritise, to_reprocess, to_withdraw, to_show_raw, to_show_report, to_show_dump, to_search, to_show_tops, to_turn, to_drain, to_stop, to_count}
 use Rattle.soc_session.specs.declared.forms.ReplyForm.{ReplyForm}
 use Rattle.soc_session.specs.declared.forms.ReplyForm.TheVariants as form
 use Rattle.soc_session.specs.declared.rules.Rules.{Rules}
 use Rattle.soc_session.specs.Json.{fields_json}
 use Rattle.soc_session.specs.Lines.{caller_by_keys}
 use Rattle.soc_session.specs.Parameters.{crash_named, dump_named, id_in}
-use Rattle.soc_session.specs.Replies.{good, malformed, no_route, not_found, query_refusal, rejected, tops_refusal, unknown_token, wrong_method}
+use Rattle.soc_session.specs.Replies.{alive, front_reply, good, malformed, no_route, not_found, query_refusal, rejected, tops_refusal, unknown_token, version_reply, wrong_method}
 
 -- what a well-formed submission takes: a moment, then a throttle draw, then an id draw
 pub record Drawn : Type 0 where
@@ -145,6 +147,10 @@ abbrev pub tops_by : Result TopsQuery TopsError → ReplyForm → Plan
 tops_by (Ok query) written = asks (to_show_tops query) written
 tops_by (Err error) written = says (tops_refusal error)
 
+-- who counts for a heartbeat, whoever asks for it: of the counts only whether the log is in doubt is shown
+abbrev pub monitor : Caller
+monitor = record { permissions = record public_alone { operate = true }; products = All }
+
 -- nothing was drawn, and this is the plan
 abbrev pub Undrawn : List Drawn → Plan → Plan → Type 0
 Undrawn drawn plan expected = (drawn ≡ []) × (plan ≡ expected)
@@ -166,6 +172,11 @@ PlansRoute rules message drawn plan R.Tops caller = Undrawn drawn plan (tops_by 
 PlansRoute rules message drawn plan R.Turn caller = Undrawn drawn plan (asks (to_turn caller) form.Data)
 PlansRoute rules message drawn plan R.Drain caller = Undrawn drawn plan (asks (to_drain caller) form.Data)
 PlansRoute rules message drawn plan R.Stop caller = Undrawn drawn plan (asks (to_stop caller) form.Data)
+PlansRoute rules message drawn plan R.Counts caller = Undrawn drawn plan (asks (to_count caller) form.Data)
+PlansRoute rules message drawn plan R.Heartbeat caller = Undrawn drawn plan (asks (to_count monitor) form.Heartbeat)
+PlansRoute rules message drawn plan R.Alive caller = Undrawn drawn plan (says alive)
+PlansRoute rules message drawn plan R.Version caller = Undrawn drawn plan (says (version_reply rules.version))
+PlansRoute rules message drawn plan R.Front caller = Undrawn drawn plan (says (front_reply rules.page))
 PlansRoute rules message drawn plan (R.Report text) caller = Undrawn drawn plan (page_of caller (id_in text))
 PlansRoute rules message drawn plan R.Search caller = Undrawn drawn plan (search_by (query_of caller (query_in message)) form.Page)
 PlansRoute rules message drawn plan R.TopsPage caller = Undrawn drawn plan (tops_by (tops_query_of caller (query_in message)) form.Page)
@@ -184,9 +195,17 @@ PlansAt rules message drawn plan (Err NoRoute) = Undrawn drawn plan (says no_rou
 PlansAt rules message drawn plan (Err (WrongVerb allow)) = Undrawn drawn plan (says (wrong_method allow))
 PlansAt rules message drawn plan (Err NoMemory) = ⊥
 
+-- the path of the service's own page, where it has none
+abbrev pub lacks_page : Rules → Head → Bool
+lacks_page rules head = bytes_eq head.path (codes "/") && is_none rules.page
+
+-- the route of a head; the path of the page has one exactly where there is a page
+abbrev pub found_at : Rules → Head → Result Route RouteError
+found_at rules head = if lacks_page rules head then Err NoRoute else route_of head.verb head.path
+
 -- what a message comes to, and what was drawn for it
 abbrev pub Plans : Rules → Message → List Drawn → Plan → Type 0
-Plans rules message drawn plan = PlansAt rules message drawn plan (route_of message.head.verb message.head.path)
+Plans rules message drawn plan = PlansAt rules message drawn plan (found_at rules message.head)
 
 -- what may have been drawn where memory wanted: nothing yet, or what some plan takes
 abbrev pub MayDrawFor : (List Drawn → Plan → Type 0) → List Drawn → Type 0

@@ -1,6 +1,6 @@
 -- What messages are answered: the table of replies, this project's profile. Each reply here goes on with the connection;
 -- `closing` makes it the last one.
-use Rattle.std.specs.Prelude.{ℕ, Bool, false, List, ◌++◌, codes, None, Some, ⊤}
+use Rattle.std.specs.Prelude.{ℕ, Bool, false, if◌then◌else◌, List, ◌++◌, codes, Option, None, Some, unwrap_or, ⊤}
 use Rattle.soc_schema.specs.declared.value.Cell.{Cell}
 use Rattle.soc_schema.specs.Permits.{permission_name}
 use Rattle.soc_schema.specs.RowJson.{row_json}
@@ -17,17 +17,18 @@ use Rattle.soc_tops.specs.Json.{tops_json}
 use Rattle.soc_pages.specs.Pages.{report_page, search_page, tops_page}
 use Rattle.soc_http.specs.declared.verb.Verb.{Verb}
 use Rattle.soc_http.specs.declared.reply.Kind.{Kind}
-use Rattle.soc_http.specs.declared.reply.Kind.TheVariants.{Plain, Json, Octets, Html}
+use Rattle.soc_http.specs.declared.reply.Kind.TheVariants.{Plain, Json, Octets, Html, OwnPage}
 use Rattle.soc_http.specs.declared.reply.Answered.{Answered}
 use Rattle.soc_http.specs.declared.head.HeadError.{HeadError}
 use Rattle.soc_http.specs.declared.head.HeadError.TheVariants as H
+use Rattle.soc_desk.specs.declared.desk.Counts.{Counts}
 use Rattle.soc_desk.specs.declared.desk.Refusal.{Refusal}
 use Rattle.soc_desk.specs.declared.desk.Refusal.TheVariants as R
 use Rattle.soc_desk.specs.declared.desk.Reply.{Reply}
 use Rattle.soc_desk.specs.declared.desk.Reply.TheVariants as D
 use Rattle.soc_session.specs.declared.forms.ReplyForm.{ReplyForm}
 use Rattle.soc_session.specs.declared.forms.ReplyForm.TheVariants as form
-use Rattle.soc_session.specs.Json.{annotations_json, asked_json, drained_json, turned_json, withdrawn_json}
+use Rattle.soc_session.specs.Json.{annotations_json, asked_json, counts_json, drained_json, turned_json, withdrawn_json}
 
 -- ---- their forms
 
@@ -69,6 +70,18 @@ unknown_token = plain 403 (codes "unknown token")
 
 abbrev pub not_found : Answered
 not_found = plain 404 (codes "not found")
+
+abbrev pub alive : Answered
+alive = plain 200 (codes "ok")
+
+-- which program answers, as it is told, or by the service's name alone
+abbrev pub version_reply : Option (List ℕ) → Answered
+version_reply told = good Json (unwrap_or told (codes "{\"name\":\"socorro\"}"))
+
+-- the service's own page, where it has one
+abbrev pub front_reply : Option (List ℕ) → Answered
+front_reply (Some page) = good OwnPage page
+front_reply None = no_route
 
 -- a submission that isn't kept
 abbrev pub discarded : ℕ → List ℕ → Answered
@@ -128,7 +141,12 @@ abbrev pub tops_reply : ReplyForm → Tops → Answered
 tops_reply form.Page tops = good Html (tops_page tops)
 tops_reply _ tops = good Json (tops_json tops)
 
--- what the desk's reply is answered as; no message asks for what the last three answer
+-- what the log has, as JSON, or for a heartbeat whether it is in doubt
+abbrev pub counts_reply : ReplyForm → Counts → Answered
+counts_reply form.Heartbeat counts = if counts.in_doubt then plain 503 (codes "store_fault") else alive
+counts_reply _ counts = good Json (counts_json counts)
+
+-- what the desk's reply is answered as; no message asks for what the last four answer
 abbrev pub desk_reply : ReplyForm → Reply → Answered
 desk_reply written (D.Stored id due) = kept id
 desk_reply written (D.Repeated id) = kept id
@@ -143,6 +161,8 @@ desk_reply written (D.Turned processed) = good Json (turned_json processed)
 desk_reply written (D.Drained count) = good Json (drained_json count)
 desk_reply written D.Stopping = plain 200 (codes "stopping")
 desk_reply written (D.Refused refusal) = desk_refusal written refusal
+desk_reply written (D.Counted counts) = counts_reply written counts
+desk_reply written (D.Record raw) = no_memory
 desk_reply written (D.Kept count) = no_memory
 desk_reply written (D.Fetched raw) = no_memory
 desk_reply written (D.Finished changed) = no_memory
@@ -153,4 +173,5 @@ BuildsText (D.Raw annotations) = ⊤
 BuildsText (D.Row row) = ⊤
 BuildsText (D.Found answer) = ⊤
 BuildsText (D.Tops tops) = ⊤
+BuildsText (D.Counted counts) = ⊤
 BuildsText _ = ⊥

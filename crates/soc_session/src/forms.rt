@@ -10,6 +10,8 @@ pub(crate) enum ReplyForm {
     Data,
     /// As a page of a search or of top crashers.
     Page,
+    /// As a line of text that says whether a log is in doubt.
+    Heartbeat,
     /// As the page of this crash's report.
     Report(CrashId),
 }

@@ -5,10 +5,11 @@ ghost use Rattle.serde_json.specs.Written.{compact_text};
 ghost use Rattle.soc_schema.specs.Commas.{comma_after, joined};
 ghost use Rattle.soc_schema.specs.Fields.{field_entry, field_table};
 ghost use Rattle.soc_schema.specs.Permits.{holds};
-ghost use Rattle.soc_session.specs.Json.{annotation_json, annotations_json, field_json, fields_json, kind_name};
+ghost use Rattle.soc_session.specs.Json.{annotation_json, annotations_json, count_json, counts_json, field_json, fields_json, kind_name};
 
 use serde_json::Value as Json;
 use soc_base::{Bytes, NoMemory, Texts};
+use soc_desk::Counts;
 use soc_schema::{Caller, Field, FieldKind, granted};
 use std::alloc::Global;
 
@@ -92,6 +93,43 @@ fn kind_name(kind: FieldKind) -> &'static str
         FieldKind::Number => "number",
         FieldKind::Flag => "flag",
     }
+}
+
+/// An object of what a log has, counted.
+pub(crate) fn counts_json(alloc: Global, counts: Counts) -> Result<Bytes, NoMemory>
+    ensures { IfOk result (λ text. text ≡ counts_json counts) }
+{
+    let mut out = Vec::new(alloc);
+    put_counts(&mut out, counts)?;
+    Ok(Bytes::from(out))
+}
+
+fn put_counts(out: &mut Vec<u8>, counts: Counts) -> Result<(), NoMemory>
+    ensures { OnOk result (out.new.items ≡ out.old.items ++ counts_json counts) }
+{
+    put_count(out, "{\"asks\":", counts.asks)?;
+    put_short_count(out, ",\"crashes\":", counts.crashes)?;
+    put_short_count(out, ",\"due\":", counts.due)?;
+    put_count(out, ",\"journal_size\":", counts.journal_size)?;
+    put_short_count(out, ",\"reports\":", counts.reports)?;
+    put_short_count(out, ",\"withdrawn\":", counts.withdrawn)?;
+    put(out, "}")?;
+    Ok(())
+}
+
+/// A number behind this text.
+fn put_count(out: &mut Vec<u8>, front: &str, count: u64) -> Result<(), NoMemory>
+    ensures { OnOk result (out.new.items ≡ out.old.items ++ count_json front.now count) }
+{
+    let mut digits = itoa::Buffer::new();
+    put(out, front)?;
+    put(out, digits.format(count))
+}
+
+fn put_short_count(out: &mut Vec<u8>, front: &str, count: u32) -> Result<(), NoMemory>
+    ensures { OnOk result (out.new.items ≡ out.old.items ++ count_json front.now count) }
+{
+    put_count(out, front, u64::from(count))
 }
 
 /// A comma, unless nothing stands before.

@@ -1,12 +1,12 @@
 //! What messages are answered.
 ghost use Rattle.std.specs.Prelude.{◌≡◌, ◌≢◌, ◌+◌, ◌<◌, ◌≤◌, ◌++◌, [], length, codes, vec_capacity, IfOk, OnErr};
 ghost use Rattle.soc_session.specs.Json.{asked_json, drained_json, turned_json};
-ghost use Rattle.soc_session.specs.Replies.{BuildsText, desk_refusal, desk_reply, found_reply, good, head_refusal, journal_full, kept, malformed, no_memory, plain, query_refusal, rejected, row_reply, tops_refusal, tops_reply, wrong_method};
+ghost use Rattle.soc_session.specs.Replies.{BuildsText, counts_reply, desk_refusal, desk_reply, found_reply, good, head_refusal, journal_full, kept, malformed, no_memory, plain, query_refusal, rejected, row_reply, tops_refusal, tops_reply, wrong_method};
 
 use crate::forms::ReplyForm;
-use crate::json::annotations_json;
+use crate::json::{annotations_json, counts_json};
 use soc_base::{Bytes, NoMemory};
-use soc_desk::{Refusal, Reply};
+use soc_desk::{Counts, Refusal, Reply};
 use soc_forms::Reason;
 use soc_http::{Answered, HeadError, Kind, Verb};
 use soc_pages::{report_page, search_page, tops_page};
@@ -152,10 +152,8 @@ impl Room {
     {
         match form {
             ReplyForm::Submission => self.line(507, "Discarded=journal_full"),
-            ReplyForm::Data | ReplyForm::Page | ReplyForm::Report(_) => self.line(
-                507,
-                "journal_full",
-            ),
+            ReplyForm::Data | ReplyForm::Page | ReplyForm::Heartbeat | ReplyForm::Report(_) =>
+                self.line(507, "journal_full"),
         }
     }
 
@@ -173,6 +171,29 @@ impl Room {
             Refusal::Altered { .. } => self.line(500, "store_altered"),
             Refusal::Withdrawn { .. } => self.line(410, "Discarded=withdrawn"),
             Refusal::NoMemory => self.no_memory(),
+        }
+    }
+
+    /// What a log has, as JSON, or for a heartbeat whether it is in doubt.
+    fn counts_reply(
+        self,
+        alloc: Global,
+        form: ReplyForm,
+        counts: Counts,
+    ) -> Result<Answered, NoMemory>
+        ensures { IfOk result (λ answered. answered ≡ counts_reply form counts) }
+    {
+        match form {
+            ReplyForm::Heartbeat => {
+                if counts.in_doubt {
+                    Ok(self.line(503, "store_fault"))
+                } else {
+                    Ok(self.line(200, "ok"))
+                }
+            }
+            ReplyForm::Submission | ReplyForm::Data | ReplyForm::Page | ReplyForm::Report(_) => {
+                Ok(good(Kind::Json, counts_json(alloc, counts)?))
+            }
         }
     }
 
@@ -200,7 +221,10 @@ impl Room {
             Reply::Drained(count) => Ok(self.drained(count)),
             Reply::Stopping => Ok(self.line(200, "stopping")),
             Reply::Refused(refusal) => Ok(self.desk_refusal(form, refusal)),
-            Reply::Kept(_) | Reply::Fetched(_) | Reply::Finished { .. } => Ok(self.no_memory()),
+            Reply::Counted(counts) => self.counts_reply(alloc, form, counts),
+            Reply::Record(_) | Reply::Kept(_) | Reply::Fetched(_) | Reply::Finished { .. } => {
+                Ok(self.no_memory())
+            }
         }
     }
 }
@@ -224,7 +248,7 @@ fn row_reply(alloc: Global, form: ReplyForm, row: &Row) -> Result<Answered, NoMe
 {
     match form {
         ReplyForm::Report(id) => Ok(good(Kind::Html, report_page(alloc, id, row)?)),
-        ReplyForm::Submission | ReplyForm::Data | ReplyForm::Page => Ok(good(
+        ReplyForm::Submission | ReplyForm::Data | ReplyForm::Page | ReplyForm::Heartbeat => Ok(good(
             Kind::Json,
             row_json(alloc, row)?,
         )),
@@ -237,7 +261,7 @@ fn found_reply(alloc: Global, form: ReplyForm, answer: &Answer) -> Result<Answer
 {
     match form {
         ReplyForm::Page => Ok(good(Kind::Html, search_page(alloc, answer)?)),
-        ReplyForm::Submission | ReplyForm::Data | ReplyForm::Report(_) => {
+        ReplyForm::Submission | ReplyForm::Data | ReplyForm::Heartbeat | ReplyForm::Report(_) => {
             Ok(good(Kind::Json, answer.json(alloc)?))
         }
     }
@@ -249,10 +273,9 @@ fn tops_reply(alloc: Global, form: ReplyForm, tops: &Tops) -> Result<Answered, N
 {
     match form {
         ReplyForm::Page => Ok(good(Kind::Html, tops_page(alloc, tops)?)),
-        ReplyForm::Submission | ReplyForm::Data | ReplyForm::Report(_) => Ok(good(
-            Kind::Json,
-            tops.json(alloc)?,
-        )),
+        ReplyForm::Submission | ReplyForm::Data | ReplyForm::Heartbeat | ReplyForm::Report(_) => Ok(
+            good(Kind::Json, tops.json(alloc)?),
+        ),
     }
 }
 

@@ -1,4 +1,5 @@
 //! What a session goes by.
+use soc_base::Bytes;
 use soc_schema::{Products, Tokens};
 use soc_throttle::RuleSet;
 
@@ -13,4 +14,8 @@ pub struct Rules {
     pub public: Products,
     /// A session ends before the next message once the messages answered hold so many bytes or more.
     pub session_bytes: u64,
+    /// The service's own page, where it has one.
+    pub page: Option<Bytes>,
+    /// What tells which program answers, where that is told.
+    pub version: Option<Bytes>,
 }

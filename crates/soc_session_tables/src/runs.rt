@@ -26,6 +26,8 @@ pub fn rules(alloc: Global, texts: &str, session_bytes: u64) -> Result<Rules, Fa
         tokens: read_tokens(alloc, text_of(alloc, texts, "TOKENS")?.as_slice())?,
         public: Products::All,
         session_bytes,
+        page: Some(Bytes::of(alloc, b"<!DOCTYPE html>\n")?),
+        version: None,
     })
 }
 

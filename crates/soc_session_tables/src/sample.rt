@@ -5,7 +5,7 @@ ghost use Rattle.soc_schema.specs.Rows.{cell};
 ghost use Rattle.soc_desk.specs.Kinds.{IsReplyTo};
 
 use soc_base::{Bytes, NoMemory, Text, Texts};
-use soc_desk::{Command, Desk, Receipt, Refusal, Reply};
+use soc_desk::{Command, Counts, Desk, Receipt, Refusal, Reply};
 use soc_query::{Answer, Facets, Fields, Hits, Query};
 use soc_raw::{CrashId, Digit, RawCrash};
 use soc_schema::{Caller, Field, Permission, Row, Value};
@@ -83,6 +83,7 @@ fn reply_to(alloc: Global, choice: Choice, command: Command) -> Reply
         Command::Raw { caller, id } => annotations(alloc, choice, caller, id),
         Command::Processed { caller, id } => row(alloc, choice, caller, id),
         Command::Dump { caller, id, name } => dump(alloc, choice, caller, id, name),
+        Command::Stack { caller, id } => record(choice, caller, id),
         Command::Search { query } => found(alloc, query),
         Command::Tops { query } => tops(alloc, query),
         Command::Turn { caller } => turned(choice, caller),
@@ -90,6 +91,7 @@ fn reply_to(alloc: Global, choice: Choice, command: Command) -> Reply
         Command::Stop { caller } => stopping(caller),
         Command::Fetch { id } => fetched(id),
         Command::Finish { .. } => Reply::Finished { changed: false },
+        Command::Counts { caller } => counted(choice, caller),
     }
 }
 
@@ -239,6 +241,18 @@ fn dump(alloc: Global, choice: Choice, caller: Caller, id: CrashId, name: Text) 
     }
 }
 
+/// No raw crash is given.
+fn record(choice: Choice, caller: Caller, id: CrashId) -> Reply
+    ensures { IsReplyTo (Command.Stack caller id) result }
+{
+    match choice {
+        Choice::StoreFault => Reply::Refused(Refusal::StoreFault),
+        Choice::NoCrash => Reply::Refused(Refusal::NoCrash),
+        Choice::Altered => Reply::Refused(Refusal::Altered { id }),
+        _ => Reply::Refused(Refusal::NoMemory),
+    }
+}
+
 /// An answer without hits, of a query without facets.
 fn found(alloc: Global, query: Query) -> Reply
     ensures { IsReplyTo (Command.Search query) result }
@@ -317,6 +331,26 @@ fn stopping(caller: Caller) -> Reply
         });
     }
     Reply::Stopping
+}
+
+/// Counts that differ from one another, the largest of each, or a log in doubt.
+fn counted(choice: Choice, caller: Caller) -> Reply
+    ensures { IsReplyTo (Command.Counts caller) result }
+{
+    if !caller.permissions.has(Permission::Operate) {
+        return Reply::Refused(Refusal::NoPermission {
+            name: Permission::Operate,
+        });
+    }
+    Reply::Counted(Counts {
+        asks: u64::MAX,
+        crashes: u32::MAX,
+        due: 2,
+        journal_size: 3,
+        reports: 4,
+        withdrawn: 5,
+        in_doubt: matches!(choice, Choice::Other),
+    })
 }
 
 fn fetched(id: CrashId) -> Reply

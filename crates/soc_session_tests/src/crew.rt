@@ -57,6 +57,8 @@ fn rules(alloc: Global) -> Result<Rules, Fail> {
         tokens: Tokens::read(alloc, &toml::Value::Table(table))?,
         public: Products::All,
         session_bytes: 100_000,
+        page: None,
+        version: None,
     })
 }
 

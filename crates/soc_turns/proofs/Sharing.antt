@@ -112,6 +112,8 @@ module _ {D R : Type 0} {d : disk.Ghosts D} {r : reporter.Ghosts R} (tells : Boo
   allowed digest (C.Dump caller id name) may = tt
   allowed digest (C.Search query) may = tt
   allowed digest (C.Tops query) may = tt
+  allowed digest (C.Stack caller id) may = tt
+  allowed digest (C.Counts caller) may = tt
   allowed digest (C.Turn caller) may = tt
   allowed digest (C.Drain caller) may = tt
   allowed digest (C.Stop caller) may = tt

@@ -38,6 +38,13 @@ impl<'a, D: Disk> Vault<'a, D> {
         self.journal.in_doubt()
     }
 
+    /// How many bytes the journal's header and entries have.
+    pub fn size(&self) -> u64
+        ensures { result ≡ self.now.journal.gate }
+    {
+        self.journal.gate()
+    }
+
     /// How many bytes the limit leaves from the closed gate on.
     pub fn room(&self) -> u64
         ensures { result ≡ self.now.journal.limit - self.now.journal.gate }

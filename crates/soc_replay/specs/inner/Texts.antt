@@ -6,6 +6,7 @@ use Rattle.soc_replay.specs.declared.refusal.FileRefusal.TheVariants as F
 use Rattle.soc_replay.specs.declared.refusal.FilesFault.{FilesFault}
 use Rattle.soc_replay.specs.declared.refusal.FilesFault.TheVariants.{Refused, Tree, Maker, NoMemory}
 use Rattle.soc_replay.specs.declared.texts.Texts.{Texts}
+use Rattle.soc_replay.specs.Files.{shown_at}
 
 -- these are the files' bytes, and no file is missing
 pub record AreTexts (files : Files) (texts : Texts) : Type 0 where
@@ -13,6 +14,8 @@ pub record AreTexts (files : Files) (texts : Texts) : Type 0 where
   pub tokens : texts.tokens ≡ text_at files (codes "tokens.toml")
   pub none_missing : missing_in files ≡ None
   pub kit : texts.kit ≡ texts_in files
+  pub page : texts.page ≡ shown_at files (codes "ui.html")
+  pub version : texts.version ≡ shown_at files (codes "version.json")
 
 abbrev pub IsReadRefusal : Files → FileRefusal → Type 0
 IsReadRefusal files (F.Missing name) = missing_in files ≡ Some name

@@ -16,6 +16,8 @@ use Rattle.soc_http.specs.declared.body.BodyError.TheVariants as B
 use Rattle.soc_http.specs.declared.head.Head.{Head}
 use Rattle.soc_http.specs.declared.route.Route.{Route}
 use Rattle.soc_http.specs.declared.route.Route.TheVariants as R
+use Rattle.soc_http.specs.declared.route.RouteError.{RouteError}
+use Rattle.soc_http.specs.declared.route.RouteError.TheVariants as E
 use Rattle.soc_http.specs.Body.{BodyFrom}
 use Rattle.soc_http.specs.Message.{Message}
 use Rattle.soc_http.specs.Query.{query_pairs}
@@ -50,12 +52,19 @@ AwaitsSubmission head (Ok (Feeds fresh)) = IsNewForm head fresh
 AwaitsSubmission head (Ok (Collects action caller)) = ⊥
 AwaitsSubmission head (Err error) = ⊤
 
+-- the route that is found, or why there is none; want of memory says nothing of it
+abbrev pub IsFound : Result Route RouteError → Result Route RouteError → Type 0
+IsFound found (Ok route) = found ≡ Ok route
+IsFound found (Err E.NoRoute) = found ≡ Err E.NoRoute
+IsFound found (Err (E.WrongVerb allow)) = found ≡ Err (E.WrongVerb allow)
+IsFound found (Err E.NoMemory) = ⊤
+
 -- a known caller's intake at its route
-abbrev pub AwaitsAt : Route → Caller → Head → Result Intake NoMemory → Type 0
-AwaitsAt route caller head (Ok (Passes plan)) = (rules : Rules) (body : List ℕ) → PlansRoute rules (message_of head body) [] (plan_text plan) route caller
-AwaitsAt route caller head (Ok (Feeds fresh)) = (route ≡ R.Submit) × IsNewForm head fresh
-AwaitsAt route caller head (Ok (Collects action asker)) = (rules : Rules) (body : List ℕ) → PlansRoute rules (message_of head body) [] (asks_of action asker body) route caller
-AwaitsAt route caller head (Err error) = ⊤
+abbrev pub AwaitsAt : Rules → Route → Caller → Head → Result Intake NoMemory → Type 0
+AwaitsAt rules route caller head (Ok (Passes plan)) = (body : List ℕ) → PlansRoute rules (message_of head body) [] (plan_text plan) route caller
+AwaitsAt rules route caller head (Ok (Feeds fresh)) = (route ≡ R.Submit) × IsNewForm head fresh
+AwaitsAt rules route caller head (Ok (Collects action asker)) = (body : List ℕ) → PlansRoute rules (message_of head body) [] (asks_of action asker body) route caller
+AwaitsAt rules route caller head (Err error) = ⊤
 
 -- what a submission of this head comes to is what the message comes to
 abbrev pub IsSubmitted : Rules → Head → Type 0

@@ -1,6 +1,6 @@
 //! What operators ask. Query and body are passed over.
 ghost use Rattle.std.specs.Prelude.{◌≡◌};
-ghost use Rattle.soc_desk.specs.Commands.{to_drain, to_stop, to_turn};
+ghost use Rattle.soc_desk.specs.Commands.{to_count, to_drain, to_stop, to_turn};
 ghost use Rattle.soc_session.specs.Plan.{asks};
 ghost use Rattle.soc_session.specs.inner.Plans.{plan_text};
 
@@ -28,4 +28,11 @@ pub(super) fn stop(caller: Caller) -> Plan
     ensures { plan_text result ≡ asks (to_stop caller) ReplyForm.Data }
 {
     Plan::asking(Command::Stop { caller }, ReplyForm::Data)
+}
+
+/// `/control/counts`: what the log has, counted.
+pub(super) fn counts(caller: Caller) -> Plan
+    ensures { plan_text result ≡ asks (to_count caller) ReplyForm.Data }
+{
+    Plan::asking(Command::Counts { caller }, ReplyForm::Data)
 }

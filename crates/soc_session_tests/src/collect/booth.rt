@@ -3,7 +3,7 @@ ghost use Rattle.std.specs.Prelude.{◌≡◌, ◌≤◌, if◌then◌else◌};
 ghost use Rattle.soc_schema.specs.Permits.{holds};
 ghost use Rattle.soc_desk.specs.Kinds.{IsReplyTo};
 
-use soc_desk::{Command, Desk, KeepingDesk, Receipt, Refusal, Reply};
+use soc_desk::{Command, Counts, Desk, KeepingDesk, Receipt, Refusal, Reply};
 use soc_schema::{Caller, Permission};
 
 // How many commands are counted.
@@ -72,6 +72,17 @@ fn refusal(caller: &Caller, permission: Permission) -> Reply
     Reply::Refused(Refusal::NoPermission { name: permission })
 }
 
+// The counts of an empty log.
+const NOTHING: Counts = Counts {
+    asks: 0,
+    crashes: 0,
+    due: 0,
+    journal_size: 8,
+    reports: 0,
+    withdrawn: 0,
+    in_doubt: false,
+};
+
 fn reply_to(command: &Command) -> Reply
     ensures { IsReplyTo command.now result }
 {
@@ -84,6 +95,12 @@ fn reply_to(command: &Command) -> Reply
         Command::Stop { caller } => {
             if caller.permissions.has(Permission::Operate) {
                 return Reply::Stopping;
+            }
+            refusal(caller, Permission::Operate)
+        }
+        Command::Counts { caller } => {
+            if caller.permissions.has(Permission::Operate) {
+                return Reply::Counted(NOTHING);
             }
             refusal(caller, Permission::Operate)
         }

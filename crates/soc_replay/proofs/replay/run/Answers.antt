@@ -1,6 +1,5 @@
-use Rattle.std.proofs.Common.{◌≡◌, ℕ, List, Ok, ap, sym, ◌∙◌, arith}
+use Rattle.std.proofs.Common.{arith}
 use Rattle.soc_edge.proofs.Disks.{GoesOn-none}
-use Rattle.soc_replay.specs.Setup.{setup_of}
 use Rattle.soc_replay.proofs.FileLemmas.{kit_not_tree, says_said}
 use Rattle.soc_replay.proofs.ReplayLemmas.{runs_with}
 use Rattle.soc_replay.proofs.replay.run.Goals as goal
@@ -21,11 +20,8 @@ pub returns-clause-runs : goal.returns-clause-runs
 returns-clause-runs g c =
     let texts = c.in_ok-texts.texts in
     let setup = c.in_ok-setup.setup in
-    let set : setup_of texts.settings texts.tokens ≡ Ok setup =
-    sym (ap (λ (s : List ℕ). setup_of s texts.tokens) c.as_slice.ensures)
-    ∙ (sym (ap (λ (t : List ℕ). setup_of c.as_slice.result.now t) c.as_slice-2.ensures) ∙ c.in_ok-setup.ensures) in
     record {
       said = record { setup = setup; texts = texts.kit };
-      says = says_said _ texts setup c.in_ok-texts.ensures.told set c.in_ok-kit.ensures.reads.0;
+      says = says_said _ texts setup c.in_ok-texts.ensures.told c.in_ok-setup.ensures c.in_ok-kit.ensures.reads.0;
       runs = runs_with _ _ _ _ _ _ c.in_ok-kit.ensures.reads.1 c.serve.ensures.runs;
     }
