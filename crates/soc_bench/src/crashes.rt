@@ -52,6 +52,20 @@ pub fn made_crash(alloc: Global, dump: Option<&[u8]>) -> Result<RawCrash, Fault>
     Ok(RawCrash::decode(alloc, record.as_slice())?)
 }
 
+/// A crash of a number, whose record has 1,024 bytes.
+pub fn crash_of(alloc: Global, number: u64) -> Result<RawCrash, Fault> {
+    let id = format!(in alloc; "{number:08x}-0000-4000-8000-000000160918")?;
+    let mut record = Vec::from_slice(alloc, id.as_bytes())?;
+    record.extend_from_slice(&MOMENT.to_le_bytes())?;
+    record.extend_from_slice(&0u64.to_le_bytes())?;
+    put(&mut record, b"accept_all")?;
+    put_count(&mut record, 1)?;
+    put(&mut record, b"Comments")?;
+    put(&mut record, &[b'x'; 934])?;
+    put_count(&mut record, 0)?;
+    Ok(RawCrash::decode(alloc, record.as_slice())?)
+}
+
 /// A text or a dump of a record.
 fn put(record: &mut Vec<u8>, bytes: &[u8]) -> Result<(), AllocError> {
     put_count(record, bytes.len())?;

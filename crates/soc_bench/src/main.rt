@@ -20,10 +20,12 @@ mod search;
 mod signature;
 mod symbol_text;
 mod symbols;
+mod together;
 mod walks;
 
 use fault::Fault;
 use std::env;
+use std::fs::File;
 use std::process::ExitCode;
 use std::rt::{Clock, Env, Files};
 use std::sync::Wait;
@@ -41,9 +43,18 @@ fn main(rt: HostRuntime) -> ExitCode {
 }
 
 /// Does the workload that the first word names. The words after it are the workload's own.
-fn run<R: Env + Files + Clock + CpuClock + Print + Eprint + AllocGlobal + Threads + Wait + Sync>(
-    rt: &R,
-) -> Result<(), Fault> {
+fn run<
+    R: Env
+        + Files<File = File>
+        + Clock
+        + CpuClock
+        + Print
+        + Eprint
+        + AllocGlobal
+        + Threads
+        + Wait
+        + Sync,
+>(rt: &R) -> Result<(), Fault> {
     let mut words = Vec::new(rt.alloc());
     for word in env::args(rt)?.skip(1) {
         words.push(word)?;
@@ -54,11 +65,9 @@ fn run<R: Env + Files + Clock + CpuClock + Print + Eprint + AllocGlobal + Thread
     }
 }
 
-fn work<R: Files + Clock + CpuClock + Print + Eprint + AllocGlobal + Threads + Wait + Sync>(
-    rt: &R,
-    workload: &str,
-    words: &[String],
-) -> Result<(), Fault> {
+fn work<
+    R: Files<File = File> + Clock + CpuClock + Print + Eprint + AllocGlobal + Threads + Wait + Sync,
+>(rt: &R, workload: &str, words: &[String]) -> Result<(), Fault> {
     match workload {
         "bodies" => bodies::run(rt, words),
         "symbols" => symbols::run(rt, words),
@@ -69,6 +78,7 @@ fn work<R: Files + Clock + CpuClock + Print + Eprint + AllocGlobal + Threads + W
         "search" => search::run(rt, words),
         "hall" => hall::run(rt, words),
         "ring" => ring::run(rt, words),
+        "together" => together::run(rt, words),
         _ => Err(Fault::Words),
     }
 }

@@ -42,6 +42,7 @@ waits_in_doubt basis log ledger None [] f are = refl
 waits_in_doubt basis log ledger None (first ∷ more) f are = absurd are
 waits_in_doubt basis log ledger (Some pending) (first ∷ more) f are = sym (some_waits (length (map f more)))
 waits_in_doubt basis log ledger (Some (P.Accept new)) [] f are = absurd are
+waits_in_doubt basis log ledger (Some (P.Accepts news)) [] f are = absurd are
 waits_in_doubt basis log ledger (Some (P.Ask number)) [] f are = absurd are
 waits_in_doubt basis log ledger (Some (P.Withdraw number)) [] f are = absurd are
 waits_in_doubt basis log ledger (Some (P.Reports numbers)) [] f are = absurd are

@@ -29,7 +29,7 @@ use Rattle.soc_book.specs.inner.Keepings.{HasGathered, IsBatch, IsMost, IsSameBa
 use Rattle.soc_book.specs.inner.Pieces.{AreAppended, product_at}
 use Rattle.soc_book.specs.declared.book.Change.{Change as Pending}
 use Rattle.soc_book.specs.declared.keep.Batch.{Batch}
-use Rattle.soc_book.specs.inner.Stands.{AreHeld, AreReports, FitReports, Holds, IsReportOf, Stands, most_reports, with_reports}
+use Rattle.soc_book.specs.inner.Stands.{AreHeld, AreReports, FitReports, Holds, IsReportOf, Stands, most_together, with_reports}
 use Rattle.soc_book.proofs.Changes.{entries-all}
 use Rattle.soc_book.proofs.Keepings.{and_left, distinct_here, entry_is, id_there, idle_here, made, may_make, no_entry, not_over, own_is, part_skips, report_legal, report_told}
 use Rattle.soc_book.proofs.Pushing.{pushed_reports}
@@ -345,7 +345,7 @@ pub batch_same : (ledger : LedgerState) (journal : JournalState) (before after :
 batch_same ledger journal before after same is = record {
   bytes_are = same.bytes ∙ (is.bytes_are ∙ ap (λ (es : List Entry). length (entries_text es)) (sym same.entries));
   same_count = ap (λ (es : List Entry). length es) same.entries ∙ (is.same_count ∙ ap (λ (ns : List ℕ). length ns) (sym same.numbers));
-  few = subst (λ (ns : List ℕ). length ns ≤ most_reports) (sym same.numbers) is.few;
+  few = subst (λ (ns : List ℕ). length ns ≤ most_together) (sym same.numbers) is.few;
   held = subst (λ (ns : List ℕ). AreHeld ledger ns) (sym same.numbers) is.held;
   room = subst (λ (es : List Entry). 0 < length es → journal.gate + length (sealed_all es) ≤ journal.limit) (sym same.entries) is.room;
 }
@@ -360,7 +360,7 @@ entry_sized (Some row) named product digest most entry makes = let sized = makes
 
 -- its report was added
 batch_pushed : (ledger : LedgerState) (journal : JournalState) (before after : Batch) (number : ℕ) (row : Option (List Cell)) (named : List ℕ) (product : Option (List ℕ)) (digest : List ℕ) (most : ℕ) (entry : Entry) → MakesEntry row named product digest most (Some entry) → IsMost (journal.gate + before.bytes) journal.limit most
-    → number < length ledger.crashes → is_wanted ledger.log (id_of ledger number) ≡ true → length before.numbers.items < most_reports
+    → number < length ledger.crashes → is_wanted ledger.log (id_of ledger number) ≡ true → length before.numbers.items < most_together
     → after.entries.items ≡ before.entries.items ++ entry ∷ [] → after.numbers.items ≡ before.numbers.items ++ number ∷ [] → after.bytes ≡ before.bytes + length (entry_text entry) → IsBatch ledger journal before → IsBatch ledger journal after
 batch_pushed ledger journal before after number row named product digest most entry makes is_most within wanted few entries numbers bytes is =
     let text = ap (λ (es : List Entry). length (entries_text es)) entries in
@@ -382,7 +382,7 @@ batch_pushed ledger journal before after number row named product digest most en
 
 -- or it couldn't be
 pub batch_added : {E : Type 0} (ledger : LedgerState) (journal : JournalState) (before after : Batch) (number : ℕ) (row : Option (List Cell)) (named : List ℕ) (product : Option (List ℕ)) (digest : List ℕ) (most : ℕ) (entry : Entry) → MakesEntry row named product digest most (Some entry) → IsMost (journal.gate + before.bytes) journal.limit most
-    → number < length ledger.crashes → is_wanted ledger.log (id_of ledger number) ≡ true → length before.numbers.items < most_reports → (answer : Result (Unit {0}) E)
+    → number < length ledger.crashes → is_wanted ledger.log (id_of ledger number) ≡ true → length before.numbers.items < most_together → (answer : Result (Unit {0}) E)
     → OnOk answer (after.entries.items ≡ before.entries.items ++ entry ∷ []) → OnOk answer (after.numbers.items ≡ before.numbers.items ++ number ∷ []) → OnOk answer (after.bytes ≡ before.bytes + length (entry_text entry)) → OnErr answer (IsSameBatch before after)
     → IsBatch ledger journal before → IsBatch ledger journal after
 batch_added ledger journal before after number row named product digest most entry makes is_most within wanted few (Ok done) entries numbers bytes same is =

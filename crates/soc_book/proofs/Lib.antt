@@ -1,9 +1,11 @@
+pub mod Accepting
 pub mod Asking
 pub mod Changes
 pub mod Countings
 pub mod Deciding
 pub mod Filing
 pub mod Gatherings
+pub mod Joinings
 pub mod Keepings
 pub mod Kept
 pub mod Listings

@@ -1,5 +1,5 @@
 -- The tables once a change is added to them stand for the log with that change.
-use Rattle.std.proofs.Common.{◌≡◌, ◌≢◌, ℕ, ◌+◌, ◌<◌, ◌^◌, Bool, true, false, not, ◌&&◌, IsTrue, List, [], ◌∷◌, ◌++◌, length, map, Option, Some, None, IfSome, IsSome, sym, ap, subst, ◌∙◌, refl, arith, length-append, inl, inr}
+use Rattle.std.proofs.Common.{◌≡◌, ◌≢◌, ℕ, ◌+◌, ◌-◌, ◌<◌, ◌^◌, min, Bool, true, false, not, ◌&&◌, IsTrue, List, [], ◌∷◌, ◌++◌, length, map, Option, Some, None, IfSome, IsSome, sym, ap, subst, ◌∙◌, refl, arith, length-append, inl, inr}
 use Rattle.std.specs.Prelude.{bytes_eq, is_some, if◌then◌else◌}
 use Rattle.std.specs.Option.{option_map, option_map_or}
 use Rattle.std.proofs.lemmas.Bool.{cases_lt}
@@ -9,7 +9,8 @@ use Rattle.std.proofs.lemmas.Slice.Eq.{bytes_eq-Decides}
 use Rattle.soc_raw.specs.Record.{Crash, head_text, content_text, record_of}
 use Rattle.soc_raw.proofs.Lengths.{record_length}
 use Rattle.soc_schema.specs.declared.value.Cell.{Cell}
-use Rattle.soc_journal.specs.Entries.{Entry, head_size, place_behind}
+use Rattle.soc_journal.specs.Entries.{Entry, entries_text, entry_text, head_size, place_behind}
+use Rattle.soc_journal.proofs.Texts.{length-entry_text, place_behind-push}
 use Rattle.soc_ledger.specs.declared.crash.Filed.{Filed}
 use Rattle.soc_ledger.specs.declared.event.Event.{Event}
 use Rattle.soc_ledger.specs.declared.event.Event.TheVariants as E
@@ -18,7 +19,7 @@ use Rattle.soc_ledger.specs.Events.{was_accepted, accepted_ids, is_among}
 use Rattle.soc_ledger.specs.State.{LedgerState, id_of, with_event}
 use Rattle.soc_ledger.proofs.Lists.{AreDistinct, true_is_not_false, same_text, all-weaker}
 use Rattle.soc_ledger.proofs.Logs.{distinct_ids, not_true}
-use Rattle.soc_ledger.proofs.More.{due_since-more}
+use Rattle.soc_ledger.proofs.More.{accepted_ids-more, due_since-more}
 use Rattle.soc_store.specs.Stored.{row_at, without_row}
 use Rattle.soc_store.proofs.StoreLemmas.{rise_without}
 use Rattle.soc_desk.specs.Basis.{Basis}
@@ -29,7 +30,7 @@ use Rattle.soc_book.specs.declared.book.Change.{Change as Pending}
 use Rattle.soc_book.specs.declared.book.Change.TheVariants as P
 use Rattle.soc_book.specs.declared.submission.NewCrash.{NewCrash}
 use Rattle.soc_book.specs.inner.Books.{Tells}
-use Rattle.soc_book.specs.inner.Stands.{ArePending, AreReports, Fits, IsFiledAt, Pushes, IsFiledOf, IsFiled, AreFiled, HasRow, HasRows, Holds, IsPending, with_reports}
+use Rattle.soc_book.specs.inner.Stands.{AreAccepted, AreNew, ArePending, AreReports, Fits, IsFiledAt, Pushes, PushesNew, IsFiledOf, IsFiled, AreFiled, HasRow, HasRows, Holds, IsPending, with_reports}
 use Rattle.soc_book.proofs.Changes.{accepted-more, entries-more, ids_of-log, legal-front}
 use Rattle.soc_book.proofs.Filing.{AreFiled-more, AreFiled-push, filed_ids, id_of-front, id_of-last, among_ids, distinct_numbers}
 use Rattle.soc_book.proofs.Rows.{row_accept, row_ask, row_new, row_others, row_report, row_withdrawn, row_at-others, row_at-taken, no_row_past, all_left}
@@ -38,6 +39,28 @@ use Rattle.soc_book.proofs.Rows.{row_accept, row_ask, row_new, row_others, row_r
 pub record IsPlaced (basis : Basis) (log : List Change) (change : Kept) (place : ℕ) : Type 0 where
   pub place_is : place ≡ place_behind (entries_of (kept_of log))
   pub ends : place + head_size + length (body_of change) < 2 ^ 64
+
+-- where the entries of kept changes stand, and that they end below 2 ^ 64
+pub record ArePlaced (basis : Basis) (log : List Change) (changes : List Kept) (place : ℕ) : Type 0 where
+  pub place_is : place ≡ place_behind (entries_of (kept_of log))
+  pub ends : place + length (entries_text (entries_of changes)) < 2 ^ 64
+
+module _ (basis : Basis) (log : List Change) (change : Kept) (more : List Kept) (place : ℕ) (placed : ArePlaced basis log (change ∷ more) place) where
+  parts : length (entries_text (entries_of (change ∷ more))) ≡ length (entry_text (entry_of change)) + length (entries_text (entries_of more))
+  parts = length-append (entry_text (entry_of change)) (entries_text (entries_of more))
+
+  placed_first : IsPlaced basis log change place
+  placed_first =
+      let ends = placed.ends in
+      record { place_is = placed.place_is; ends = omega (arith, ends, parts, length-entry_text (entry_of change)) }
+
+  placed_next : (size : ℕ) → size ≡ length (entry_text (entry_of change)) → ArePlaced basis (log ++ keep change ∷ []) more (min (place + size) (2 ^ 64 - 1))
+  placed_next size sized =
+      let ends = placed.ends in
+      let at = placed.place_is in
+      let next : place_behind (entries_of (kept_of (log ++ keep change ∷ []))) ≡ place_behind (entries_of (kept_of log)) + length (entry_text (entry_of change)) =
+      ap (λ (es : List Entry). place_behind es) (entries-more log change) ∙ place_behind-push (entries_of (kept_of log)) (entry_of change) in
+      record { place_is = omega (arith, at, ends, parts, next, sized); ends = omega (arith, ends, parts, sized) }
 
 abbrev row_of : ℕ → List (ℕ × List Cell) → Option (List Cell)
 row_of number rows = option_map (λ s. s.1) (row_at number rows)
@@ -262,17 +285,50 @@ pushed_reports basis (number ∷ numbers) (report made ∷ changes) log ledger r
     subst (λ (l : List Change). Holds basis l (with_reports (with_event ledger event) numbers) rows) (append_assoc log (keep (report made) ∷ []) (map keep changes))
     (pushed_reports basis numbers changes one (with_event ledger event) rows all first (later_reports basis log made ledger event numbers changes are))
 
+-- ---- new crashes, one behind the other
+
+size_told : (basis : Basis) (new : NewCrash) (id : List ℕ) (raw : Option Crash) → IfSome raw (λ r. Tells new r × IsTrue basis.is_told) → IsSome raw → new.size ≡ length (entry_text (entry_of (accept record { id = id; raw = raw })))
+size_told basis new id None tells some = absurd (true_is_not_false (sym some))
+size_told basis new id (Some raw) tells some = tells.0.size ∙ sym (length-entry_text (entry_of (accept record { id = id; raw = Some raw })))
+
+pub pushed_new : (basis : Basis) (news : List NewCrash) (changes : List Kept) (log : List Change) (ledger : LedgerState) (rows : List (ℕ × List Cell)) (place : ℕ) (ledger' : LedgerState) (end : ℕ) → IsLegal basis (log ++ map keep changes)
+    → Holds basis log ledger rows → AreNew (accepted_ids ledger.log) news → AreAccepted basis news changes → (IsTrue basis.is_told → ArePlaced basis log changes place) → PushesNew ledger news place ledger' end
+    → Holds basis (log ++ map keep changes) ledger' rows
+pushed_new basis [] [] log ledger rows place ledger' end legal holds new are placed (same, same_end) =
+    subst (λ (l : List Change). Holds basis l ledger' rows) (sym (append-nil log)) (subst (λ (l : LedgerState). Holds basis log l rows) (sym same) holds)
+pushed_new basis [] (change ∷ changes) log ledger rows place ledger' end legal holds new are placed pushes = absurd are
+pushed_new basis (new ∷ news) [] log ledger rows place ledger' end legal holds fresh are placed pushes = absurd are
+pushed_new basis (new ∷ news) (ask id ∷ changes) log ledger rows place ledger' end legal holds fresh (is, are) placed pushes = absurd is
+pushed_new basis (new ∷ news) (withdraw id ∷ changes) log ledger rows place ledger' end legal holds fresh (is, are) placed pushes = absurd is
+pushed_new basis (new ∷ news) (report made ∷ changes) log ledger rows place ledger' end legal holds fresh (is, are) placed pushes = absurd is
+pushed_new basis (new ∷ news) (accept crash ∷ changes) log ledger rows place ledger' end legal holds (fresh, others) (is, are) placed (filed, at, pushes) =
+    let one = log ++ keep (accept crash) ∷ [] in
+    let before = legal-front basis log (map keep (accept crash ∷ changes)) legal in
+    let first : Holds basis one (record (with_event ledger (E.Accepted filed.id)) { crashes = ledger.crashes ++ filed ∷ [] }) rows =
+    pushed_accept basis log ledger rows before holds new crash filed place at is.0 (IfSome_then crash.raw is.1 (λ raw both. both.0)) (ap (λ l. was_accepted l crash.id) (sym holds.events_are) ∙ (ap (λ x. was_accepted ledger.log x) (sym is.0) ∙ fresh))
+    (λ some. placed_first basis log (accept crash) changes place (placed (told_pending basis log ledger rows before holds new crash.raw is.1 some))) in
+    let all : IsLegal basis (one ++ map keep changes) = subst (IsLegal basis) (sym (append_assoc log (keep (accept crash) ∷ []) (map keep changes))) legal in
+    let ids : accepted_ids (ledger.log ++ E.Accepted filed.id ∷ []) ≡ accepted_ids ledger.log ++ new.id ∷ [] =
+    accepted_ids-more ledger.log (E.Accepted filed.id) ∙ ap (λ x. accepted_ids ledger.log ++ x ∷ []) at.id in
+    subst (λ (l : List Change). Holds basis l ledger' rows) (append_assoc log (keep (accept crash) ∷ []) (map keep changes))
+    (pushed_new basis news changes one (record (with_event ledger (E.Accepted filed.id)) { crashes = ledger.crashes ++ filed ∷ [] }) rows (min (place + new.size) (2 ^ 64 - 1)) ledger' end all first
+    (subst (λ (xs : List (List ℕ)). AreNew xs news) (sym ids) others) are
+    (λ is_told. placed_next basis log (accept crash) changes place (placed is_told) new.size (size_told basis new crash.id crash.raw is.1 (is.2 is_told))) pushes)
+
 -- ---- all changes that waited
 
 pub pushed_all : (basis : Basis) (log : List Change) (ledger : LedgerState) (rows : List (ℕ × List Cell)) → IsLegal basis log → Holds basis log ledger rows → (pending : Pending) (changes : List Kept) (place : ℕ) (ledger' : LedgerState) (rows' : List (ℕ × List Cell))
-    → IsLegal basis (log ++ map keep changes) → Fits ledger pending → ArePending basis log ledger (Some pending) changes → ((change : Kept) → changes ≡ change ∷ [] → IsTrue basis.is_told → IsPlaced basis log change place)
+    → IsLegal basis (log ++ map keep changes) → Fits ledger pending → ArePending basis log ledger (Some pending) changes → (IsTrue basis.is_told → ArePlaced basis log changes place)
     → Pushes ledger rows pending place ledger' rows' → Holds basis (log ++ map keep changes) ledger' rows'
 pushed_all basis log ledger rows legal holds (P.Reports numbers) [] place ledger' rows' next fits are placed pushes = absurd are
 pushed_all basis log ledger rows legal holds (P.Reports numbers) (first ∷ more) place ledger' rows' next fits are placed (same_ledger, same_rows) =
     moved basis log ledger rows legal holds (log ++ map keep (first ∷ more)) (with_reports ledger numbers.items) ledger' rows rows' same_ledger same_rows (pushed_reports basis numbers.items (first ∷ more) log ledger rows next holds are)
-pushed_all basis log ledger rows legal holds (P.Accept new) (change ∷ []) place ledger' rows' next fits are placed pushes = pushed basis log ledger rows legal holds (P.Accept new) change place ledger' rows' fits are (placed change refl) pushes
-pushed_all basis log ledger rows legal holds (P.Ask number) (change ∷ []) place ledger' rows' next fits are placed pushes = pushed basis log ledger rows legal holds (P.Ask number) change place ledger' rows' fits are (placed change refl) pushes
-pushed_all basis log ledger rows legal holds (P.Withdraw number) (change ∷ []) place ledger' rows' next fits are placed pushes = pushed basis log ledger rows legal holds (P.Withdraw number) change place ledger' rows' fits are (placed change refl) pushes
+pushed_all basis log ledger rows legal holds (P.Accepts news) [] place ledger' rows' next fits are placed pushes = absurd are
+pushed_all basis log ledger rows legal holds (P.Accepts news) (first ∷ more) place ledger' rows' next fits are placed ((end, pushes), same_rows) =
+    moved basis log ledger rows legal holds (log ++ map keep (first ∷ more)) ledger' ledger' rows rows' refl same_rows (pushed_new basis news.items (first ∷ more) log ledger rows place ledger' end next holds fits.3 are placed pushes)
+pushed_all basis log ledger rows legal holds (P.Accept new) (change ∷ []) place ledger' rows' next fits are placed pushes = pushed basis log ledger rows legal holds (P.Accept new) change place ledger' rows' fits are (λ is_told. placed_first basis log change [] place (placed is_told)) pushes
+pushed_all basis log ledger rows legal holds (P.Ask number) (change ∷ []) place ledger' rows' next fits are placed pushes = pushed basis log ledger rows legal holds (P.Ask number) change place ledger' rows' fits are (λ is_told. placed_first basis log change [] place (placed is_told)) pushes
+pushed_all basis log ledger rows legal holds (P.Withdraw number) (change ∷ []) place ledger' rows' next fits are placed pushes = pushed basis log ledger rows legal holds (P.Withdraw number) change place ledger' rows' fits are (λ is_told. placed_first basis log change [] place (placed is_told)) pushes
 pushed_all basis log ledger rows legal holds (P.Accept new) [] place ledger' rows' next fits are placed pushes = absurd are
 pushed_all basis log ledger rows legal holds (P.Ask number) [] place ledger' rows' next fits are placed pushes = absurd are
 pushed_all basis log ledger rows legal holds (P.Withdraw number) [] place ledger' rows' next fits are placed pushes = absurd are

@@ -33,7 +33,7 @@ use Rattle.soc_desk.proofs.Logs.{has_id, events-more, held_plain, reverse-more, 
 use Rattle.soc_desk.proofs.Views.{true_is_not_false}
 use Rattle.soc_book.specs.declared.book.Change.{Change as Pending}
 use Rattle.soc_book.specs.declared.book.Change.TheVariants as P
-use Rattle.soc_book.specs.inner.Stands.{AreFiled, AreHeld, ArePending, AreReports, FitJournal, IsPending, Fits, HasRow, HasRows, IsOnDisk, IsSafe, Stands, most_reports}
+use Rattle.soc_book.specs.inner.Stands.{AreFiled, AreHeld, AreNew, ArePending, AreReports, FitJournal, IsPending, Fits, HasRow, HasRows, IsOnDisk, IsSafe, Stands, most_together}
 use Rattle.soc_book.proofs.Changes.{accepted-more, legal-front}
 use Rattle.soc_book.proofs.Listings.{is_eq-nat}
 
@@ -181,10 +181,8 @@ module _ (basis : Basis) (log later : List Change) (idle : (id : List ℕ) → i
   same_reports (number ∷ numbers) (withdraw id ∷ changes) (is, are) = absurd is
 
   same_pending : (pending : Pending) (kept : Kept) → IsPending basis log ledger pending kept → IsPending basis later (record ledger { log = log'; room = room }) pending kept
-  same_pending (P.Accept new) (accept crash) is = is
-  same_pending (P.Accept new) (ask id) is = absurd is
-  same_pending (P.Accept new) (withdraw id) is = absurd is
-  same_pending (P.Accept new) (report made) is = absurd is
+  same_pending (P.Accept new) kept is = is
+  same_pending (P.Accepts news) kept is = absurd is
   same_pending (P.Ask number) (accept crash) is = absurd is
   same_pending (P.Ask number) (ask id) is = is
   same_pending (P.Ask number) (withdraw id) is = absurd is
@@ -200,6 +198,8 @@ module _ (basis : Basis) (log later : List Change) (idle : (id : List ℕ) → i
   all_pending None (kept ∷ more) are = absurd are
   all_pending (Some (P.Reports numbers)) [] are = absurd are
   all_pending (Some (P.Reports numbers)) (first ∷ more) are = same_reports numbers.items (first ∷ more) are
+  all_pending (Some (P.Accepts news)) [] are = absurd are
+  all_pending (Some (P.Accepts news)) (first ∷ more) are = are
   all_pending (Some (P.Accept new)) [] are = absurd are
   all_pending (Some (P.Accept new)) (kept ∷ []) are = same_pending (P.Accept new) kept are
   all_pending (Some (P.Accept new)) (kept ∷ other ∷ more) are = absurd are
@@ -283,11 +283,13 @@ still_held ledger event room [] no_accept no_withdrawal held = tt
 still_held ledger event room (number ∷ numbers) no_accept no_withdrawal held =
     ((held.0.0, held_plain ledger.log event (id_of ledger number) no_accept no_withdrawal ∙ held.0.1), still_held ledger event room numbers no_accept no_withdrawal held.1)
 
-fits_quiet : (ledger : LedgerState) (event : Event) (room : ℕ) (pending : Pending) → accepts event ≡ None → withdraws event ≡ None → most_reports < room → Fits ledger pending → Fits (with_event (record ledger { room = room }) event) pending
-fits_quiet ledger event room (P.Accept new) no_accept no_withdrawal large fits = (omega arith, new_still, fits.2) where
-  new_still : was_accepted (ledger.log ++ event ∷ []) new.id ≡ false
-  new_still =
-      ap (λ ids. is_among ids new.id) (accepted_ids-more ledger.log event ∙ (ap (λ o. accepted_ids ledger.log ++ cons_option o []) no_accept ∙ append-nil (accepted_ids ledger.log))) ∙ fits.1
+same_ids : (ledger : LedgerState) (event : Event) → accepts event ≡ None → accepted_ids (ledger.log ++ event ∷ []) ≡ accepted_ids ledger.log
+same_ids ledger event no_accept = accepted_ids-more ledger.log event ∙ (ap (λ o. accepted_ids ledger.log ++ cons_option o []) no_accept ∙ append-nil (accepted_ids ledger.log))
+
+fits_quiet : (ledger : LedgerState) (event : Event) (room : ℕ) (pending : Pending) → accepts event ≡ None → withdraws event ≡ None → most_together < room → Fits ledger pending → Fits (with_event (record ledger { room = room }) event) pending
+fits_quiet ledger event room (P.Accept new) no_accept no_withdrawal large fits = (omega arith, ap (λ ids. is_among ids new.id) (same_ids ledger event no_accept) ∙ fits.1, fits.2)
+fits_quiet ledger event room (P.Accepts news) no_accept no_withdrawal large fits =
+    (omega arith, fits.1, fits.2, subst (λ (ids : List (List ℕ)). AreNew ids news.items) (sym (same_ids ledger event no_accept)) fits.3)
 fits_quiet ledger event room (P.Ask number) no_accept no_withdrawal large fits = (omega arith, fits.1, held_plain ledger.log event (id_of ledger number) no_accept no_withdrawal ∙ fits.2)
 fits_quiet ledger event room (P.Withdraw number) no_accept no_withdrawal large fits = (omega arith, fits.1, held_plain ledger.log event (id_of ledger number) no_accept no_withdrawal ∙ fits.2)
 fits_quiet ledger event room (P.Reports numbers) no_accept no_withdrawal large fits = (omega arith, fits.1, still_held ledger event room numbers.items no_accept no_withdrawal fits.2)
@@ -296,8 +298,9 @@ pub held_room : (ledger : LedgerState) (room : ℕ) (numbers : List ℕ) → Are
 held_room ledger room [] held = tt
 held_room ledger room (number ∷ numbers) held = (held.0, held_room ledger room numbers held.1)
 
-fits_room : (ledger : LedgerState) (room : ℕ) (pending : Pending) → most_reports ≤ room → Fits ledger pending → Fits (record ledger { room = room }) pending
+fits_room : (ledger : LedgerState) (room : ℕ) (pending : Pending) → most_together ≤ room → Fits ledger pending → Fits (record ledger { room = room }) pending
 fits_room ledger room (P.Accept new) large fits = (omega arith, fits.1, fits.2)
+fits_room ledger room (P.Accepts news) large fits = (large, fits.1, fits.2, fits.3)
 fits_room ledger room (P.Ask number) large fits = (omega arith, fits.1, fits.2)
 fits_room ledger room (P.Withdraw number) large fits = (omega arith, fits.1, fits.2)
 fits_room ledger room (P.Reports numbers) large fits = (large, fits.1, held_room ledger room numbers.items fits.2)
@@ -306,13 +309,13 @@ all_fit : {A : Type 0} {P Q : A → Type 0} (o : Option A) → ((x : A) → P x 
 all_fit None weaker all = tt
 all_fit (Some x) weaker all = weaker x all
 
-pub safe_quiet : (ledger : LedgerState) (journal : JournalState) (pending : Option Pending) (event : Event) (room : ℕ) → accepts event ≡ None → withdraws event ≡ None → most_reports < room
+pub safe_quiet : (ledger : LedgerState) (journal : JournalState) (pending : Option Pending) (event : Event) (room : ℕ) → accepts event ≡ None → withdraws event ≡ None → most_together < room
     → IsSafe ledger journal pending → IsSafe (with_event (record ledger { room = room }) event) journal pending
 safe_quiet ledger journal pending event room no_accept no_withdrawal large safe =
     record { unsettled = safe.unsettled; fits = all_fit pending (λ change fits. fits_quiet ledger event room change no_accept no_withdrawal large fits) safe.fits }
 
 -- the same once the event was added
-pub safe_after : (ledger roomy after : LedgerState) (journal : JournalState) (pending : Option Pending) (event : Event) → roomy ≡ record ledger { room = roomy.room } → most_reports + 1 ≤ roomy.room → after ≡ with_event roomy event
+pub safe_after : (ledger roomy after : LedgerState) (journal : JournalState) (pending : Option Pending) (event : Event) → roomy ≡ record ledger { room = roomy.room } → most_together + 1 ≤ roomy.room → after ≡ with_event roomy event
     → accepts event ≡ None → withdraws event ≡ None → IsSafe ledger journal pending → IsSafe after journal pending
 safe_after ledger roomy after journal pending event same large is no_accept no_withdrawal safe =
     subst (λ l. IsSafe l journal pending) (sym (is ∙ ap (λ l. with_event l event) same)) (safe_quiet ledger journal pending event roomy.room no_accept no_withdrawal (omega (arith, large)) safe)

@@ -208,8 +208,8 @@ module _ (own : Option (List ℕ)) (ledger : LedgerState) (rows : Rows) (start :
     same_accept raw is kind_is body basis (report made) same last = let wrong : 82 ≡ 65 = kind_is_of (report made) accept_kind same kind_is in absurd (omega (arith, wrong))
 
     accept_pending : (basis : Basis) (changes : List Change) (new : NewCrash) (raw : Crash) → Tells new raw → (b : Bool) → basis.is_told ≡ b → IsPending basis changes ledger (P.Accept new) (as_told b (accepting raw))
-    accept_pending basis changes new raw tells true is = (tells.id, (tells, is))
-    accept_pending basis changes new raw tells false is = (tells.id, tt)
+    accept_pending basis changes new raw tells true is = (tells.id, (tells, is), λ is_told. refl)
+    accept_pending basis changes new raw tells false is = (tells.id, tt, λ is_told. absurd (true_is_not_false (sym is_told ∙ is)))
 
     pair_is : (filed : Filed) (crash : Accepted) → filed.id ≡ crash.id → filed.product ≡ option_and_then product_of crash.raw → kept_pair filed ≡ told_pair crash
     pair_is filed crash same_id same_product =

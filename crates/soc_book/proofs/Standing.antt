@@ -1,5 +1,5 @@
 -- What settling, appending and reading leave of a book that stands for a state.
-use Rattle.std.proofs.Common.{◌≡◌, ◌≢◌, ◌⊎◌, inl, inr, ℕ, ◌+◌, ◌<◌, ◌≤◌, ◌^◌, true, false, IsTrue, List, [], ◌∷◌, ◌++◌, length, map, Option, Some, None, IfSome, IsSomeAnd, Result, Ok, Err, sym, ap, subst, ◌∙◌, refl, arith}
+use Rattle.std.proofs.Common.{◌≡◌, ◌≢◌, ◌⊎◌, inl, inr, ℕ, ◌+◌, ◌-◌, ◌<◌, ◌≤◌, ◌^◌, min, true, false, IsTrue, List, [], ◌∷◌, ◌++◌, length, map, Option, Some, None, IfSome, IsSomeAnd, Result, Ok, Err, sym, ap, subst, ◌∙◌, refl, arith, length-append}
 use Rattle.std.specs.Prelude.{is_some}
 use Rattle.std.proofs.lemmas.Bool.{leb-true}
 use Rattle.std.proofs.lemmas.Bool.Decides.{leb_tells}
@@ -8,7 +8,7 @@ use Rattle.soc_schema.specs.declared.value.Cell.{Cell}
 use Rattle.soc_edge.specs.Disk.{DiskTold, IsDisk, GoesOn, LeavesOnly, DiskFailed}
 use Rattle.soc_edge.specs.declared.failed.Failed.{Failed}
 use Rattle.soc_edge.proofs.Disks.{LeavesOnly-weaker}
-use Rattle.soc_journal.proofs.Texts.{length-sealed, sealed_one}
+use Rattle.soc_journal.proofs.Texts.{length-sealed, length-sealed_all, sealed_one}
 use Rattle.soc_journal.specs.Entries.{Entry, beside_body, place_behind, sealed_all}
 use Rattle.soc_journal.specs.States.{JournalState, AtRest, InDoubt, IsKeptAt, journal_after}
 use Rattle.soc_journal.specs.Text.{JournalText, EitherText}
@@ -16,9 +16,11 @@ use Rattle.soc_journal.specs.declared.settled.Settled.{Settled}
 use Rattle.soc_journal.specs.declared.settled.Settled.TheVariants as S
 use Rattle.soc_ledger.specs.declared.event.Event.TheVariants as E
 use Rattle.soc_ledger.specs.declared.event.Event.{Event}
-use Rattle.soc_ledger.specs.Events.{accepted_in as accepts, withdrawn_in as withdraws, is_held}
+use Rattle.soc_ledger.specs.Events.{accepted_ids, accepted_in as accepts, withdrawn_in as withdraws, is_among, is_held, was_accepted}
+use Rattle.soc_ledger.specs.declared.crash.Filed.{Filed}
 use Rattle.soc_ledger.specs.State.{LedgerState, id_of, with_event}
 use Rattle.soc_ledger.proofs.Lists.{true_is_not_false}
+use Rattle.soc_ledger.proofs.More.{accepted_ids-more}
 use Rattle.soc_vault.specs.Vaults.{Means, StandsFor as VaultStandsFor, settled_entries}
 use Rattle.soc_desk.specs.declared.desk.Limits.{Limits}
 use Rattle.soc_desk.specs.declared.desk.Refusal.TheVariants as F
@@ -28,10 +30,11 @@ use Rattle.soc_desk.specs.State.{State, settled, Settles, entry_of, entries_of, 
 use Rattle.soc_desk.proofs.Logs.{held_plain}
 use Rattle.soc_book.specs.declared.book.Change.{Change as Pending}
 use Rattle.soc_book.specs.declared.book.Change.TheVariants as P
+use Rattle.soc_book.specs.declared.submission.NewCrash.{NewCrash}
 use Rattle.soc_book.specs.inner.Pieces.{AreAppended, IsAppended}
-use Rattle.soc_book.specs.inner.Stands.{AreHeld, Fits, FitJournal, FitReports, IsSafe, Pushes, AddsSettled, Holds, IsPending, ArePending, IsOnDisk, Stands, most_reports, with_reports}
+use Rattle.soc_book.specs.inner.Stands.{AreHeld, AreNew, Fits, FitJournal, FitNew, FitReports, IsFiledAt, IsSafe, Pushes, PushesNew, AddsSettled, Holds, IsPending, ArePending, IsOnDisk, Stands, most_together, with_reports}
 use Rattle.soc_book.proofs.Changes.{entries-all, settled-legal, doubt-legal}
-use Rattle.soc_book.proofs.Pushing.{IsPlaced, pushed_all}
+use Rattle.soc_book.proofs.Pushing.{ArePlaced, pushed_all}
 
 -- ---- the gate of a journal that means these entries
 
@@ -86,6 +89,7 @@ limit-kept journal (Err failed) = refl
 -- nothing waits without a doubt
 none_pending_of : (basis : Basis) (log : List Change) (ledger : LedgerState) (pending : Pending) → ArePending basis log ledger (Some pending) [] → ⊥
 none_pending_of basis log ledger (P.Accept new) are = are
+none_pending_of basis log ledger (P.Accepts news) are = are
 none_pending_of basis log ledger (P.Ask number) are = are
 none_pending_of basis log ledger (P.Withdraw number) are = are
 none_pending_of basis log ledger (P.Reports numbers) are = are
@@ -128,18 +132,18 @@ module _ (basis : Basis) (limits : Limits) (ledger : LedgerState) (rows : List (
     stays : (log : List Change) (holds : Holds basis log ledger rows) → ledger' ≡ ledger → rows' ≡ rows → Holds basis log ledger' rows'
     stays log holds same_ledger same_rows = subst (λ (l : LedgerState). Holds basis log l rows') (sym same_ledger) (subst (λ (r : List (ℕ × List Cell)). Holds basis log ledger r) (sym same_rows) holds)
 
--- where the entry of a change of the log stands, and that it fits
+-- where the entries of changes of the log stand
+placed : (basis : Basis) (journal : JournalState) (log : List Change) (first : Kept) (more : List Kept) (place : ℕ) → basis.journal_bytes < 2 ^ 64 → place ≡ journal.gate → journal.gate ≡ place_behind (entries_of (kept_of log))
+    → FitJournal basis log (first ∷ more) → ArePlaced basis log (first ∷ more) place
+placed basis journal log first more place short at gate fits = record { place_is = at ∙ gate; ends = omega (arith, at, gate, fits, length-sealed_all (entries_of (first ∷ more)), short) }
+
+-- whether the entry of a change fits
 module _ (basis : Basis) (journal : JournalState) (disk : DiskTold) (log : List Change) (change : Kept) (limit : journal.limit ≡ basis.journal_bytes) (short : basis.journal_bytes < 2 ^ 64) where
   abbrev behind : ℕ
   behind = place_behind (entries_of (kept_of log))
 
   size_one : length (sealed_all (entries_of (change ∷ []))) ≡ beside_body + length (body_of change)
   size_one = ap (λ (x : List ℕ). length x) (sealed_one (entry_of change)) ∙ length-sealed (entry_of change)
-
-  pub placed : (place : ℕ) → place ≡ journal.gate → journal.gate ≡ behind → FitJournal basis log (change ∷ []) → IsPlaced basis log change place
-  placed place at gate fits =
-      let here : place ≡ behind = at ∙ gate in
-      record { place_is = here; ends = omega (arith, here, fits, size_one, short) }
 
   pub fit_one : has_room basis log change ≡ true → FitJournal basis log (change ∷ [])
   fit_one room =
@@ -196,7 +200,7 @@ module _ (basis : Basis) (limits : Limits) (ledger ledger' : LedgerState) (rows 
         inl refl,
         settles_to basis limits ledger rows (Some pending) journal disk ledger' rows' journal' disk' (S.Kept place) safe clean at after moves (log ++ map keep (first ∷ more)) (record { log = log; doubt = first ∷ more }) stands stands.legal.doubt
             (pushed_all basis log ledger rows stands.legal.log stands.holds pending (first ∷ more) place ledger' rows' stands.legal.doubt safe.fits stands.doubt
-            (λ change one is_told. placed basis journal disk log change stands.limit stands.short place at (gate is_told) (subst (λ (cs : List Kept). FitJournal basis log cs) one (room is_told))) adds)
+            (λ is_told. placed basis journal log first more place stands.short at (gate is_told) (room is_told)) adds)
             (λ is_told. sym (entries-all log (first ∷ more))),
       )
 
@@ -240,7 +244,7 @@ module _ {basis : Basis} {limits : Limits} {ledger : LedgerState} {rows : List (
       record {
         legal = settled-legal basis log' next;
         holds = pushed_all basis log ledger rows stands.legal.log stands.holds own changes place ledger' rows' next fits are
-            (λ change one is_told. placed basis journal disk log change stands.limit stands.short place at (gate_now is_told) (subst (λ (cs : List Kept). FitJournal basis log cs) one (room is_told))) pushes;
+            (λ is_told. placed basis journal log first more place stands.short at (gate_now is_told) (room is_told)) pushes;
         doubt = none_pending log' ledger';
         crashes = stands.crashes;
         bytes = stands.bytes;
@@ -316,6 +320,7 @@ module _ {basis : Basis} {limits : Limits} {ledger : LedgerState} {rows : List (
 -- one change
 one_pending : (basis : Basis) (log : List Change) (ledger : LedgerState) (own : Pending) (change : Kept) → IsPending basis log ledger own change → ArePending basis log ledger (Some own) (change ∷ [])
 one_pending basis log ledger (P.Accept new) change is = is
+one_pending basis log ledger (P.Accepts news) change is = absurd is
 one_pending basis log ledger (P.Ask number) change is = is
 one_pending basis log ledger (P.Withdraw number) change is = is
 one_pending basis log ledger (P.Reports numbers) change is = absurd is
@@ -413,17 +418,26 @@ reports-room (number ∷ numbers) ledger =
     let later = reports-room numbers (with_event ledger (E.Reported (id_of ledger number) true)) in
     omega (arith, later)
 
+pub new-room : (news : List NewCrash) (ledger : LedgerState) (place : ℕ) (ledger' : LedgerState) (end : ℕ) → PushesNew ledger news place ledger' end → ledger.room ≤ ledger'.room + length news
+new-room [] ledger place ledger' end (same, same_end) = let room = ap (λ (l : LedgerState). l.room) same in omega (arith, room)
+new-room (new ∷ news) ledger place ledger' end (filed, at, pushes) =
+    let later = new-room news (record (with_event ledger (E.Accepted filed.id)) { crashes = ledger.crashes ++ filed ∷ [] }) (min (place + new.size) (2 ^ 64 - 1)) ledger' end pushes in
+    omega (arith, later)
+
 -- what a settled doubt leaves of the room
 pub room_settled : (ledger ledger' : LedgerState) (rows rows' : List (ℕ × List Cell)) (pending : Option Pending) (outcome : Settled) → IfSome pending (Fits ledger) → AddsSettled ledger rows pending outcome ledger' rows'
-    → ledger.room ≤ ledger'.room + most_reports
+    → ledger.room ≤ ledger'.room + most_together
 room_settled ledger ledger' rows rows' None outcome fits (same, same_rows) = let room = ap (λ (l : LedgerState). l.room) same in omega (arith, room)
 room_settled ledger ledger' rows rows' (Some pending) S.Clean fits (same, same_rows) = let room = ap (λ (l : LedgerState). l.room) same in omega (arith, room)
 room_settled ledger ledger' rows rows' (Some pending) S.Dropped fits (same, same_rows) = let room = ap (λ (l : LedgerState). l.room) same in omega (arith, room)
 room_settled ledger ledger' rows rows' (Some (P.Accept new)) (S.Kept place) fits (filed, at, same, same_rows) = let room = ap (λ (l : LedgerState). l.room) same in omega (arith, room)
+room_settled ledger ledger' rows rows' (Some (P.Accepts news)) (S.Kept place) fits ((end, pushes), same_rows) =
+    let few : length news.items ≤ most_together = fits.1 in
+    omega (arith, new-room news.items ledger place ledger' end pushes, few)
 room_settled ledger ledger' rows rows' (Some (P.Ask number)) (S.Kept place) fits (same, same_rows) = let room = ap (λ (l : LedgerState). l.room) same in omega (arith, room)
 room_settled ledger ledger' rows rows' (Some (P.Withdraw number)) (S.Kept place) fits (same, same_rows) = let room = ap (λ (l : LedgerState). l.room) same in omega (arith, room)
 room_settled ledger ledger' rows rows' (Some (P.Reports numbers)) (S.Kept place) fits (same, same_rows) =
-    let few : length numbers.items ≤ most_reports = fits.1 in
+    let few : length numbers.items ≤ most_together = fits.1 in
     omega (arith, ap (λ (l : LedgerState). l.room) same, reports-room numbers.items ledger, few)
 
 -- while reports are added, one after the other
@@ -434,8 +448,8 @@ pub record IsAdding (first : LedgerState) (numbers : List ℕ) (ledger : LedgerS
 
 pub adding_begins : (ledger : LedgerState) (numbers : List ℕ) → FitReports ledger numbers → IsAdding ledger numbers ledger numbers
 adding_begins ledger numbers fits =
-    let large : most_reports ≤ ledger.room = fits.0 in
-    let few : length numbers ≤ most_reports = fits.1 in
+    let large : most_together ≤ ledger.room = fits.0 in
+    let few : length numbers ≤ most_together = fits.1 in
     record { all = refl; room = omega (arith, large, few); held = fits.2 }
 
 held_reported : (ledger : LedgerState) (event : Event) (numbers : List ℕ) → accepts event ≡ None → withdraws event ≡ None → AreHeld ledger numbers → AreHeld (with_event ledger event) numbers
@@ -463,3 +477,41 @@ adding_next first numbers ledger rest number behind is adding =
 pub adding_ends : (first : LedgerState) (numbers : List ℕ) (ledger : LedgerState) (rest : List ℕ) → length rest ≡ 0 → IsAdding first numbers ledger rest → ledger ≡ with_reports first numbers
 adding_ends first numbers ledger [] none adding = adding.all
 adding_ends first numbers ledger (number ∷ rest) none adding = absurd (omega (arith, none))
+
+-- ---- new crashes, one after the other
+
+pub record IsAccepting (first : LedgerState) (news : List NewCrash) (start : ℕ) (ledger : LedgerState) (rest : List NewCrash) (place : ℕ) : Type 0 where
+  pub leads : (ledger' : LedgerState) (end : ℕ) → PushesNew ledger rest place ledger' end → PushesNew first news start ledger' end
+  pub room : length rest ≤ ledger.room
+  pub few : length ledger.crashes + length rest < 2 ^ 32
+  pub new : AreNew (accepted_ids ledger.log) rest
+
+pub accepting_begins : (ledger : LedgerState) (news : List NewCrash) (place : ℕ) → FitNew ledger news → IsAccepting ledger news place ledger news place
+accepting_begins ledger news place fits =
+    let large : most_together ≤ ledger.room = fits.0 in
+    let few : length news ≤ most_together = fits.1 in
+    record { leads = λ ledger' end pushes. pushes; room = omega (arith, large, few); few = fits.2; new = fits.3 }
+
+module _ (first : LedgerState) (news : List NewCrash) (start : ℕ) (ledger : LedgerState) (place : ℕ) (new : NewCrash) (behind : List NewCrash) (accepting : IsAccepting first news start ledger (new ∷ behind) place) (filed : Filed) where
+  -- the next one may be accepted
+  pub accepting_next : filed.id ≡ new.id → (was_accepted ledger.log filed.id ≡ false) × (length ledger.crashes < 2 ^ 32 - 1) × (0 < ledger.room)
+  accepting_next id =
+      let few = accepting.few in
+      let room = accepting.room in
+      (ap (λ x. was_accepted ledger.log x) id ∙ accepting.new.0, omega (arith, few), omega (arith, room))
+
+  pub accepting_one : (ledger' : LedgerState) (place' : ℕ) → IsFiledAt new place filed → ledger' ≡ record (with_event ledger (E.Accepted filed.id)) { crashes = ledger.crashes ++ filed ∷ [] } → place' ≡ min (place + new.size) (2 ^ 64 - 1)
+      → IsAccepting first news start ledger' behind place'
+  accepting_one ledger' place' at same moved =
+      let few = accepting.few in
+      let room = accepting.room in
+      let ids : accepted_ids (ledger.log ++ E.Accepted filed.id ∷ []) ≡ accepted_ids ledger.log ++ new.id ∷ [] =
+      accepted_ids-more ledger.log (E.Accepted filed.id) ∙ ap (λ x. accepted_ids ledger.log ++ x ∷ []) at.id in
+      subst (λ (l : LedgerState). IsAccepting first news start l behind place') (sym same)
+      (subst (λ (n : ℕ). IsAccepting first news start (record (with_event ledger (E.Accepted filed.id)) { crashes = ledger.crashes ++ filed ∷ [] }) behind n) (sym moved)
+      (record {
+        leads = λ last end pushes. accepting.leads last end (filed, at, pushes);
+        room = omega (arith, room);
+        few = omega (arith, few, length-append ledger.crashes (filed ∷ []));
+        new = subst (λ (xs : List (List ℕ)). AreNew xs behind) (sym ids) accepting.new.1;
+      }))

@@ -43,6 +43,7 @@ use Rattle.soc_book.specs.inner.Books.{Tells}
 use Rattle.soc_book.specs.inner.Does.{IsDecided}
 use Rattle.soc_book.specs.inner.Pieces.{IsWritten}
 use Rattle.soc_book.specs.inner.Stands.{IsPending, Stands}
+use Rattle.soc_book.proofs.Accepting.{accepted_as, accepted_told}
 use Rattle.soc_book.proofs.Asking.{allowed}
 use Rattle.soc_book.proofs.Changes.{legal-next}
 use Rattle.soc_book.proofs.Deciding.{answered, decided_as, written_decides}
@@ -83,7 +84,7 @@ module _ {basis : Basis} {limits : Limits} {ledger : LedgerState} {rows : List (
   -- ---- a new id
 
   module _ (fresh : was_accepted ledger.log new.id ≡ false) where
-    fresh_now : was_accepted now raw.id ≡ false
+    pub fresh_now : was_accepted now raw.id ≡ false
     fresh_now = ap (λ l. was_accepted l raw.id) (sym same_log) ∙ (ap (λ x. was_accepted ledger.log x) (sym tells.id) ∙ fresh)
 
     is_new_now : not (was_accepted now raw.id) ≡ true
@@ -126,41 +127,14 @@ module _ {basis : Basis} {limits : Limits} {ledger : LedgerState} {rows : List (
               (ap (λ (d : Decision). Some d) (decides_by true (le-leb basis.crashes (length (accepted_ids now)) most))) (refl, refl)),
         )
 
-    -- what is kept of it: its content only where the disk tells
-    abbrev told_raw : Bool → Option Crash
-    told_raw b = if b then Some crash else None
-
-    abbrev pub new_crash : Accepted
-    new_crash = record { id = raw.id; raw = told_raw basis.is_told }
-
-    at_told : (P : Option Crash → Type 0) → (IsTrue basis.is_told → P (Some crash)) → P None → P (told_raw basis.is_told)
-    at_told P some none = elim basis.is_told as (λ b. (IsTrue b → P (Some crash)) → P (told_raw b)) [
-      | true ↦ λ here. here refl
-      | false ↦ λ here. none
-    ] some
-
-    pub new_pending : IsPending basis log ledger (P.Accept new) (accept new_crash)
-    new_pending = (tells.id, at_told (λ o. IfSome o (λ r. Tells new r × IsTrue basis.is_told)) (λ is_told. (tells, is_told)) tt)
-
-    new_told : IsTrue basis.is_told → told_raw basis.is_told ≡ Some crash
-    new_told is_told = ap told_raw is_told
-
-    pub new_legal : IsLegal basis (log ++ keep (accept new_crash) ∷ [])
-    new_legal = legal-next basis log (keep (accept new_crash)) stands.legal.log is_new_now
-        (is.id, at_told (λ o. IfSome o (λ r. (r.id ≡ raw.id) × IsCrash r)) (λ is_told. (refl, is)) tt)
-        (λ is_told. (ap (λ (o : Option Crash). is_some o) (new_told is_told), tt))
-
-    pub new_entry : (entry : Entry) → entry ≡ record { kind = accept_kind; body = record_of crash } → IsTrue basis.is_told → entry ≡ entry_of (accept new_crash)
-    new_entry entry same is_told = same ∙ ap (λ (o : Option Crash). entry_of (accept record { id = raw.id; raw = o })) (sym (new_told is_told))
-
     -- it is kept
     pub stores : (disk' : DiskTold) (due : Bool) (reply : Reply) (after : State) → length ledger.crashes < limits.crashes → due ≡ is_due_at_once new.id
-        → IsWritten basis log disk (accept new_crash) (R.Stored new.id due) reply after disk' → IsDecided basis log disk (C.Submit raw) reply after disk'
+        → IsWritten basis log disk (accepted_as basis raw) (R.Stored new.id due) reply after disk' → IsDecided basis log disk (C.Submit raw) reply after disk'
     stores disk' due reply after few due_is wrote =
         let at_once : due ≡ is_due_at_once raw.id = due_is ∙ ap is_due_at_once tells.id in
         let said : R.Stored new.id due ≡ R.Stored raw.id (is_due_at_once raw.id) = ap (λ x. R.Stored x due) tells.id ∙ ap (λ b. R.Stored raw.id b) at_once in
         let not_full : nat_le basis.crashes (length (accepted_ids now)) ≡ false = few_left in
-        written_decides basis log disk disk' (C.Submit raw) (accept new_crash) (accepting crash) (R.Stored raw.id (is_due_at_once raw.id)) (record {
+        written_decides basis log disk disk' (C.Submit raw) (accepted_as basis raw) (accepting crash) (R.Stored raw.id (is_due_at_once raw.id)) (record {
           kind = (refl, (refl, refl));
           fault_kind = (refl, tt);
           full_kind = (refl, tt);
@@ -169,9 +143,9 @@ module _ {basis : Basis} {limits : Limits} {ledger : LedgerState} {rows : List (
           adds = (is_new_now, ap not not_full, refl, refl);
           fault_adds = (inl (is_new_now, ap not not_full, refl), refl);
           full_adds = ((is_new_now, ap not not_full, refl), refl);
-        }) (λ is_told. ap (λ (o : Option Crash). accept record { id = raw.id; raw = o }) (new_told is_told))
+        }) (accepted_told basis raw)
         (λ is_told. ap (λ (d : Decision). Some d) (decides_by false not_full))
-        reply after (subst (λ (r : Reply). IsWritten basis log disk (accept new_crash) r reply after disk') said wrote) where
+        reply after (subst (λ (r : Reply). IsWritten basis log disk (accepted_as basis raw) r reply after disk') said wrote) where
           few_left : nat_le basis.crashes (length (accepted_ids now)) ≡ false
           few_left =
               elim (leb_tells basis.crashes (length (accepted_ids now))) [

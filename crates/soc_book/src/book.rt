@@ -32,6 +32,8 @@ pub struct Book<'a, D: Disk, R: Reporter> {
 pub(crate) enum Change {
     /// A new crash is accepted.
     Accept(NewCrash),
+    /// New crashes of different ids are accepted.
+    Accepts(Vec<NewCrash>),
     /// The crash of a number is asked for.
     Ask(u32),
     /// The crash of a number is withdrawn.
@@ -40,8 +42,8 @@ pub(crate) enum Change {
     Reports(Vec<u32>),
 }
 
-/// How many reports are written together at most.
-pub(crate) const MOST_REPORTS: u32 = 1_024;
+/// How many reports, or new crashes, are written together at most.
+pub(crate) const MOST_TOGETHER: u32 = 1_024;
 
 /// How many events a writing command adds at most: the doubt that it settles, and its own.
-pub(crate) const ROOM: u32 = MOST_REPORTS + 1;
+pub(crate) const ROOM: u32 = MOST_TOGETHER + 1;

@@ -11,10 +11,10 @@ ghost use Rattle.soc_book.specs.Books.{SameSetting, StandsFor, disk_of, reporter
 ghost use Rattle.soc_book.specs.Keeping.{KeepsByReporter};
 ghost use Rattle.soc_book.specs.inner.Keepings.{HasGathered, IsBatch, IsMost, IsSameBatch, KeepsBatch, LeavesSome, MakesEntry, MayMakeEntry, is_wanted, keep_reply, with_all};
 ghost use Rattle.soc_book.specs.inner.Pieces.{product_at};
-ghost use Rattle.soc_book.specs.inner.Stands.{AreReports, most_reports};
+ghost use Rattle.soc_book.specs.inner.Stands.{AreReports, most_together};
 ghost use Rattle.soc_book.specs.inner.Steps.{Becomes, KeepsBook};
 
-use crate::book::{Book, MOST_REPORTS};
+use crate::book::{Book, MOST_TOGETHER};
 use crate::report::{HEAD, report_text, tells};
 use crate::writes::make_room;
 use soc_base::NoMemory;
@@ -64,11 +64,11 @@ impl Batch {
 
     /// Whether these are enough to be written together.
     fn is_full(&self) -> bool
-        ensures few { IsTrue (not result) → length self.now.numbers.items < most_reports }
+        ensures few { IsTrue (not result) → length self.now.numbers.items < most_together }
         ensures short { IsTrue (not result) → self.now.bytes < MOST_BYTES }
         ensures some { IsTrue result → 0 < length self.now.numbers.items + self.now.bytes }
     {
-        self.numbers.len() >= MOST_REPORTS as usize || self.bytes >= MOST_BYTES
+        self.numbers.len() >= MOST_TOGETHER as usize || self.bytes >= MOST_BYTES
     }
 
     /// Adds the report of the crash of a number. After an error nothing was added.
@@ -192,7 +192,7 @@ impl<'a, D: Disk, R: Reporter> Book<'a, D, R> {
     /// for it behind them. After an error nothing was added.
     fn gather(&self, batch: &mut Batch, digest: &[u8; 32]) -> Result<(), NoMemory>
         requires within { batch.old.next < length self.now.ledger.crashes }
-        requires few { length batch.old.numbers.items < most_reports }
+        requires few { length batch.old.numbers.items < most_together }
         requires short { batch.old.bytes < MOST_BYTES }
         requires batch { IsBatch self.now.ledger self.now.vault.journal batch.old }
         ensures batch { IsBatch self.now.ledger self.now.vault.journal batch.new }

@@ -13,6 +13,7 @@ mod reads;
 mod report;
 mod submission;
 mod submit;
+mod together;
 mod turns;
 mod writes;
 

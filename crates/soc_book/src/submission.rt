@@ -25,6 +25,8 @@ pub(crate) struct NewCrash {
     pub(crate) product: Option<SharedText>,
     /// The SHA-256 of the content.
     pub(crate) digest: [u8; 32],
+    /// How many bytes its entry has.
+    pub(crate) size: u64,
 }
 
 impl NewCrash {
@@ -41,6 +43,7 @@ impl NewCrash {
             content,
             product,
             digest,
+            size: ENTRY_HEAD as u64 + text.len() as u64,
         })
     }
 
@@ -58,6 +61,7 @@ impl NewCrash {
             content,
             product,
             digest,
+            ..
         } = self;
         Filed {
             id,

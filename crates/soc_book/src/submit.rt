@@ -104,7 +104,7 @@ impl<'a, D: Disk, R: Reporter> Book<'a, D, R> {
 }
 
 /// Whether a new crash is due as soon as it is accepted.
-fn is_due_at_once(id: CrashId) -> bool
+pub(crate) fn is_due_at_once(id: CrashId) -> bool
     ensures { result ≡ is_due_at_once id }
 {
     id.digit() == Digit::Accepted

@@ -1,5 +1,5 @@
 //! What is written, and settled.
-ghost use Rattle.std.specs.Prelude.{◌≡◌, ◌≢◌, ◌<◌, ◌≤◌, ◌+◌, ◌++◌, ◌∷◌, length, List, map, IfErr, IfOk, IfSome, MatchResult, None, Ok, OnOk};
+ghost use Rattle.std.specs.Prelude.{◌≡◌, ◌≢◌, ◌<◌, ◌≤◌, ◌+◌, ◌++◌, ◌∷◌, length, ℕ, IsTrue, List, map, IfErr, IfOk, IfSome, MatchResult, None, Ok, OnOk};
 ghost use Rattle.soc_edge.specs.Disk.{Looks};
 ghost use Rattle.soc_journal.specs.Entries.{sealed_all};
 ghost use Rattle.soc_desk.specs.Basis.{Basis};
@@ -8,10 +8,11 @@ ghost use Rattle.soc_desk.specs.Log.{Change as Logged, IsLegal, Kept, keep};
 ghost use Rattle.soc_desk.specs.State.{entries_of, settled};
 ghost use Rattle.soc_book.specs.Books.{SameSetting, StandsFor, disk_of};
 ghost use Rattle.soc_book.specs.inner.Pieces.{AreAppended, IsAppended, IsWriteReply, IsWritten};
-ghost use Rattle.soc_book.specs.inner.Stands.{AddsSettled, AreReports, FitReports, Fits, IsKnownCrash, Pushes, most_reports, with_reports};
+ghost use Rattle.soc_book.specs.inner.Stands.{AddsSettled, AreAccepted, AreReports, FitNew, FitReports, Fits, IsKnownCrash, Pushes, PushesNew, most_together, with_reports};
 ghost use Rattle.soc_book.specs.inner.Steps.{Becomes, BeginsBook, WritesBook};
 
 use crate::book::{Book, Change, ROOM};
+use crate::submission::NewCrash;
 use soc_base::NoMemory;
 use soc_desk::{Refusal, Reply};
 use soc_edge::Disk;
@@ -43,7 +44,7 @@ impl<'a, D: Disk, R: Reporter> Book<'a, D, R> {
         ensures refusal { IfErr result RefusesWrite }
         ensures settled { OnOk result (self.new.vault.journal.doubt ≡ None) }
         ensures fault { IfErr result (λ refusal. refusal ≡ Refusal.StoreFault) }
-        ensures room { self.old.ledger.room ≤ self.new.ledger.room + most_reports }
+        ensures room { self.old.ledger.room ≤ self.new.ledger.room + most_together }
         ensures looks { Looks (disk_of self.old) (disk_of self.new) }
         ensures begins { BeginsBook self.old result self.new }
     {
@@ -131,12 +132,46 @@ impl<'a, D: Disk, R: Reporter> Book<'a, D, R> {
             }
         }
     }
+
+    /// Keeps the entries of new crashes on the disk, all of them or none, and then adds the crashes to the log.
+    pub(crate) fn append_new(
+        &mut self,
+        entries: &[EntryText],
+        crashes: Vec<NewCrash>,
+    ) -> Result<(), Refusal>
+        requires settled { self.old.vault.journal.doubt ≡ None }
+        requires some { 0 < length entries.now }
+        requires room { self.old.vault.journal.gate + length (sealed_all entries.now)
+            ≤ self.old.vault.journal.limit }
+        requires fits { FitNew self.old.ledger crashes.items }
+        ensures setting { SameSetting self.old self.new }
+        ensures appended { (basis : Basis) (log : List Logged) (first : Kept) (more : List Kept)
+            → StandsFor basis self.old (settled log)
+            → AreAccepted basis crashes.items (first ∷ more)
+            → IsLegal basis (log ++ map keep (first ∷ more))
+            → (IsTrue basis.is_told → entries.now ≡ entries_of (first ∷ more))
+            → Becomes basis self.new (λ later.
+            AreAppended basis log (disk_of self.old) (first ∷ more) result later
+            (disk_of self.new)) }
+    {
+        match self.vault.keep_all(entries) {
+            Ok(place) => {
+                push_new(&mut self.ledger, &self.store, crashes, place);
+                Ok(())
+            }
+            Err(AppendError::JournalFull) => Err(Refusal::JournalFull),
+            Err(AppendError::StoreFault) => {
+                self.doubt = Some(Change::Accepts(crashes));
+                Err(Refusal::StoreFault)
+            }
+        }
+    }
 }
 
 /// Takes the memory of the events that a command adds.
 pub(crate) fn make_room(ledger: &mut Ledger) -> Result<(), Refusal>
     ensures { MatchResult result (λ _. (ledger.new ≡ record ledger.old { room = ledger.new.room })
-        × (most_reports + 1 ≤ ledger.new.room) × (ledger.old.room ≤ ledger.new.room))
+        × (most_together + 1 ≤ ledger.new.room) × (ledger.old.room ≤ ledger.new.room))
         (λ refusal. (refusal ≡ Refusal.NoMemory) × (ledger.new ≡ ledger.old)) }
 {
     match ledger.reserve(ROOM) {
@@ -162,12 +197,26 @@ fn push(ledger: &mut Ledger, store: &mut Store, change: Change, place: u64)
 {
     match change {
         Change::Accept(new) => ledger.accept(new.filed(place, store)),
+        Change::Accepts(crashes) => push_new(ledger, store, crashes, place),
         Change::Ask(number) => ledger.ask(number),
         Change::Withdraw(number) => {
             let _ = store.take(number);
             ledger.withdraw(number);
         }
         Change::Reports(numbers) => push_reports(ledger, numbers.as_slice()),
+    }
+}
+
+/// Adds new crashes whose entries stand from a place on.
+fn push_new(ledger: &mut Ledger, store: &Store, crashes: Vec<NewCrash>, first: u64)
+    requires { FitNew ledger.old crashes.items }
+    ensures { (end : ℕ) × PushesNew ledger.old crashes.items first ledger.new end }
+{
+    let mut place = first;
+    for new in crashes {
+        let behind = place.saturating_add(new.size);
+        ledger.accept(new.filed(place, store));
+        place = behind;
     }
 }
 

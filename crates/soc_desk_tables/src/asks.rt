@@ -1,9 +1,11 @@
 //! Acts as commands of a book.
+ghost use Rattle.std.specs.Prelude.{IfOk};
+ghost use Rattle.std.specs.List.{AllByRecursion};
 ghost use Rattle.soc_desk.specs.Kinds.{NeedsNothing};
 
 use crate::acts::{command, processed};
 use crate::replies::reply_text;
-use soc_book::Book;
+use soc_book::{Book, Prepared};
 use soc_desk::{Command, Desk, Receipt, Reply};
 use soc_edge::Disk;
 use soc_schema::Reporter;
@@ -56,6 +58,31 @@ pub fn receipts<D: Disk, R: Reporter>(
         append(&mut text, receipt_text(alloc, &receipt)?.as_str())?;
     }
     Ok(text)
+}
+
+/// The same of acts that are asked at once.
+pub fn receipts_at_once<D: Disk, R: Reporter>(
+    alloc: Global,
+    book: &mut Book<'_, D, R>,
+    acts: &str,
+) -> Result<String, Fault> {
+    let receipts = book.ask_all(commands(alloc, acts)?)?;
+    let mut text = String::new(alloc);
+    for receipt in &receipts {
+        append(&mut text, receipt_text(alloc, receipt)?.as_str())?;
+    }
+    Ok(text)
+}
+
+/// The commands of acts, which may be asked at any time.
+fn commands(alloc: Global, acts: &str) -> Result<Vec<Prepared>, Fault>
+    ensures { IfOk result (λ commands. AllByRecursion NeedsNothing commands.items) }
+{
+    let mut commands = Vec::new(alloc);
+    for act in acts.split(',') {
+        commands.push(Prepared::new(alloc, command(alloc, act)?))?;
+    }
+    Ok(commands)
 }
 
 fn receipt_text(alloc: Global, receipt: &Receipt) -> Result<String, Fault> {

@@ -1,5 +1,5 @@
 //! Books over disks in memory.
-use crate::asks::{answers, receipts};
+use crate::asks::{answers, receipts, receipts_at_once};
 use crate::lost::Zeroed;
 use crate::reporters::{Digested, Wanting};
 use soc_book::{Book, Restored};
@@ -69,6 +69,17 @@ pub fn book_receipts(alloc: Global, row: &Row<'_>) -> Result<String, Fault> {
     let mut disk = disk(alloc, &[])?;
     let mut book = opened(alloc, &mut disk, &Bare, limits_of(row)?)?;
     receipts(alloc, &mut book, row.cell("acts")?)
+}
+
+/// The receipts of acts that are asked at once, over an empty disk whose calls of some numbers fail, and what the book counts
+/// then.
+pub fn together(alloc: Global, row: &Row<'_>) -> Result<String, Fault> {
+    let fails = row.numbers(alloc, "fails")?;
+    let mut disk = disk(alloc, fails.as_slice())?;
+    let mut book = opened(alloc, &mut disk, &Bare, limits_of(row)?)?;
+    let mut text = receipts_at_once(alloc, &mut book, row.cell("acts")?)?;
+    append_counts(&mut text, &book)?;
+    Ok(text)
 }
 
 /// What the lives of a disk come to, one after another: of each how many crashes are due and have a report when it begins,

@@ -25,6 +25,7 @@ impl Calls for Desks {
             "many" => ledgers::many(alloc, row),
             "book" => books::book(alloc, row),
             "receipts" => books::book_receipts(alloc, row),
+            "together" => books::together(alloc, row),
             "lives" => books::lives(alloc, row),
             "thrice" => books::thrice(alloc, row),
             "sweep" => sweeps::sweep(alloc, row),

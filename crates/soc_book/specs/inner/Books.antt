@@ -1,5 +1,5 @@
 -- What a book keeps in memory of its log.
-use Rattle.std.specs.Prelude.{◌≡◌, ℕ, List, length, Option, Some, Result, Ok, Err}
+use Rattle.std.specs.Prelude.{◌≡◌, ℕ, ◌+◌, List, length, Option, Some, Result, Ok, Err}
 use Rattle.std.specs.Option.{option_map}
 use Rattle.sha2.specs.Sha256.{sha256}
 use Rattle.soc_raw.specs.Record.{Crash, IsCrash, head_text, content_text, record_of}
@@ -10,7 +10,7 @@ use Rattle.soc_schema.specs.Fields.{uuid_field, product_field}
 use Rattle.soc_schema.specs.Rows.{value_of}
 use Rattle.soc_schema.specs.RowText.{HasText, row_text}
 use Rattle.soc_raw.specs.CrashId.{IsId}
-use Rattle.soc_journal.specs.Entries.{accept_kind}
+use Rattle.soc_journal.specs.Entries.{accept_kind, head_size}
 use Rattle.soc_desk.specs.declared.desk.Reply.{Reply}
 use Rattle.soc_desk.specs.declared.desk.Reply.TheVariants as R
 use Rattle.soc_desk.specs.declared.desk.Refusal.{Refusal}
@@ -30,6 +30,7 @@ pub record Tells (new : NewCrash) (raw : Crash) : Type 0 where
   pub content : new.content ≡ length (head_text raw)
   pub product : new.product ≡ product_of raw
   pub digest : new.digest ≡ sha256 (content_text raw)
+  pub size : new.size ≡ head_size + length (record_of raw)
 
 -- it was made of this raw crash
 pub record IsSubmissionOf (submission : Submission) (raw : Crash) : Type 0 where

@@ -20,7 +20,7 @@ use Rattle.soc_desk.specs.State.{State, doubted, settled, Survives, entry_of, en
 use Rattle.soc_ledger.specs.State.{LedgerState}
 use Rattle.soc_book.specs.inner.Books.{IsRowFor}
 use Rattle.soc_book.specs.declared.keep.Batch.{Batch}
-use Rattle.soc_book.specs.inner.Stands.{AreHeld, AreReports, most_reports}
+use Rattle.soc_book.specs.inner.Stands.{AreHeld, AreReports, most_together}
 
 -- ---- the entry of a report
 
@@ -111,7 +111,7 @@ pub record IsSameBatch (before after : Batch) : Type 0 where
 pub record IsBatch (ledger : LedgerState) (journal : JournalState) (batch : Batch) : Type 0 where
   pub bytes_are : batch.bytes ≡ length (entries_text batch.entries.items)
   pub same_count : length batch.entries.items ≡ length batch.numbers.items
-  pub few : length batch.numbers.items ≤ most_reports
+  pub few : length batch.numbers.items ≤ most_together
   pub held : AreHeld ledger batch.numbers.items
   pub room : 0 < length batch.entries.items → journal.gate + length (sealed_all batch.entries.items) ≤ journal.limit
 

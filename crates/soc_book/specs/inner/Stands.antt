@@ -1,5 +1,5 @@
 -- How the tables of a book stand for a state of the desk's log.
-use Rattle.std.specs.Prelude.{◌≡◌, ℕ, ◌+◌, ◌<◌, ◌≤◌, ◌^◌, ◌-◌, not, ◌&&◌, if◌then◌else◌, true, false, IsTrue, List, [], ◌∷◌, ◌++◌, length, Option, None, Some, IfSome, is_some, ⊤}
+use Rattle.std.specs.Prelude.{◌≡◌, ℕ, ◌+◌, ◌<◌, ◌≤◌, ◌^◌, ◌-◌, min, not, ◌&&◌, if◌then◌else◌, true, false, IsTrue, List, [], ◌∷◌, ◌++◌, length, Option, None, Some, IfSome, IsSome, is_some, ⊤}
 use Rattle.std.specs.Option.{option_map}
 use Rattle.std.specs.List.{AllByRecursion}
 use Rattle.sha2.specs.Sha256.{sha256}
@@ -15,7 +15,7 @@ use Rattle.soc_ledger.specs.declared.crash.Filed.{Filed}
 use Rattle.soc_ledger.specs.declared.event.Event.TheVariants as E
 use Rattle.soc_ledger.specs.State.{LedgerState, id_of, with_event}
 use Rattle.soc_ledger.specs.Due.{is_due}
-use Rattle.soc_ledger.specs.Events.{is_held, was_accepted}
+use Rattle.soc_ledger.specs.Events.{accepted_ids, is_among, is_held, was_accepted}
 use Rattle.soc_ledger.specs.Reported.{has_report}
 use Rattle.soc_store.specs.Stored.{PlacesRise, row_at, without_row}
 use Rattle.soc_vault.specs.Vaults.{IsAt, Means}
@@ -35,9 +35,9 @@ use Rattle.soc_book.specs.inner.Books.{Tells}
 abbrev pub FitsHeld : LedgerState → ℕ → Type 0
 FitsHeld ledger number = (0 < ledger.room) × (number < length ledger.crashes) × IsTrue (is_held ledger.log (id_of ledger number))
 
--- how many reports are written together at most
-abbrev pub most_reports : ℕ
-most_reports = 1_024
+-- how many reports, or new crashes, are written together at most
+abbrev pub most_together : ℕ
+most_together = 1_024
 
 -- the crashes of the numbers are held
 abbrev pub AreHeld : LedgerState → List ℕ → Type 0
@@ -45,10 +45,21 @@ AreHeld ledger numbers = AllByRecursion (λ number. (number < length ledger.cras
 
 -- and there is room for their reports
 abbrev pub FitReports : LedgerState → List ℕ → Type 0
-FitReports ledger numbers = (most_reports ≤ ledger.room) × (length numbers ≤ most_reports) × AreHeld ledger numbers
+FitReports ledger numbers = (most_together ≤ ledger.room) × (length numbers ≤ most_together) × AreHeld ledger numbers
+
+-- none of the crashes has one of these ids, or that of one before it
+abbrev pub AreNew : List (List ℕ) → List NewCrash → Type 0
+AreNew ids [] = ⊤
+AreNew ids (new ∷ news) = (is_among ids new.id ≡ false) × AreNew (ids ++ new.id ∷ []) news
+
+-- the crashes are new, and there is room for them
+abbrev pub FitNew : LedgerState → List NewCrash → Type 0
+FitNew ledger news = (most_together ≤ ledger.room) × (length news ≤ most_together) × (length ledger.crashes + length news < 2 ^ 32)
+    × AreNew (accepted_ids ledger.log) news
 
 abbrev pub Fits : LedgerState → Pending → Type 0
 Fits ledger (P.Accept new) = (0 < ledger.room) × (was_accepted ledger.log new.id ≡ false) × (length ledger.crashes < 2 ^ 32 - 1)
+Fits ledger (P.Accepts news) = FitNew ledger news.items
 Fits ledger (P.Ask number) = FitsHeld ledger number
 Fits ledger (P.Withdraw number) = FitsHeld ledger number
 Fits ledger (P.Reports numbers) = FitReports ledger numbers.items
@@ -73,9 +84,16 @@ abbrev pub with_reports : LedgerState → List ℕ → LedgerState
 with_reports ledger [] = ledger
 with_reports ledger (number ∷ numbers) = with_reports (with_event ledger (E.Reported (id_of ledger number) true)) numbers
 
+-- new crashes are accepted, their entries one behind the other from one place on to another
+abbrev pub PushesNew : LedgerState → List NewCrash → ℕ → LedgerState → ℕ → Type 0
+PushesNew ledger [] place ledger' end = (ledger' ≡ ledger) × (end ≡ place)
+PushesNew ledger (new ∷ news) place ledger' end = (filed : Filed) × IsFiledAt new place filed
+    × PushesNew (record (with_event ledger (E.Accepted filed.id)) { crashes = ledger.crashes ++ filed ∷ [] }) news (min (place + new.size) (2 ^ 64 - 1)) ledger' end
+
 abbrev pub Pushes : LedgerState → List (ℕ × List Cell) → Pending → ℕ → LedgerState → List (ℕ × List Cell) → Type 0
 Pushes ledger rows (P.Accept new) place ledger' rows' = (filed : Filed) × IsFiledAt new place filed
     × (ledger' ≡ record (with_event ledger (E.Accepted filed.id)) { crashes = ledger.crashes ++ filed ∷ [] }) × (rows' ≡ rows)
+Pushes ledger rows (P.Accepts news) place ledger' rows' = ((end : ℕ) × PushesNew ledger news.items place ledger' end) × (rows' ≡ rows)
 Pushes ledger rows (P.Ask number) place ledger' rows' = (ledger' ≡ with_event ledger (E.Asked (id_of ledger number))) × (rows' ≡ rows)
 Pushes ledger rows (P.Withdraw number) place ledger' rows' =
     (ledger' ≡ with_event ledger (E.Withdrawn (id_of ledger number))) × (rows' ≡ without_row number rows)
@@ -84,6 +102,7 @@ Pushes ledger rows (P.Reports numbers) place ledger' rows' = (ledger' ≡ with_r
 -- the change is one of a crash that was accepted before
 abbrev pub IsKnownCrash : Pending → Type 0
 IsKnownCrash (P.Accept new) = ⊥
+IsKnownCrash (P.Accepts news) = ⊥
 IsKnownCrash (P.Ask number) = ⊤
 IsKnownCrash (P.Withdraw number) = ⊤
 IsKnownCrash (P.Reports numbers) = ⊥
@@ -142,12 +161,24 @@ pub record Holds (basis : Basis) (log : List Change) (ledger : LedgerState) (row
 
 -- ---- the doubt
 
+-- it accepts this crash, whose content is told exactly where the disk tells it
+abbrev pub IsAcceptanceOf : Basis → NewCrash → Kept → Type 0
+IsAcceptanceOf basis new (accept crash) = (new.id ≡ crash.id) × IfSome crash.raw (λ raw. Tells new raw × IsTrue basis.is_told)
+    × (IsTrue basis.is_told → IsSome crash.raw)
+IsAcceptanceOf basis new _ = ⊥
+
 -- a change that waits for its entry to be settled, of a crash by its number
 abbrev pub IsPending : Basis → List Change → LedgerState → Pending → Kept → Type 0
-IsPending basis log ledger (P.Accept new) (accept crash) = (new.id ≡ crash.id) × IfSome crash.raw (λ raw. Tells new raw × IsTrue basis.is_told)
+IsPending basis log ledger (P.Accept new) change = IsAcceptanceOf basis new change
 IsPending basis log ledger (P.Ask number) (ask id) = id_of ledger number ≡ id
 IsPending basis log ledger (P.Withdraw number) (withdraw id) = id_of ledger number ≡ id
 IsPending basis log ledger _ _ = ⊥
+
+-- each accepts its crash, in order
+abbrev pub AreAccepted : Basis → List NewCrash → List Kept → Type 0
+AreAccepted basis [] [] = ⊤
+AreAccepted basis (new ∷ news) (change ∷ changes) = IsAcceptanceOf basis new change × AreAccepted basis news changes
+AreAccepted basis _ _ = ⊥
 
 -- the report is of the crash of a number, which isn't due, and made by the run's own lists and symbols
 abbrev pub IsReportOf : Basis → List Change → LedgerState → ℕ → Kept → Type 0
@@ -166,6 +197,7 @@ AreReports basis log ledger _ _ = ⊥
 abbrev pub ArePending : Basis → List Change → LedgerState → Option Pending → List Kept → Type 0
 ArePending basis log ledger None [] = ⊤
 ArePending basis log ledger (Some (P.Reports numbers)) (first ∷ more) = AreReports basis log ledger numbers.items (first ∷ more)
+ArePending basis log ledger (Some (P.Accepts news)) (first ∷ more) = AreAccepted basis news.items (first ∷ more)
 ArePending basis log ledger (Some pending) (change ∷ []) = IsPending basis log ledger pending change
 ArePending basis log ledger _ _ = ⊥
 
