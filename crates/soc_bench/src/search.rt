@@ -32,7 +32,7 @@ struct Asked {
 }
 
 /// The queries of a search page.
-const QUERIES: [Asked; 9] = [
+const QUERIES: [Asked; 10] = [
     Asked {
         name: "facet on signature",
         pairs: &[("_facets", "signature"), ("_results_number", "0")],
@@ -62,7 +62,15 @@ const QUERIES: [Asked; 9] = [
         pairs: &[("date", ">=2026-11-05"), ("date", "<2026-11-06")],
     },
     Asked {
-        name: "uuid=, and another condition on it",
+        name: "date, one hour of 672, and signature=~77",
+        pairs: &[
+            ("date", ">=2026-11-05T07"),
+            ("date", "<2026-11-05T08"),
+            ("signature", "~77"),
+        ],
+    },
+    Asked {
+        name: "uuid=, and conditions on other fields",
         pairs: &[
             ("uuid", "538453d7-0000-4000-8000-000000160918"),
             ("proto_signature", "!~z"),

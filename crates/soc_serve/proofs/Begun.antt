@@ -1,9 +1,7 @@
 -- The run that the turns at a shared book come to, from the journal that was opened.
 use Rattle.std.proofs.Common.{◌≡◌, inl, inr, ℕ, Bool, true, false, IsTrue, List, [], ◌++◌, map, Option, None, Some, IfSome, refl, sym, ap, ◌∙◌, subst, arith}
 use Rattle.std.specs.Prelude.{is_some}
-use Rattle.soc_raw.specs.Record.{Crash}
 use Rattle.soc_schema.specs.declared.reporter.Reporter as reporter
-use Rattle.soc_schema.specs.declared.value.Cell.{Cell}
 use Rattle.soc_edge.specs.Disk.{DiskTold}
 use Rattle.soc_edge.specs.declared.disk.Disk as disk
 use Rattle.soc_journal.specs.Entries.{Entry, header}
@@ -17,7 +15,7 @@ use Rattle.soc_desk.specs.Basis.{Basis}
 use Rattle.soc_desk.specs.Log.{Change, Kept}
 use Rattle.soc_desk.specs.Opens.{OpensWith, as_told, log_of}
 use Rattle.soc_desk.specs.Runs.{DeskAt}
-use Rattle.soc_desk.specs.State.{State, Allowed, entries_of, kept_of, settled}
+use Rattle.soc_desk.specs.State.{Allowed, entries_of, kept_of, settled}
 use Rattle.soc_book.specs.declared.book.Book.{Book}
 use Rattle.soc_book.specs.Books.{StandsFor, crashes_in, disk_of, limits_of, log_in, reporter_of}
 use Rattle.soc_book.specs.Openings.{IsBasisOf, OpensBook}

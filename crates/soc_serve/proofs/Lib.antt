@@ -2,6 +2,7 @@ pub mod Begun
 pub mod Hosted
 pub mod Hostings
 pub mod Pushed
+pub mod Rings
 pub mod Seats
 pub mod Signatures
 pub mod Stops

@@ -9,6 +9,7 @@ ghost use Rattle.soc_replay.specs.Files.{files_say};
 ghost use Rattle.soc_replay.specs.inner.Replay.{IsFilesFault};
 ghost use Rattle.soc_words.specs.Words.{words_of};
 ghost use Rattle.soc_serve.specs.Ends.{status_of};
+ghost use Rattle.soc_serve.specs.Rings.{LeavesRing, LeavesRingBy};
 ghost use Rattle.soc_serve.specs.Hosts.{HostHasCause, Hosts, HostsOn, HostsWords, IsServe};
 ghost use Rattle.soc_serve.specs.declared.ending.HostEnd.{HostEnd as End};
 ghost use Rattle.soc_serve.specs.inner.Hosting.{HostsFiles, IsCrew};
@@ -21,6 +22,7 @@ use soc_collect::Tally;
 use soc_crew::Crew;
 use soc_edge::{Clock, Draws, Sink, Telling, TellsAll, Tree, World};
 use soc_listen::Listener;
+use soc_pool::RingEnd;
 use soc_replay::{FilesFault, RunEnd, refuse_text, tell_usage};
 use soc_report::Kit;
 use soc_service::Gate;
@@ -65,7 +67,7 @@ pub fn run_hall<
     listener: L,
     gate: &G,
     served: &mut Tally<L::Conn>,
-) -> (u8, L)
+) -> (u8, L, Option<RingEnd>)
     requires served { served.old ≡ nothing_served }
     ensures hosts { let told = ⟦<World<T, K, D, C, W, P> as TellsAll>⟧.told in
         (end : End) × (result.0 ≡ status_of end)
@@ -82,6 +84,7 @@ pub fn run_hall<
     ensures cause { let told = ⟦<World<T, K, D, C, W, P> as TellsAll>⟧.told in
         HostHasCause (told world.old) (told world.new) result.0 }
     ensures listener_cause { result.0 ≡ 6 → Rose (L.told listener).faults (L.told result.1).faults }
+    ensures jobs { LeavesRingBy (words_of (map string_bytes words.now)) result.0 result.2 }
 {
     match Words::read(alloc, words) {
         Ok(words) => match words.command {
@@ -96,25 +99,25 @@ pub fn run_hall<
                     crew,
                     gate,
                 };
-                let (end, listener) = host(&site, world, listener, served);
-                (end.status(), listener)
+                let (end, listener, jobs) = host(&site, world, listener, served);
+                (end.status(), listener, jobs)
             }
             Task::Storm => {
                 let end = storm(rt, alloc, &words, &mut world.streams, gate);
-                (end.status(), listener)
+                (end.status(), listener, None)
             }
             Task::Check | Task::Make | Task::Replay => {
                 let end = HostEnd::Before(tell_usage(&mut world.streams));
-                (end.status(), listener)
+                (end.status(), listener, None)
             }
         },
         Err(WordsError::NotOurs) => {
             let end = HostEnd::Before(tell_usage(&mut world.streams));
-            (end.status(), listener)
+            (end.status(), listener, None)
         }
         Err(WordsError::NoMemory) => {
             let end = HostEnd::Before(RunEnd::NoMemory);
-            (end.status(), listener)
+            (end.status(), listener, None)
         }
     }
 }
@@ -135,7 +138,7 @@ fn host<
     world: &mut World<T, K, D, C, W, P>,
     listener: L,
     served: &mut Tally<L::Conn>,
-) -> (HostEnd, L)
+) -> (HostEnd, L, Option<RingEnd>)
     requires crew { IsCrew site.now.crew }
     requires served { served.old ≡ nothing_served }
     ensures hosts { let told = ⟦<World<T, K, D, C, W, P> as TellsAll>⟧.told in
@@ -150,17 +153,19 @@ fn host<
         HostHasCause (told world.old) (told world.new) (status_of result.0) }
     ensures listener_cause { status_of result.0 ≡ 6
         → Rose (L.told listener).faults (L.told result.1).faults }
+    ensures jobs { let crew = site.now.crew in
+        LeavesRing crew.collectors crew.processors (status_of result.0) result.2 }
 {
-    let (ended, listener) = by_files(site, world, listener, served);
+    let (ended, listener, jobs) = by_files(site, world, listener, served);
     match ended {
-        Ok(end) => (end, listener),
+        Ok(end) => (end, listener, jobs),
         Err(FilesFault::Refused(refusal)) => {
             let end = refuse_text(site.alloc, &mut world.streams, &refusal);
-            (HostEnd::Before(end), listener)
+            (HostEnd::Before(end), listener, None)
         }
-        Err(FilesFault::Tree) => (HostEnd::Before(RunEnd::TreeFault), listener),
-        Err(FilesFault::Maker) => (HostEnd::Before(RunEnd::MakerFault), listener),
-        Err(FilesFault::NoMemory) => (HostEnd::Before(RunEnd::NoMemory), listener),
+        Err(FilesFault::Tree) => (HostEnd::Before(RunEnd::TreeFault), listener, None),
+        Err(FilesFault::Maker) => (HostEnd::Before(RunEnd::MakerFault), listener, None),
+        Err(FilesFault::NoMemory) => (HostEnd::Before(RunEnd::NoMemory), listener, None),
     }
 }
 
@@ -181,7 +186,7 @@ fn by_files<
     world: &mut World<T, K, D, C, W, P>,
     listener: L,
     served: &mut Tally<L::Conn>,
-) -> (Result<HostEnd, FilesFault>, L)
+) -> (Result<HostEnd, FilesFault>, L, Option<RingEnd>)
     requires crew { IsCrew site.now.crew }
     requires served { served.old ≡ nothing_served }
     ensures hosts { let told = ⟦<World<T, K, D, C, W, P> as TellsAll>⟧.told in
@@ -206,21 +211,23 @@ fn by_files<
         IfOk result.0 (λ end. HostHasCause (told world.old) (told world.new) (status_of end)) }
     ensures listener_cause { IfOk result.0 (λ end. status_of end ≡ 6
         → Rose (L.told listener).faults (L.told result.1).faults) }
+    ensures jobs { let crew = site.now.crew in IfOk result.0
+        (λ end. LeavesRing crew.collectors crew.processors (status_of end) result.2) }
 {
     let (texts, setup) = match read_files(site.alloc, &mut world.tree) {
         Ok(files) => files,
-        Err(fault) => return (Err(fault), listener),
+        Err(fault) => return (Err(fault), listener, None),
     };
     let kit = match Kit::read(site.alloc, &texts.kit, &mut world.maker) {
         Ok(kit) => kit,
-        Err(error) => return (Err(FilesFault::from(error)), listener),
+        Err(error) => return (Err(FilesFault::from(error)), listener, None),
     };
     let purpose = Purpose {
         site,
         setup: &setup,
         reporter: &kit,
     };
-    let (end, listener) = serve(
+    let (end, listener, jobs) = serve(
         &purpose,
         listener,
         &mut world.streams,
@@ -229,5 +236,5 @@ fn by_files<
         &mut world.draws,
         served,
     );
-    (Ok(end), listener)
+    (Ok(end), listener, jobs)
 }

@@ -10,6 +10,7 @@ ghost use Rattle.soc_book.specs.Books.{StandsFor, disk_of, lent_to, reporter_of}
 ghost use Rattle.soc_edge.specs.World.{surroundings};
 ghost use Rattle.soc_replay.specs.Serving.{service};
 ghost use Rattle.soc_serve.specs.Ends.{status_of};
+ghost use Rattle.soc_serve.specs.Rings.{LeavesRing};
 ghost use Rattle.soc_serve.specs.inner.Hosting.{IsCrew};
 ghost use Rattle.soc_serve.specs.inner.Serving.{ClosesBook, ServesDesk};
 
@@ -23,6 +24,7 @@ use soc_crew::{Crew, CrewEnd, CrewSetting, serve_together};
 use soc_edge::{Clock, Disk, Draws, Sink, Telling};
 use soc_http::Routes;
 use soc_listen::Listener;
+use soc_pool::RingEnd;
 use soc_replay::{RunEnd, Setup, open};
 use soc_schema::Reporter;
 use soc_service::Gate;
@@ -69,7 +71,7 @@ pub(crate) fn serve<
     clock: &mut C,
     draws: &mut W,
     served: &mut Tally<L::Conn>,
-) -> (HostEnd, L)
+) -> (HostEnd, L, Option<RingEnd>)
     requires crew { IsCrew purpose.now.site.now.crew }
     requires served { served.old ≡ nothing_served }
     ensures serves { ServesDesk
@@ -87,17 +89,19 @@ pub(crate) fn serve<
     ensures listener_cause { status_of result.0 ≡ 6
         → Rose (L.told listener).faults (L.told result.1).faults }
     ensures cause { status_of result.0 ≡ 7 → WriteFailed (K.told output.old) (K.told output.new) }
+    ensures jobs { let crew = purpose.now.site.now.crew in
+        LeavesRing crew.collectors crew.processors (status_of result.0) result.2 }
 {
     let alloc = purpose.site.alloc;
     let reporter = purpose.reporter;
     let setup = purpose.setup;
     let Ok(routes) = Routes::new(alloc) else {
-        return (HostEnd::Before(RunEnd::NoMemory), listener);
+        return (HostEnd::Before(RunEnd::NoMemory), listener, None);
     };
     let opened = Snapshot::of(&*disk);
     let restored = match open(alloc, reporter, setup.limits, output, disk) {
         Ok(restored) => restored,
-        Err(end) => return (HostEnd::Before(end), listener),
+        Err(end) => return (HostEnd::Before(end), listener, None),
     };
     let book = SharedBook::over(alloc, disk, reporter, setup.limits, restored, opened);
     let setting = CrewSetting {
@@ -115,13 +119,13 @@ pub(crate) fn serve<
         listener,
         failed,
         served: counted,
-        ..
+        jobs,
     } = serve_together(purpose.site.rt, setting, book, listener, clock, draws);
     *served = counted;
     let mut book = book.into_book();
     let end = close(alloc, &mut book, output, failed);
     let _disk = book.into_disk();
-    (end, listener)
+    (end, listener, jobs)
 }
 
 /// Sweeps up, and writes the lines. Where memory was wanting before anything was served, nothing is swept.

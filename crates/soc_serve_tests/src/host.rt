@@ -114,7 +114,7 @@ fn run_by<R: Threads + Wait + Sync, G: Gate + Sync>(
     let list = words_of(alloc, words)?;
     let mut world = new_world(alloc)?;
     let mut served = Tally::new();
-    let (status, listener) = run_hall(
+    let (status, listener, _) = run_hall(
         rt,
         alloc,
         list.as_slice(),

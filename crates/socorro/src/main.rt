@@ -95,7 +95,7 @@ fn serve<R: Threads + Wait + Sync>(
     let limits = SocketLimits::of_service();
     let listener = SocketListener::new(system, said.listen.as_str(), &alarm, limits);
     let mut served = Tally::new();
-    let (status, _listener) = run_hall(
+    let (status, _listener, _jobs) = run_hall(
         rt,
         system.alloc(),
         words,

@@ -1,8 +1,11 @@
-use Rattle.std.proofs.Common.{Err, ap, ◌∙◌, inl, inr, refl, sym}
+use Rattle.std.proofs.Common.{Err, Option, None, ap, ◌∙◌, inl, inr, refl, subst, sym, arith}
 use Rattle.soc_edge.proofs.Disks.{Looks-none}
+use Rattle.soc_words.specs.declared.words.Words.{Words}
+use Rattle.soc_serve.specs.Rings.{LeavesRingBy}
 use Rattle.soc_serve.specs.declared.ending.HostEnd.TheVariants as H
 use Rattle.soc_replay.specs.declared.ending.RunEnd.TheVariants as R
 use Rattle.soc_serve.proofs.Hosted.{hosts_words, is_serve, no_serve, no_words, other_words, storms_words}
+use Rattle.soc_serve.proofs.Rings.{is_other, is_storm, no_ring, no_serve_ring, ring_by_words}
 use Rattle.soc_serve.proofs.hosting.run_hall.Goals as goal
 
 pub returns-in-Serve-clause-hosts : goal.returns-in-Serve-clause-hosts
@@ -62,3 +65,19 @@ returns-clause-hosts g c = (
     };
   }),
 )
+
+pub returns-in-Serve-clause-jobs : goal.returns-in-Serve-clause-jobs
+returns-in-Serve-clause-jobs g c = ring_by_words _ c.in-Ok.words _ _ c.host-end.result.2 c.in-Ok.ensures.ok c.status.ensures c.host-end.ensures.jobs
+
+pub returns-in-Storm-clause-jobs : goal.returns-in-Storm-clause-jobs
+returns-in-Storm-clause-jobs g c = no_serve_ring _ c.in-Ok.words _ _ c.in-Ok.ensures.ok (is_storm _ c.in-Storm.is)
+
+pub returns-in-Ok-clause-jobs : goal.returns-in-Ok-clause-jobs
+returns-in-Ok-clause-jobs g c = no_serve_ring _ c.in-Ok.words _ _ c.in-Ok.ensures.ok (is_other _ c.in-Check.is)
+
+pub returns-in-Err-NotOurs-clause-jobs : goal.returns-in-Err-NotOurs-clause-jobs
+returns-in-Err-NotOurs-clause-jobs g c =
+    subst (λ (s : Option Words). LeavesRingBy s c.status-in-Err-NotOurs.result None) (sym (c.in-Err-NotOurs.ensures.not_ours (ap (λ e. Err e) c.in-Err-NotOurs.field-0-is))) tt
+
+pub returns-clause-jobs : goal.returns-clause-jobs
+returns-clause-jobs g c = no_ring _ _ (λ is. let status = c.status-in-Err-NoMemory.ensures in omega arith) (λ is. let status = c.status-in-Err-NoMemory.ensures in omega arith)

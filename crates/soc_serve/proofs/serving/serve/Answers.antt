@@ -19,6 +19,7 @@ use Rattle.soc_serve.proofs.Seats.{closes_by, opening_by, told_by}
 use Rattle.soc_edge.specs.World.{surroundings}
 use Rattle.soc_serve.specs.inner.Serving.{ClosesBook}
 use Rattle.soc_serve.proofs.Hostings.{not_served, serves_desk, served_on}
+use Rattle.soc_serve.proofs.Rings.{leaves_ring}
 use Rattle.soc_serve.proofs.serving.serve.Goals as goal
 
 pub returns-in-Err-clause-serves : goal.returns-in-Err-clause-serves
@@ -31,6 +32,14 @@ returns-in-Err-clause-over g c is =
 pub returns-in-Err-clause-listener_cause : goal.returns-in-Err-clause-listener_cause
 returns-in-Err-clause-listener_cause g c is =
     absurd ((not_served _ _ c.in-Err.end (c.in-Err.ensures.refused (record { moments = λ _. None; throttles = λ _. None; ids = λ _. None }))).0 is)
+
+pub returns-in-Err-clause-jobs : goal.returns-in-Err-clause-jobs
+returns-in-Err-clause-jobs g c =
+    let not = not_served _ _ c.in-Err.end (c.in-Err.ensures.refused (record { moments = λ _. None; throttles = λ _. None; ids = λ _. None })) in
+    (not.1, not.0)
+
+pub returns-clause-jobs : goal.returns-clause-jobs
+returns-clause-jobs g c = leaves_ring _ _ _ _ c.serve_together-book.result.failed c.serve_together-book.result.jobs c.serve_together-book.ensures.jobs c.close-end.ensures.failed c.close-end.ensures.done
 
 pub over-book-requires-clause-opens : goal.over-book-requires-clause-opens
 over-book-requires-clause-opens g c = rw c.of-opened.ensures c.in-Ok-open.ensures.opens
