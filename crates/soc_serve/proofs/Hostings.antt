@@ -190,7 +190,7 @@ pub unswept : (told : Told) (disk : DiskTold) (early late : Outlook) → IsDisk 
     → (IsTrue basis.is_told → (image : List ℕ) → disk.images image → Allowed state image)
     → ClosesBook (surroundings told disk early) (surroundings told disk late) (H.Swept S.NoMemory) basis state state
 unswept told disk early late is basis state allowed = record {
-  ends = (record { behind = still state; cause = λ is. cc; stage = λ is. cc }, refl);
+  ends = (record { behind = still state; cause = λ is. cc; stage = inl (refl, refl) }, refl);
   leaves = nothing_done basis state disk is allowed;
 }
 

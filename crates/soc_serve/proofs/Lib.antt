@@ -1,6 +1,7 @@
 pub mod Begun
 pub mod Hosted
 pub mod Hostings
+pub mod Lived
 pub mod Pushed
 pub mod Rings
 pub mod Seats

@@ -35,14 +35,14 @@ done_same before after ids is = record {
   doubt = ap (λ (s : State). s.doubt) is;
 }
 
-drained_same : (before : State) (due : List (List ℕ)) (reply : Reply) (after : State) → DrainsAll before due reply after → SameJournal before after
+pub drained_same : (before : State) (due : List (List ℕ)) (reply : Reply) (after : State) → DrainsAll before due reply after → SameJournal before after
 drained_same before due (R.Drained count) after drains = done_same before after due drains.1
 drained_same before due (R.Refused F.NoMemory) after drains = done_same before after (take drains.0 due) drains.2
 drained_same before due (R.Refused F.StoreFault) after drains = done_same before after (take drains.0 due) drains.2
 drained_same before due _ after never = absurd never
 
 -- what one of two such states allows the other does
-same_allowed : (before after : State) → SameJournal before after → (image : List ℕ) → Allowed after image → Allowed before image
+pub same_allowed : (before after : State) → SameJournal before after → (image : List ℕ) → Allowed after image → Allowed before image
 same_allowed before after same image (inl stands) = inl (subst (λ (k : List Kept). StandsFor image k) same.kept stands)
 same_allowed before after same image (inr stands) =
     inr (subst (λ (k : List Kept). StandsFor image k) (ap (λ (k : List Kept). k ++ after.doubt) same.kept ∙ ap (λ (k : List Kept). kept_of before.log ++ k) same.doubt) stands)
@@ -75,7 +75,7 @@ map_none f [] none = refl
 map_none f (x ∷ xs) none = absurd (cc)
 
 -- once reports are kept nothing is in doubt
-nothing_in_doubt : (basis : Basis) (before : State) (count : ℕ) (after : State) → KeepsAll basis before count after → after.doubt ≡ []
+pub nothing_in_doubt : (basis : Basis) (before : State) (count : ℕ) (after : State) → KeepsAll basis before count after → after.doubt ≡ []
 nothing_in_doubt basis before count after keeps =
     map_none (λ change. event_of basis (keep change)) after.doubt
     (of_behind (events basis before.log) (doubted basis before) (events basis keeps.piece) (Reports basis (R.Kept count) (doubted basis after)) keeps.grows
@@ -84,7 +84,7 @@ nothing_in_doubt basis before count after keeps =
 -- ---- one step, and then another
 
 -- the kept changes of a longer log, with its doubt
-longer : (before after : State) (piece : List Change) → after.log ≡ before.log ++ piece → kept_with_doubt after ≡ kept_of before.log ++ (kept_of piece ++ after.doubt)
+pub longer : (before after : State) (piece : List Change) → after.log ≡ before.log ++ piece → kept_with_doubt after ≡ kept_of before.log ++ (kept_of piece ++ after.doubt)
 longer before after piece behind =
     ap (λ (l : List Change). kept_of l ++ after.doubt) behind
     ∙ (ap (λ (k : List Kept). k ++ after.doubt) (filter_map-append kept_in before.log piece) ∙ append_assoc (kept_of before.log) (kept_of piece) after.doubt)

@@ -11,18 +11,19 @@ use Rattle.soc_schema.specs.declared.caller.Products.TheVariants.{All as AllProd
 use Rattle.soc_desk.specs.declared.desk.Command.TheVariants as C
 use Rattle.soc_desk.specs.declared.desk.Reply.{Reply}
 use Rattle.soc_desk.specs.declared.desk.Reply.TheVariants as R
+use Rattle.soc_desk.specs.declared.desk.Refusal.{Refusal}
 use Rattle.soc_desk.specs.declared.desk.Refusal.TheVariants as F
 use Rattle.soc_desk.specs.Basis.{Basis}
 use Rattle.soc_desk.specs.Grows.{BehindDoubt}
 use Rattle.soc_desk.specs.Keeps.{Reports}
 use Rattle.soc_desk.specs.Log.{Change, done, event_of, events}
-use Rattle.soc_desk.specs.State.{State}
+use Rattle.soc_desk.specs.State.{State, IsLegalState}
 use Rattle.soc_desk.proofs.Drained.{drains_all}
 use Rattle.soc_book.specs.Keeping.{KeepsReports}
 use Rattle.soc_book.specs.inner.Does.{Does}
 use Rattle.soc_serve.specs.declared.sweep.SweepFault.{SweepFault}
 use Rattle.soc_serve.specs.declared.sweep.SweepFault.TheVariants as S
-use Rattle.soc_serve.specs.Sweep.{EndsSweep, FailsKeeping, FailsLate, FailsProcessing, FailsSweep, IsBehind, KeepsAll, KeepsTwice, Processes}
+use Rattle.soc_serve.specs.Sweep.{EndsSweep, FailsBoth, FailsBy, FailsSweep, IsBehind, IsFault, KeepsAll, KeepsTwice, KeepsWith, Processes, ProcessesAndKeeps, ProcessesWith}
 use Rattle.soc_serve.specs.inner.Sweeping.{EndsBoth, EndsDrain, EndsKeep, FailsStep, drained, kept}
 
 -- a caller who may have crashes processed
@@ -32,15 +33,40 @@ operator = record {
   products = AllProducts;
 }
 
+pub processed_with : (basis : Basis) (before : State) (disk : DiskTold) (reply : Reply) (after : State) (disk' : DiskTold)
+    → IsLegalState basis after → Does basis before disk (C.Drain operator) reply after disk' → ProcessesWith basis before reply after
+processed_with basis before disk reply after disk' legal does =
+    record { piece = does.gains.piece; behind = does.gains.behind; drains = does.gains.grows.0; legal = legal; step = does.step }
+
 pub ends_drain : (basis : Basis) (before : State) (disk : DiskTold) (reply : Reply) (after : State) (disk' : DiskTold)
-    → Does basis before disk (C.Drain operator) reply after disk' → EndsDrain basis before disk (drained reply) after disk'
-ends_drain basis before disk (R.Drained count) after disk' does =
-    (count, record { piece = does.gains.piece; behind = does.gains.behind; drains = does.gains.grows.0; step = does.step })
-ends_drain basis before disk (R.Refused F.NoMemory) after disk' does = record { behind = (does.gains.piece, does.gains.behind); cause = λ is. cc }
-ends_drain basis before disk (R.Refused F.StoreFault) after disk' does = record { behind = (does.gains.piece, does.gains.behind); cause = λ is. inl (does.fault tt) }
-ends_drain basis before disk (R.Refused (F.Altered id)) after disk' does = record { behind = (does.gains.piece, does.gains.behind); cause = λ is. inr (does.altered tt) }
-ends_drain basis before disk (R.Refused (F.NoPermission name)) after disk' does = absurd (none_is_not_some does.kind)
-ends_drain basis before disk reply after disk' does = absurd does.kind.1
+    → IsLegalState basis after → Does basis before disk (C.Drain operator) reply after disk' → EndsDrain basis before disk (drained reply) after disk'
+ends_drain basis before disk (R.Drained count) after disk' legal does = (count, processed_with basis before disk (R.Drained count) after disk' legal does)
+ends_drain basis before disk (R.Refused F.NoMemory) after disk' legal does = (
+  record { behind = (does.gains.piece, does.gains.behind); cause = λ is. cc },
+  F.NoMemory,
+  refl,
+  processed_with basis before disk (R.Refused F.NoMemory) after disk' legal does,
+)
+ends_drain basis before disk (R.Refused F.StoreFault) after disk' legal does = (
+  record { behind = (does.gains.piece, does.gains.behind); cause = λ is. inl (does.fault tt) },
+  F.StoreFault,
+  refl,
+  processed_with basis before disk (R.Refused F.StoreFault) after disk' legal does,
+)
+ends_drain basis before disk (R.Refused (F.Altered id)) after disk' legal does = (
+  record { behind = (does.gains.piece, does.gains.behind); cause = λ is. inr (does.altered tt) },
+  F.Altered id,
+  refl,
+  processed_with basis before disk (R.Refused (F.Altered id)) after disk' legal does,
+)
+ends_drain basis before disk (R.Refused (F.NoPermission name)) after disk' legal does = absurd (none_is_not_some does.kind)
+ends_drain basis before disk reply after disk' legal does = absurd does.kind.1
+
+-- what was processed, whatever the answer
+pub processed_so : (basis : Basis) (before : State) (disk : DiskTold) (result : Result (Unit {0}) SweepFault) (after : State) (disk' : DiskTold)
+    → EndsDrain basis before disk result after disk' → (reply : Reply) × ProcessesWith basis before reply after
+processed_so basis before disk (Ok over) after disk' ends = (R.Drained ends.0, ends.1)
+processed_so basis before disk (Err fault) after disk' ends = (R.Refused ends.1, ends.3)
 
 none_of : (log : List Event) (doubt : List Event) (piece : List Event) (Adds : List Event → List Event → Type 0)
     → BehindDoubt log doubt piece Adds → ((l own : List Event) → Adds l own → ⊥) → ⊥
@@ -48,13 +74,21 @@ none_of log [] piece Adds adds never = never log piece adds
 none_of log (first ∷ more) piece Adds (inl adds) never = never log piece adds
 none_of log (first ∷ more) piece Adds (inr adds) never = never (log ++ first ∷ more) adds.0 adds.2
 
+kept_with : (basis : Basis) (before : State) (disk : DiskTold) (reply : Reply) (after : State) (disk' : DiskTold)
+    → KeepsReports basis before disk reply after disk' → KeepsWith basis before reply after
+kept_with basis before disk reply after disk' keeps =
+    record { piece = keeps.piece; behind = keeps.behind; grows = keeps.grows; legal = keeps.legal; step = keeps.step }
+
 pub ends_keep : (basis : Basis) (before : State) (disk : DiskTold) (reply : Reply) (after : State) (disk' : DiskTold)
     → KeepsReports basis before disk reply after disk' → EndsKeep basis before disk (kept reply) after disk'
-ends_keep basis before disk (R.Kept count) after disk' keeps = (count, record { piece = keeps.piece; behind = keeps.behind; grows = keeps.grows; step = keeps.step })
-ends_keep basis before disk (R.Refused F.NoMemory) after disk' keeps = (record { behind = (keeps.piece, keeps.behind); cause = λ is. cc }, λ is. cc)
+ends_keep basis before disk (R.Kept count) after disk' keeps = (count, kept_with basis before disk (R.Kept count) after disk' keeps)
+ends_keep basis before disk (R.Refused F.NoMemory) after disk' keeps =
+    (record { behind = (keeps.piece, keeps.behind); cause = λ is. cc }, F.NoMemory, refl, kept_with basis before disk (R.Refused F.NoMemory) after disk' keeps)
 ends_keep basis before disk (R.Refused F.StoreFault) after disk' keeps = (
   record { behind = (keeps.piece, keeps.behind); cause = λ is. inl (keeps.fault tt) },
-  λ is. (before, ([], sym (append-nil before.log)), record { piece = keeps.piece; behind = keeps.behind; grows = keeps.grows; step = keeps.step }),
+  F.StoreFault,
+  refl,
+  kept_with basis before disk (R.Refused F.StoreFault) after disk' keeps,
 )
 ends_keep basis before disk reply after disk' keeps = absurd (none_of _ _ _ (Reports basis _ _) keeps.grows (λ log own (reports : Reports basis _ _ log own). reports.ends))
 
@@ -88,20 +122,12 @@ pub behind_again : (before middle after : State) → IsBehind before middle → 
 behind_again before middle after first last =
     (first.0 ++ last.0, behind_both before.log middle.log after.log first.0 last.0 first.1 last.1)
 
-pub keeping_behind : (basis : Basis) (before middle after : State) → IsBehind before middle
-    → FailsKeeping basis middle after → FailsKeeping basis before after
-keeping_behind basis before middle after behind fails = (fails.0, behind_again before middle fails.0 behind fails.1, fails.2)
-
-processing_behind : (basis : Basis) (before middle after : State) → IsBehind before middle
-    → FailsProcessing basis middle after → FailsProcessing basis before after
-processing_behind basis before middle after behind fails =
-    (fails.0, fails.1, behind_again before middle fails.0 behind fails.2, fails.3)
-
-twice_behind : (basis : Basis) (before after : State) → KeepsTwice basis before after → IsBehind before after
-twice_behind basis before after keeps =
-    behind_again before keeps.first after
-    (behind_again before keeps.opened keeps.first (keeps.keeps_early.piece, keeps.keeps_early.behind) (keeps.processes.piece, keeps.processes.behind))
-    (keeps.keeps_made.piece, keeps.keeps_made.behind)
+twice_behind : (basis : Basis) (before : State) (processed kept : Reply) (after : State) → KeepsTwice basis before processed kept after → IsBehind before after
+twice_behind basis before processed kept after keeps =
+    let then = keeps.goes_on in
+    behind_again before then.first after
+    (behind_again before keeps.opened then.first (keeps.keeps_early.piece, keeps.keeps_early.behind) (then.processes.piece, then.processes.behind))
+    (then.keeps_made.piece, then.keeps_made.behind)
 
 -- a step that failed, behind others and before others
 fails_within : (basis : Basis) (before from to after : State) (disk middle last disk' : DiskTold) (fault : SweepFault)
@@ -120,51 +146,49 @@ fails_behind basis before from after disk middle disk' fault on behind fails =
 pub ends_both : (basis : Basis) (before first after : State) (disk middle disk' : DiskTold) (result : Result (Unit {0}) SweepFault) (count : ℕ)
     → EndsDrain basis before disk result first middle → GoesOn middle disk' → KeepsAll basis first count after
     → EndsBoth basis before disk result after disk'
-ends_both basis before first after disk middle disk' (Ok over) count ends on keeps = (first, ends.0, count, ends.1, keeps)
+ends_both basis before first after disk middle disk' (Ok over) count ends on keeps =
+    (ends.0, count, record { first = first; processes = ends.1; keeps_made = keeps })
 ends_both basis before first after disk middle disk' (Err fault) count ends on keeps = (
-  fails_within basis before before first after disk disk middle disk' fault (omega arith) (still before) ends on.faults_never_fall (keeps.piece, keeps.behind),
-  λ is. inr (first, count, ends.behind, keeps),
+  fails_within basis before before first after disk disk middle disk' fault (omega arith) (still before) ends.0 on.faults_never_fall (keeps.piece, keeps.behind),
+  ends.1,
+  ends.2,
+  inr (count, record { first = first; processes = ends.3; keeps_made = keeps }),
 )
 
--- the first step failed, or the second did
-pub first_failed : (basis : Basis) (before after : State) (disk disk' : DiskTold) (fault : SweepFault) → FailsStep basis before disk fault after disk'
-    → (fault ≡ S.Disk → FailsKeeping basis before after ⊎ (FailsProcessing basis before after ⊎ FailsLate basis before after)) → FailsSweep basis before disk.faults fault after disk'.faults
-first_failed basis before after disk disk' fault fails stage = record { behind = fails.behind; cause = fails.cause; stage = stage }
+-- ---- the sweep failed
 
+pub fails_sweep : (basis : Basis) (before after : State) (disk disk' : DiskTold) (fault : SweepFault) (why : Refusal) → FailsStep basis before disk fault after disk'
+    → IsFault why fault → FailsBy basis before why after → FailsSweep basis before disk.faults fault after disk'.faults
+fails_sweep basis before after disk disk' fault why fails is by = record { behind = fails.behind; cause = fails.cause; stage = inr (why, is, by) }
+
+twice_fails : (basis : Basis) (before opened after : State) (early : ℕ) (why : Refusal) → KeepsAll basis before early opened
+    → FailsBoth (λ processed kept. ProcessesAndKeeps basis opened processed kept after) why → FailsBoth (λ processed kept. KeepsTwice basis before processed kept after) why
+twice_fails basis before opened after early why keeps (inl goes) = inl (goes.0, record { early = early; opened = opened; keeps_early = keeps; goes_on = goes.1 })
+twice_fails basis before opened after early why keeps (inr goes) = inr (goes.0, record { early = early; opened = opened; keeps_early = keeps; goes_on = goes.1 })
+
+-- behind the first reports
 pub second_failed : (basis : Basis) (before opened after : State) (disk middle disk' : DiskTold) (fault : SweepFault) (early : ℕ) → GoesOn disk middle
     → KeepsAll basis before early opened → EndsBoth basis opened middle (Err fault) after disk' → FailsSweep basis before disk.faults fault after disk'.faults
 second_failed basis before opened after disk middle disk' fault early on keeps ends =
-    let behind : IsBehind before opened = (keeps.piece, keeps.behind) in
-    first_failed basis before after disk disk' fault (fails_behind basis before opened after disk middle disk' fault on behind ends.0)
-    (λ is. ⊎_elim (λ kept. inl (keeping_behind basis before opened after behind kept))
-    (λ processed. inr (inl (processing_behind basis before opened after behind processed))) (ends.1 is))
-
-twice : (basis : Basis) (before opened kept : State) (disk middle : DiskTold) (early : ℕ)
-    → KeepsAll basis before early opened → EndsBoth basis opened disk (Ok tt) kept middle → KeepsTwice basis before kept
-twice basis before opened kept disk middle early keeps both = record {
-  early = early;
-  opened = opened;
-  keeps_early = keeps;
-  processed = both.1;
-  first = both.0;
-  processes = both.3;
-  count = both.2;
-  keeps_made = both.4;
-}
+    fails_sweep basis before after disk disk' fault ends.1
+    (fails_behind basis before opened after disk middle disk' fault on (keeps.piece, keeps.behind) ends.0) ends.2
+    (inr (inl (twice_fails basis before opened after early ends.1 keeps ends.3)))
 
 -- the last step, whatever it ended with
 pub ends_sweep : (basis : Basis) (before opened kept after : State) (disk middle disk' : DiskTold) (result : Result (Unit {0}) SweepFault) (early : ℕ)
     → KeepsAll basis before early opened → EndsBoth basis opened disk (Ok tt) kept middle → GoesOn disk middle → EndsDrain basis kept middle result after disk'
     → EndsSweep basis before disk result after disk'
 ends_sweep basis before opened kept after disk middle disk' (Ok over) early early_keeps both on ends = record {
+  processed = both.0;
+  count = both.1;
   kept = kept;
-  keeps = twice basis before opened kept disk middle early early_keeps both;
+  keeps = record { early = early; opened = opened; keeps_early = early_keeps; goes_on = both.2 };
   late = ends.0;
   processes_late = ends.1;
   nothing_due = nothing_due basis kept ends.0 after ends.1;
 }
 ends_sweep basis before opened kept after disk middle disk' (Err fault) early early_keeps both on ends =
-    let keeps = twice basis before opened kept disk middle early early_keeps both in
-    first_failed basis before after disk disk' fault
-    (fails_behind basis before kept after disk middle disk' fault on (twice_behind basis before kept keeps) ends)
-    (λ is. inr (inr (kept, keeps, ends.behind)))
+    let keeps : KeepsTwice basis before (R.Drained both.0) (R.Kept both.1) kept = record { early = early; opened = opened; keeps_early = early_keeps; goes_on = both.2 } in
+    fails_sweep basis before after disk disk' fault ends.1
+    (fails_behind basis before kept after disk middle disk' fault on (twice_behind basis before (R.Drained both.0) (R.Kept both.1) kept keeps) ends.0) ends.2
+    (inr (inr (both.0, both.1, kept, keeps, ends.3)))

@@ -1,6 +1,7 @@
 pub mod Ends
 pub mod Hosts
 pub mod Lines
+pub mod Lives
 pub mod Rings
 pub mod Storm
 pub mod Sweep

@@ -5,6 +5,7 @@
 mod ending;
 mod files;
 mod hosting;
+mod laws;
 mod lines;
 mod serving;
 mod storm;
@@ -13,6 +14,7 @@ mod sweep;
 
 pub use ending::HostEnd;
 pub use hosting::run_hall;
+pub use laws::services_are_lives;
 pub use lines::LinesFault;
 pub use soc_replay::run_words;
 pub use sweep::SweepFault;

@@ -6,10 +6,11 @@ use Rattle.soc_desk.specs.Keeps.{KeepAllows}
 use Rattle.soc_desk.specs.State.{State, Allowed, kept_of}
 use Rattle.soc_desk.specs.declared.desk.Reply.{Reply}
 use Rattle.soc_desk.specs.declared.desk.Reply.TheVariants as R
+use Rattle.soc_desk.specs.declared.desk.Refusal.{Refusal}
 use Rattle.soc_desk.specs.declared.desk.Refusal.TheVariants as F
 use Rattle.soc_serve.specs.declared.sweep.SweepFault.{SweepFault}
 use Rattle.soc_serve.specs.declared.sweep.SweepFault.TheVariants as S
-use Rattle.soc_serve.specs.Sweep.{FailsKeeping, FailsProcessing, IsBehind, KeepsAll, Processes}
+use Rattle.soc_serve.specs.Sweep.{FailsBoth, IsBehind, IsFault, KeepsAll, KeepsWith, Processes, ProcessesAndKeeps, ProcessesWith}
 
 -- what the answer to a drain, and to the keeping of reports, says of the sweep
 abbrev pub drained : Reply → Result (Unit {0}) SweepFault
@@ -47,15 +48,18 @@ pub record FailsStep (basis : Basis) (before : State) (disk : DiskTold) (fault :
 
 abbrev pub EndsDrain : Basis → State → DiskTold → Result (Unit {0}) SweepFault → State → DiskTold → Type 0
 EndsDrain basis before disk (Ok done) after disk' = (count : ℕ) × Processes basis before count after
-EndsDrain basis before disk (Err fault) after disk' = FailsStep basis before disk fault after disk'
+EndsDrain basis before disk (Err fault) after disk' =
+    FailsStep basis before disk fault after disk' × (why : Refusal) × IsFault why fault × ProcessesWith basis before (R.Refused why) after
 
 abbrev pub EndsKeep : Basis → State → DiskTold → Result (Unit {0}) SweepFault → State → DiskTold → Type 0
 EndsKeep basis before disk (Ok done) after disk' = (count : ℕ) × KeepsAll basis before count after
-EndsKeep basis before disk (Err fault) after disk' = FailsStep basis before disk fault after disk' × (fault ≡ S.Disk → FailsKeeping basis before after)
+EndsKeep basis before disk (Err fault) after disk' =
+    FailsStep basis before disk fault after disk' × (why : Refusal) × IsFault why fault × KeepsWith basis before (R.Refused why) after
 
 -- what is due is processed, and then reports are kept
 abbrev pub EndsBoth : Basis → State → DiskTold → Result (Unit {0}) SweepFault → State → DiskTold → Type 0
 EndsBoth basis before disk (Ok done) after disk' =
-    (first : State) × (processed count : ℕ) × Processes basis before processed first × KeepsAll basis first count after
-EndsBoth basis before disk (Err fault) after disk' = FailsStep basis before disk fault after disk'
-    × (fault ≡ S.Disk → FailsKeeping basis before after ⊎ FailsProcessing basis before after)
+    (processed count : ℕ) × ProcessesAndKeeps basis before (R.Drained processed) (R.Kept count) after
+EndsBoth basis before disk (Err fault) after disk' =
+    FailsStep basis before disk fault after disk'
+    × (why : Refusal) × IsFault why fault × FailsBoth (λ processed kept. ProcessesAndKeeps basis before processed kept after) why

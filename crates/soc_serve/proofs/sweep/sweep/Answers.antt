@@ -2,14 +2,14 @@ use Rattle.std.proofs.lemmas.Result.{err_from_is_err_and}
 use Rattle.std.proofs.Common.{sym, ap, inl, ◌∙◌}
 use Rattle.soc_edge.proofs.Disks.{GoesOn-append}
 use Rattle.soc_serve.proofs.Stops.{keeps_more, processes_behind}
-use Rattle.soc_serve.proofs.Sweeps.{ends_sweep, first_failed, second_failed}
+use Rattle.soc_serve.proofs.Sweeps.{ends_sweep, fails_sweep, second_failed}
 use Rattle.soc_serve.proofs.sweep.sweep.Goals as goal
 
 pub returns-in_err-keep-clause-ends : goal.returns-in_err-keep-clause-ends
 returns-in_err-keep-clause-ends g c basis state rows digest stands =
     let kept = c.in_err-keep.ensures.ends basis state rows digest stands in
     let p = err_from_is_err_and c.from_residual.result c.from_residual.ensures.1 in
-    (kept.0, kept.1, rw (p.1, p.2) (first_failed basis state kept.0 _ _ _ kept.2.0 (λ is. inl (kept.2.1 is))), kept.3)
+    (kept.0, kept.1, rw (p.1, p.2) (fails_sweep basis state kept.0 _ _ _ kept.2.1 kept.2.0 kept.2.2 (inl kept.2.3)), kept.3)
 
 pub returns-in_err-process_and_keep-clause-ends : goal.returns-in_err-process_and_keep-clause-ends
 returns-in_err-process_and_keep-clause-ends g c basis state rows digest stands =
