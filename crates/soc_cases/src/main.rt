@@ -4,6 +4,8 @@
 
 mod case;
 mod fault;
+mod known;
+mod lives;
 mod memory;
 mod play;
 mod sweep;
@@ -11,6 +13,7 @@ mod tell;
 
 use case::array_of;
 use fault::Fault;
+use lives::follow;
 use play::{Left, play};
 use soc_toml::value_at;
 use std::alloc::Global;
@@ -57,6 +60,7 @@ fn play_next<R: Print + AllocGlobal>(
     match case.as_table() {
         None => Err(Fault::Wrong("case")),
         Some(case) if value_at(case, "calls").is_some() => sweep(rt, document, case).map(|_| None),
+        Some(case) if value_at(case, "seeds").is_some() => follow(rt, document, case).map(|_| None),
         Some(case) => play_and_tell(rt, document, case, before),
     }
 }

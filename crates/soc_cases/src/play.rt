@@ -168,6 +168,27 @@ fn new_disk(alloc: Global, case: &Table) -> Result<MemDisk, Fault>
     Ok(disk)
 }
 
+/// A disk that holds these bytes. The first two of its calls write and sync them; those with these numbers fail.
+pub fn disk_with(alloc: Global, bytes: &[u8], fails: Numbers) -> Result<MemDisk, Fault>
+    ensures { IfOk result (λ disk. content_of disk ≡ bytes.now) }
+{
+    let mut disk = unsynced_disk(alloc, bytes, fails)?;
+    match disk.sync() {
+        Ok(()) => Ok(disk),
+        Err(_) => Err(Fault::Wrong("disk")),
+    }
+}
+
+fn unsynced_disk(alloc: Global, bytes: &[u8], fails: Numbers) -> Result<MemDisk, Fault>
+    ensures { IfOk result (λ disk. content_of disk ≡ bytes.now) }
+{
+    let mut disk = MemDisk::new(alloc, ROOM, WRITES, fails)?;
+    match disk.write_at(0, bytes) {
+        Ok(()) => Ok(disk),
+        Err(_) => Err(Fault::Wrong("disk")),
+    }
+}
+
 fn numbers(alloc: Global, item: u64) -> Result<Numbers, AllocError>
     ensures { IfOk result (λ n. n ≡ item ∷ []) }
 {

@@ -77,7 +77,7 @@ fn is_same(before: &Option<Vec<u8>>, disk: &MemDisk) -> bool {
 }
 
 /// The numbers of so many calls from one on.
-fn calls_from(alloc: Global, first: u64, count: u64) -> Result<Numbers, Fault> {
+pub fn calls_from(alloc: Global, first: u64, count: u64) -> Result<Numbers, Fault> {
     let mut calls = Vec::new(alloc);
     for number in 0..count {
         calls.push(first.saturating_add(number))?;
@@ -146,11 +146,11 @@ fn reads_of(alloc: Global, replies: &str) -> Result<Vec<u8>, Fault> {
     Ok(reads)
 }
 
-fn words_of(alloc: Global, command: &str) -> Result<Vec<String>, Fault> {
+pub fn words_of(alloc: Global, command: &str) -> Result<Vec<String>, Fault> {
     Ok(vec![in alloc; String::from_str(alloc, command)?]?)
 }
 
-fn text_in(output: &MemSink) -> Result<&str, Fault> {
+pub fn text_in(output: &MemSink) -> Result<&str, Fault> {
     str::from_utf8(output.bytes()).map_err(|_| Fault::Wrong("output"))
 }
 
@@ -160,7 +160,7 @@ fn count_of(text: &str, word: &str) -> u64 {
 }
 
 /// The number behind a word on a line of its own, or 0.
-fn number_behind(text: &str, word: &str) -> u64 {
+pub fn number_behind(text: &str, word: &str) -> u64 {
     let number = text.lines().find_map(|line| line.strip_prefix(word));
     number.and_then(|number| number.parse().ok()).unwrap_or(0)
 }
