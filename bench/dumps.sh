@@ -1,8 +1,10 @@
 #!/usr/bin/env bash
-# Times dumps that a stranger could send, each of 16 MiB (a million regions, modules that share a name of 8 MiB, modules
-# that share a code view record of 8 MiB without a NUL, one module whose name fills the file): how each is read, how its
-# stack of 1,024 frames is walked, and how its report is made, with the peak of the memory. If a DUMP is given, it times the
-# walk and the report of that dump instead, with the SYMBOLS files. All figures are processor time; it needs a quiet machine.
+# Times dumps that a stranger could send, each of 16 MiB (a million regions; as many modules as fit, which share a build id
+# that has symbols and the longest path that counts, or the longest code view record that counts; one module with such a
+# path): how each is read, how its stack of 1,024 frames is walked, and how its report is made, with the peak of the memory.
+# The lists have 2,000 patterns, of which 20 have no literal front, and for a second report 500. If a DUMP is given, it
+# times the walk and the report of that dump instead, with the SYMBOLS files. All figures are processor time; it needs a
+# quiet machine.
 # usage: bench/dumps.sh [DUMP SYMBOLS..]     (crates/soc_bench must be built: `cd crates/soc_bench && rt run`)
 # Symbol files are copied into a folder that mktemp makes, and emptied there at the end.
 set -eu
@@ -47,5 +49,6 @@ for kind in regions names views name; do
     "$program" dump "$kind"
     "$program" walk "$kind"
     with_peak "$program" report "$kind"
+    with_peak "$program" report "$kind" 500
 done
 "$program" report

@@ -47,3 +47,29 @@ fn pattern(alloc: Global, kind: &str, number: u64) -> Result<String, AllocError>
         _ => format!(in alloc; "ns{word:04x}_{kind}::\n"),
     }
 }
+
+/// A list file of which so many patterns have no literal front, and all others have one.
+pub fn unled_list(alloc: Global, kind: &str, count: u64, unled: u64) -> Result<String, Fault> {
+    let mut file = String::new(alloc);
+    for number in 0..count {
+        let word = word_of(number);
+        let line = if number < unled {
+            unled_pattern(alloc, kind, number)?
+        } else {
+            format!(in alloc; "ns{word:04x}_{kind}(_[a-z]+)?::.*\n")?
+        };
+        file.push_str(line.as_str())?;
+    }
+    Ok(file)
+}
+
+/// A line without a literal front: every other one reads a frame to its end.
+fn unled_pattern(alloc: Global, kind: &str, number: u64) -> Result<String, AllocError> {
+    let word = word_of(number);
+    match number % 4 {
+        0 => format!(in alloc; ".*{word:04x}_{kind}\n"),
+        1 => format!(in alloc; "(?:ns|mozilla)[a-z]?{word:04x}_{kind}::\n"),
+        2 => format!(in alloc; "(?:.*::)?{word:04x}_{kind}\n"),
+        _ => format!(in alloc; "_?{word:04x}_{kind}::\n"),
+    }
+}

@@ -9,11 +9,12 @@ use std::alloc::{AllocError, Global};
 pub enum Made {
     /// A million regions that overlap, in no order.
     Regions,
-    /// Modules that share one name of 8 MiB.
+    /// As many modules as fit, which share a build id that has symbols, and the longest path that counts, with no
+    /// separator in it.
     Names,
-    /// Modules that share one code view record of 8 MiB without a NUL.
+    /// As many modules as fit, which share the longest code view record that counts, of a debug file with symbols.
     Views,
-    /// One module with a name that fills the file.
+    /// One module with the longest path that counts, each character of which takes three bytes.
     Name,
 }
 
@@ -32,7 +33,7 @@ const EXCEPTION: usize = 224;
 const CONTEXT: usize = 400;
 
 /// The context's first bytes are no registers, and zeros.
-const EMPTY_NAME: usize = CONTEXT;
+const EMPTY_PATH: usize = CONTEXT;
 
 const STACK: usize = 2048;
 
@@ -40,7 +41,7 @@ const MODULES: usize = 331_008;
 
 const BEHIND_ONE_MODULE: usize = 331_776;
 
-const BEHIND_ALL_MODULES: usize = 8_388_608;
+const BEHIND_ALL_MODULES: usize = 16_750_592;
 
 /// The words that a walk scans: 160 for the first frame and 40 for each other one.
 const WORDS: usize = 41_080;
@@ -55,8 +56,8 @@ const STACK_ADDRESS: u64 = 0x7FFF_0000_0000;
 /// A frame pointer that leads nowhere.
 const NO_ADDRESS: u64 = 0xFFFF_FFFF_FFFF_F000;
 
-/// How many modules share a name or a code view record.
-const MODULE_COUNT: u32 = 74_000;
+/// How many modules share a path or a code view record.
+const MODULE_COUNT: u32 = 152_000;
 
 const MODULE_SIZE: u32 = 108;
 
@@ -64,6 +65,9 @@ const MODULE_SIZE: u32 = 108;
 const REGION_COUNT: u32 = 1_027_800;
 
 const REGION_SIZE: u32 = 16;
+
+/// A unit whose character takes three bytes as text (U+4E00).
+const WIDE_UNIT: u16 = 0x4E00;
 
 /// The odd number by which others are spread (Knuth's, for 32 bits).
 const SPREAD: u32 = 0x9E37_79B9;
@@ -168,8 +172,8 @@ fn stack_word(word: usize) -> u64
 }
 
 /// A list of modules, which lie in the lowest four gigabytes. Each names the same places.
-fn put_modules(file: &mut [u8], count: u32, length: u32, name: u32, view: u32, view_size: u32)
-    requires { count ≤ 74000 }
+fn put_modules(file: &mut [u8], count: u32, length: u32, path: u32, view: u32, view_size: u32)
+    requires { count ≤ 152000 }
 {
     put_stream(file, 3, 4, 4 + count * MODULE_SIZE, MODULES as u32);
     put(file, MODULES, count);
@@ -177,62 +181,69 @@ fn put_modules(file: &mut [u8], count: u32, length: u32, name: u32, view: u32, v
         let entry = MODULES + 4 + index as usize * MODULE_SIZE as usize;
         put(file, entry, index.wrapping_mul(SPREAD));
         put(file, entry + 8, length);
-        put(file, entry + 20, name);
+        put(file, entry + 20, path);
         put(file, entry + 76, view_size);
         put(file, entry + 80, view);
     }
 }
 
-/// Names from a place on: to the file's end, and of letters alone.
-fn fill_name(file: &mut [u8], place: usize)
+/// The units of a path that count.
+const UNITS: usize = 2_048;
+
+/// The bytes of a code view record that count.
+const VIEW_SIZE: usize = 4_096;
+
+/// A path of so many units that are all the same.
+fn put_path(file: &mut [u8], place: usize, unit: u16)
     requires { place ≤ 16777212 }
 {
-    let size = SIZE - 4 - place;
-    put(file, place, (size - size % 2) as u32);
-    for unit in 0..size / 2 {
-        put_bytes(file, place + 4 + unit * 2, b"x\0");
+    put(file, place, (UNITS * 2) as u32);
+    for index in 0..UNITS {
+        put_bytes(file, place + 4 + index * 2, &unit.to_le_bytes());
     }
 }
 
-/// Modules that share a name.
+/// Modules that share a path and a build id.
 fn put_names(file: &mut [u8]) {
+    let view = BEHIND_ALL_MODULES + VIEW_SIZE * 2;
     put_modules(
         file,
         MODULE_COUNT,
         0x10_0000,
         BEHIND_ALL_MODULES as u32,
-        0,
-        0,
+        view as u32,
+        20,
     );
-    fill_name(file, BEHIND_ALL_MODULES);
+    put_path(file, BEHIND_ALL_MODULES, WIDE_UNIT);
+    put_bytes(file, view, b"LEpBxxxxxxxxxxxxxxxx");
 }
 
-/// Modules without a name that share a code view record.
+/// Modules without a name that share the record of a PDB file.
 fn put_views(file: &mut [u8]) {
-    let size = (SIZE - BEHIND_ALL_MODULES) as u32;
     put_modules(
         file,
         MODULE_COUNT,
         0x10_0000,
-        EMPTY_NAME as u32,
+        EMPTY_PATH as u32,
         BEHIND_ALL_MODULES as u32,
-        size,
+        VIEW_SIZE as u32,
     );
-    if let Some(view) = file.get_mut(BEHIND_ALL_MODULES..) {
+    if let Some(view) = file.get_mut(BEHIND_ALL_MODULES..BEHIND_ALL_MODULES + VIEW_SIZE) {
         view.fill(b'x');
     }
     put_bytes(file, BEHIND_ALL_MODULES, b"RSDS");
+    put_bytes(file, BEHIND_ALL_MODULES + VIEW_SIZE - 6, b"/x.pdb");
 }
 
-/// One module with a long name.
+/// One module with a long path.
 fn put_name(file: &mut [u8]) {
     put_modules(file, 1, 0xFFFF_0000, BEHIND_ONE_MODULE as u32, 0, 0);
-    fill_name(file, BEHIND_ONE_MODULE);
+    put_path(file, BEHIND_ONE_MODULE, WIDE_UNIT);
 }
 
 /// Regions below the first terabyte, and one module.
 fn put_regions(file: &mut [u8]) {
-    put_modules(file, 1, 0xFFFF_0000, EMPTY_NAME as u32, 0, 0);
+    put_modules(file, 1, 0xFFFF_0000, EMPTY_PATH as u32, 0, 0);
     put_stream(
         file,
         4,

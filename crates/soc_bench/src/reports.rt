@@ -3,9 +3,9 @@ use crate::crashes::made_crash;
 use crate::fault::Fault;
 use crate::files::dump_file;
 use crate::harness::{Work, time};
-use crate::kits::kit_text;
+use crate::kits::{kit_text, texts_for};
 use soc_raw::RawCrash;
-use soc_report::Kit;
+use soc_report::{Kit, KitText};
 use soc_schema::Reporter;
 use soc_siglists::RegexMaker;
 use std::alloc::Global;
@@ -25,33 +25,36 @@ impl<Y: Reporter> Work for Rows<'_, Y> {
     }
 }
 
-/// Makes rows of a crash without a dump, or with one that is a file or a made one, with the symbols of some files.
+/// Makes rows of a crash without a dump, or with one that is a file or a made one, with the texts that its words name.
 pub fn run<R: Files + CpuClock + Print + Eprint + AllocGlobal>(
     rt: &R,
     words: &[String],
 ) -> Result<(), Fault> {
-    let [dump, symbols @ ..] = words else {
-        return report(rt, None, &[]);
+    let [dump, rest @ ..] = words else {
+        return report(rt, None, &kit_text(rt, &[])?);
     };
     let file = dump_file(rt, dump.as_str())?;
-    report(rt, Some(file.as_slice()), symbols)
+    report(
+        rt,
+        Some(file.as_slice()),
+        &texts_for(rt, dump.as_str(), rest)?,
+    )
 }
 
 fn report<R: Files + CpuClock + Print + Eprint + AllocGlobal>(
     rt: &R,
     dump: Option<&[u8]>,
-    symbols: &[String],
+    texts: &KitText,
 ) -> Result<(), Fault> {
     let raw = made_crash(rt.alloc(), dump)?;
-    report_of(rt, &raw, symbols)
+    report_of(rt, &raw, texts)
 }
 
-fn report_of<R: Files + CpuClock + Print + Eprint + AllocGlobal>(
+fn report_of<R: CpuClock + Print + Eprint + AllocGlobal>(
     rt: &R,
     raw: &RawCrash,
-    symbols: &[String],
+    texts: &KitText,
 ) -> Result<(), Fault> {
-    let texts = kit_text(rt, symbols)?;
-    let reporter = &Kit::read(rt.alloc(), &texts, &mut RegexMaker::new())?;
+    let reporter = &Kit::read(rt.alloc(), texts, &mut RegexMaker::new())?;
     time(rt, "report", "rows", 1, &mut Rows { reporter, raw })
 }

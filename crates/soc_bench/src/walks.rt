@@ -2,9 +2,9 @@
 use crate::fault::Fault;
 use crate::files::dump_file;
 use crate::harness::{Work, time};
-use crate::kits::kit_text;
+use crate::kits::texts_for;
 use soc_dump::Dump;
-use soc_report::Kit;
+use soc_report::{Kit, KitText};
 use soc_siglists::RegexMaker;
 use soc_walk::{Process, Start, Symbols, start_of};
 use std::alloc::Global;
@@ -26,25 +26,24 @@ impl<Y: Symbols> Work for Walks<'_, '_, Y> {
     }
 }
 
-/// Walks the crashing thread of a dump, with the symbols of some files. The dump is a file or a made one.
+/// Walks the crashing thread of a dump, which is a file or a made one, with the texts that its words name.
 pub fn run<R: Files + CpuClock + Print + Eprint + AllocGlobal>(
     rt: &R,
     words: &[String],
 ) -> Result<(), Fault> {
-    let [dump, symbols @ ..] = words else {
+    let [dump, rest @ ..] = words else {
         return Err(Fault::Words);
     };
     let file = dump_file(rt, dump.as_str())?;
-    walk_file(rt, file.as_slice(), symbols)
+    walk_file(rt, file.as_slice(), &texts_for(rt, dump.as_str(), rest)?)
 }
 
-fn walk_file<R: Files + CpuClock + Print + Eprint + AllocGlobal>(
+fn walk_file<R: CpuClock + Print + Eprint + AllocGlobal>(
     rt: &R,
     file: &[u8],
-    symbols: &[String],
+    texts: &KitText,
 ) -> Result<(), Fault> {
-    let texts = kit_text(rt, symbols)?;
-    let kit = Kit::read(rt.alloc(), &texts, &mut RegexMaker::new())?;
+    let kit = Kit::read(rt.alloc(), texts, &mut RegexMaker::new())?;
     walk_with(rt, file, &kit)
 }
 

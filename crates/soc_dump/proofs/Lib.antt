@@ -6,4 +6,6 @@ pub mod WordLemmas
 pub mod CoveringLemmas
 pub mod TableLemmas
 pub mod IdentityLemmas
+pub mod Utf16Lemmas
+pub mod LossyLemmas
 pub mod RegisterLemmas

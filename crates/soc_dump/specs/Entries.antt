@@ -1,8 +1,9 @@
 -- What the entries of the streams say, and the checks on each, in the order of its fields. A structure is all of the
 -- file from its first byte on.
-use Rattle.std.specs.Prelude.{ℕ, ◌+◌, ◌/◌, ◌%◌, ◌==◌, nat_le, List, [], ◌∷◌, ◌++◌, length, drop, map, encode_utf8_all}
+use Rattle.std.specs.Prelude.{ℕ, ◌+◌, ◌*◌, ◌%◌, ◌==◌, nat_le, List, [], ◌∷◌, ◌++◌, length, take, drop, map, encode_utf8_all}
 use Rattle.std.specs.Char.Utf16.{utf16_lossy_chars}
 use Rattle.byteorder.specs.Endian.{little_number}
+use Rattle.soc_text.specs.Paths.{base_name_of}
 use Rattle.soc_dump.specs.declared.error.DumpError.TheVariants.{OutOfFile, BadStream}
 use Rattle.soc_dump.specs.declared.system.System.{System}
 use Rattle.soc_dump.specs.Layout.{thread_id, thread_stack_start, thread_stack_size, thread_stack_place, thread_context_size, thread_context_place, module_list, module_base, module_length, module_name_place, module_code_view_size, module_code_view_place, string_head, string_length, memory_start, memory_length, memory_place, exception_thread, exception_code, exception_address, exception_count, exception_parameters, exception_context_size, exception_context_place, system_architecture, system_processors, system_major, system_minor, system_build, system_platform}
@@ -19,6 +20,7 @@ pub record ThreadEntry : Type 0 where
 pub record ModuleEntry : Type 0 where
   pub base : ℕ
   pub size : ℕ
+  -- the file name of the path that it was loaded from
   pub name : List ℕ
   pub code_view : List ℕ
 
@@ -48,18 +50,30 @@ thread_checks file entry =
     ∷ inside file (number_of entry thread_context_place) (number_of entry thread_context_size)
     ∷ []
 
--- a string: its length in bytes, and UTF-16, the lower byte of a unit first. A surrogate without its partner is U+FFFD
+-- a string: its length in bytes, and UTF-16
 abbrev pub string_size : List ℕ → ℕ → ℕ
 string_size file place = number_of (drop place file) string_length
 
-abbrev pub units : List ℕ → List ℕ
-units bytes = map (λ at. little_number 2 (drop at bytes)) (places 0 2 (length bytes / 2))
-
-abbrev pub utf16_text : List ℕ → List ℕ
-utf16_text bytes = encode_utf8_all (utf16_lossy_chars (units bytes))
-
 abbrev pub string_at : List ℕ → ℕ → List ℕ
-string_at file place = utf16_text (part file (place + string_head) (string_size file place))
+string_at file place = part file (place + string_head) (string_size file place)
+
+-- of UTF-16 the lower byte of a unit comes first
+abbrev pub units : List ℕ → List ℕ
+units [] = []
+units (low ∷ []) = []
+units (low ∷ high ∷ bytes) = (low + 256 * high) ∷ units bytes
+
+-- a surrogate without its partner is U+FFFD
+abbrev pub utf16_text : List ℕ → List ℕ
+utf16_text found = encode_utf8_all (utf16_lossy_chars found)
+
+-- the file that a path in UTF-16 leads to: what follows its last `/` or `\`, or all where there is none
+abbrev pub file_name_of : List ℕ → List ℕ
+file_name_of path = utf16_text (base_name_of (units path))
+
+-- the bytes that count of a module's path, and of its code view record: so a path counts by its first 2,048 units
+abbrev pub counted : List ℕ → List ℕ
+counted bytes = take 4_096 bytes
 
 abbrev pub name_checks : List ℕ → ℕ → List Check
 name_checks file place =
@@ -71,8 +85,8 @@ abbrev pub module_of : List ℕ → List ℕ → ModuleEntry
 module_of file entry = record {
   base = number_of entry module_base;
   size = number_of entry module_length;
-  name = string_at file (number_of entry module_name_place);
-  code_view = part file (number_of entry module_code_view_place) (number_of entry module_code_view_size);
+  name = file_name_of (counted (string_at file (number_of entry module_name_place)));
+  code_view = counted (part file (number_of entry module_code_view_place) (number_of entry module_code_view_size));
 }
 
 abbrev pub module_checks : List ℕ → List ℕ → List Check

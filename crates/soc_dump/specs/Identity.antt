@@ -1,5 +1,5 @@
 -- How a module names its debug file: a code view record of a PDB file (`RSDS`), or an ELF build id.
-use Rattle.std.specs.Prelude.{ℕ, ◌==◌, ◌&&◌, nat_le, Bool, if◌then◌else◌, List, [], ◌∷◌, ◌++◌, length, drop, map, slice_index, codes, true}
+use Rattle.std.specs.Prelude.{◌≡◌, ℕ, ◌<◌, ◌==◌, ◌&&◌, nat_le, Bool, if◌then◌else◌, List, [], ◌∷◌, ◌++◌, length, drop, map, slice_index, codes, true, Option, MatchOption}
 use Rattle.std.specs.List.{before_first}
 use Rattle.std.specs.Str.Lossy.{utf8_lossy}
 use Rattle.std.specs.Fmt.{digits}
@@ -38,13 +38,17 @@ build_id_of bytes = guid_text (drop code_view_id bytes) ++ codes "0"
 unfoldable pub debug_id_of : List ℕ → List ℕ
 debug_id_of bytes = if is_pdb bytes then pdb_id_of bytes else if is_build_id bytes then build_id_of bytes else []
 
--- the file name of the record of a PDB file, up to a NUL or the end
+-- the path that the record of a PDB file names, up to a NUL or the end
 abbrev pub pdb_path_of : List ℕ → List ℕ
-pdb_path_of bytes = utf8_lossy (before_first (λ byte. byte == 0) (drop pdb_file bytes))
+pdb_path_of bytes = before_first (λ byte. byte == 0) (drop pdb_file bytes)
 
--- a PDB file's name, or the module's own for a build id; nothing for any other record
+-- the file name of a PDB file's path, or the module's own name for a build id; nothing for any other record
 unfoldable pub debug_file_of : ModuleEntry → List ℕ
 debug_file_of loaded =
-    if is_pdb loaded.code_view then base_name_of (pdb_path_of loaded.code_view)
-    else if is_build_id loaded.code_view then base_name_of loaded.name
+    if is_pdb loaded.code_view then utf8_lossy (base_name_of (pdb_path_of loaded.code_view))
+    else if is_build_id loaded.code_view then loaded.name
     else []
+
+-- this text, or none where it has more than so many bytes
+abbrev pub IfShort : ℕ → List ℕ → Option (List ℕ) → Type 0
+IfShort most text found = MatchOption found (most < length text) (λ name. name ≡ text)

@@ -4,7 +4,7 @@ use Rattle.soc_dump.specs.declared.thread.Thread.{Thread}
 use Rattle.soc_dump.specs.declared.exception.Exception.{Exception}
 use Rattle.soc_dump.specs.declared.modules.Module.{Module}
 use Rattle.soc_dump.specs.declared.memory.Region.{Region}
-use Rattle.soc_dump.specs.Entries.{ThreadEntry, ModuleEntry, MemoryEntry, ExceptionEntry}
+use Rattle.soc_dump.specs.Entries.{ThreadEntry, ModuleEntry, MemoryEntry, ExceptionEntry, file_name_of}
 
 abbrev pub thread_entry : Thread → ThreadEntry
 thread_entry thread = record {
@@ -21,7 +21,7 @@ abbrev pub module_entry : Module → ModuleEntry
 module_entry loaded = record {
   base = loaded.base;
   size = loaded.size;
-  name = loaded.name;
+  name = file_name_of loaded.path.now;
   code_view = loaded.code_view.now;
 }
 

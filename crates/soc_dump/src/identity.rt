@@ -1,15 +1,17 @@
 //! How a module names its debug file.
 ghost use Rattle.std.specs.Prelude.{◌≡◌, ◌==◌, IfOk, IsTrue, map, slice_index, string_bytes};
 ghost use Rattle.std.specs.List.{before_first};
-ghost use Rattle.soc_dump.specs.Identity.{is_pdb, is_build_id, guid_text, pdb_id_of, build_id_of, pdb_path_of, debug_id_of, debug_file_of};
+ghost use Rattle.std.specs.Str.Lossy.{utf8_lossy};
+ghost use Rattle.soc_text.specs.Paths.{base_name_of};
+ghost use Rattle.soc_dump.specs.Identity.{is_pdb, is_build_id, guid_text, pdb_id_of, build_id_of, pdb_path_of, debug_id_of, debug_file_of, IfShort};
 ghost use Rattle.soc_dump.specs.Views.{module_entry};
 
 use crate::field::narrow;
 use crate::layout::*;
 use crate::modules::Module;
-use memchr::memchr;
+use crate::utf16::name_part;
+use memchr::{memchr, memrchr2};
 use soc_base::{NoMemory, Text};
-use soc_text::base_name;
 use std::alloc::Global;
 
 // The places of a GUID's bytes in the order in which they are printed.
@@ -96,27 +98,50 @@ fn before_nul(bytes: &[u8]) -> &[u8]
     }
 }
 
-/// The path that the record of a PDB file names.
-fn pdb_path(alloc: Global, bytes: &[u8]) -> Result<Text, NoMemory>
-    requires { IsTrue (is_pdb bytes.now) }
-    ensures { IfOk result (λ path. path ≡ pdb_path_of bytes.now) }
+/// What follows the last `/` or `\\` of a path.
+fn name_of(path: &[u8]) -> &[u8]
+    ensures { result.now ≡ base_name_of path.now }
 {
-    Text::lossy(alloc, before_nul(&bytes[PDB_FILE..]))
+    match memrchr2(b'/', b'\\', path) {
+        Some(place) => &path[place + 1..],
+        None => path,
+    }
 }
 
-/// The name of a module's debug file: the base name of a PDB file's path, or of the module's own
-/// for a build id. It is empty where no such record stands.
-pub fn debug_file(alloc: Global, module: &Module<'_>) -> Result<Text, NoMemory>
-    ensures { IfOk result (λ text. text ≡ debug_file_of (module_entry «module».now)) }
+/// The name of a PDB file.
+fn pdb_name(alloc: Global, bytes: &[u8], most: usize) -> Result<Option<Text>, NoMemory>
+    requires { IsTrue (is_pdb bytes.now) }
+    ensures { IfOk result (IfShort most (utf8_lossy (base_name_of (pdb_path_of bytes.now)))) }
+{
+    let name = name_of(before_nul(&bytes[PDB_FILE..]));
+    if name.len() > most {
+        return Ok(None);
+    }
+    Ok(Some(Text::lossy(alloc, name)?))
+}
+
+/// A module's own name.
+fn own_name(alloc: Global, module: &Module<'_>, most: usize) -> Result<Option<Text>, NoMemory>
+    ensures { IfOk result (IfShort most (module_entry «module».now).name) }
+{
+    if name_part(module.path).len() / 2 > most {
+        return Ok(None);
+    }
+    Ok(Some(module.name(alloc)?))
+}
+
+/// The name of a module's debug file: the file name of a PDB file's path, or the module's own name
+/// for a build id. It is empty where no such record stands. `None` says that the name has more than
+/// `most` bytes; a longer one is not decoded.
+pub fn debug_file(alloc: Global, module: &Module<'_>, most: usize) -> Result<Option<Text>, NoMemory>
+    ensures { IfOk result (IfShort most (debug_file_of (module_entry «module».now))) }
 {
     let bytes = module.code_view;
     if names_pdb(bytes) {
-        let path = pdb_path(alloc, bytes)?;
-        return Text::of(alloc, base_name(path.as_str()));
+        return pdb_name(alloc, bytes, most);
     }
     if holds_build_id(bytes) {
-        let path = module.name.to_text(alloc)?;
-        return Text::of(alloc, base_name(path.as_str()));
+        return own_name(alloc, module, most);
     }
-    Text::of(alloc, "")
+    Ok(Some(Text::of(alloc, "")?))
 }

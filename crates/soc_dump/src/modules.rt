@@ -2,9 +2,9 @@
 ghost use Rattle.std.specs.Prelude.{◌≡◌, ◌+◌, ◌≤◌, ◌<◌, ◌^◌, length, map, IfOk, IsTrue};
 ghost use Rattle.soc_dump.specs.Covering.{interval_from};
 ghost use Rattle.soc_dump.specs.Checks.{IsRead};
-ghost use Rattle.soc_dump.specs.Layout.{module_size, string_head};
-ghost use Rattle.soc_dump.specs.Part.{is_inside, part};
-ghost use Rattle.soc_dump.specs.Entries.{module_of, module_checks, name_checks, string_size};
+ghost use Rattle.soc_dump.specs.Layout.{module_size};
+ghost use Rattle.soc_dump.specs.Part.{is_inside};
+ghost use Rattle.soc_dump.specs.Entries.{counted, module_of, module_checks, name_checks, string_at};
 ghost use Rattle.soc_dump.specs.Dump.{module_list_checks, entries_of};
 ghost use Rattle.soc_dump.specs.Views.{module_entry};
 
@@ -14,9 +14,10 @@ use crate::error::DumpError;
 use crate::field::{narrow, wide};
 use crate::layout::*;
 use crate::list::read_list;
-use crate::module_name::ModuleName;
 use crate::part::part_of;
-use soc_base::NoMemory;
+use crate::utf16::file_name;
+use soc_base::{NoMemory, Text};
+use soc_text::before;
 use std::alloc::Global;
 
 /// A program file or a library that the process had loaded.
@@ -26,17 +27,39 @@ pub struct Module<'a> {
     pub base: u64,
     /// How many bytes it takes in memory.
     pub size: u32,
-    /// The path that it was loaded from. Names may repeat.
-    pub name: ModuleName<'a>,
-    /// The record that names its debug file; there may be none.
+    /// The path that it was loaded from, in UTF-16 with the lower byte of each unit first; of a
+    /// longer one the first 2,048 units. Modules may share it.
+    pub path: &'a [u8],
+    /// The record that names its debug file; of a longer one the first 4,096 bytes. There may be
+    /// none, and modules may share it.
     pub code_view: &'a [u8],
 }
 
-/// The bytes of a module's name.
-fn name_bytes(file: &[u8], place: u64) -> Result<&[u8], DumpError>
+impl<'a> Module<'a> {
+    /// The file name of its path: what follows the last `/` or `\`. It is decoded anew each time. A
+    /// surrogate without its partner becomes U+FFFD.
+    pub fn name(&self, alloc: Global) -> Result<Text, NoMemory>
+        ensures { IfOk result (λ name. name ≡ (module_entry self.now).name) }
+    {
+        file_name(alloc, self.path)
+    }
+}
+
+/// The most bytes that count of a path and of a code view record.
+const COUNTED: usize = 4_096;
+
+/// The bytes that count.
+fn counted(bytes: &[u8]) -> &[u8]
+    ensures { result.now ≡ counted bytes.now }
+{
+    before(bytes, COUNTED)
+}
+
+/// The bytes of a module's path.
+fn path_bytes(file: &[u8], place: u64) -> Result<&[u8], DumpError>
     requires { place < 2 ^ 32 }
     ensures { IsRead result (name_checks file.now place)
-        (λ bytes. bytes.now ≡ part file.now (place + string_head) (string_size file.now place)) }
+        (λ bytes. bytes.now ≡ string_at file.now place) }
 {
     let length = file.len() as u64;
     if length < place + STRING_HEAD as u64 {
@@ -61,14 +84,14 @@ fn read_module<'a>(file: &'a [u8], entry: &[u8]) -> Result<Module<'a>, DumpError
     ensures { IsRead result (module_checks file.now entry.now)
         (λ loaded. module_entry loaded ≡ module_of file.now entry.now) }
 {
-    let name = name_bytes(file, narrow(entry, MODULE_NAME_PLACE) as u64)?;
+    let path = path_bytes(file, narrow(entry, MODULE_NAME_PLACE) as u64)?;
     let place = narrow(entry, MODULE_CODE_VIEW_PLACE) as u64;
     let code_view = part_of(file, place, narrow(entry, MODULE_CODE_VIEW_SIZE) as u64)?;
     Ok(Module {
         base: wide(entry, MODULE_BASE),
         size: narrow(entry, MODULE_LENGTH),
-        name: ModuleName::from_utf16(name),
-        code_view,
+        path: counted(path),
+        code_view: counted(code_view),
     })
 }
 

@@ -1,7 +1,7 @@
 //! Minidumps made of numbers, and what is asked of them.
 use soc_dump::{
-    Dump, Exception, FirstCovering, Interval, Module, ModuleName, Thread, amd64_registers,
-    architecture_name, crash_reason, debug_file, debug_id, platform_name, x86_registers,
+    Dump, Exception, FirstCovering, Interval, Module, Thread, amd64_registers, architecture_name,
+    crash_reason, debug_file, debug_id, platform_name, x86_registers,
 };
 use soc_tables::{Fault, Row, copy, number_at, number_of, shown, word};
 use std::alloc::Global;
@@ -78,7 +78,7 @@ fn module_text(alloc: Global, module: Option<&Module<'_>>) -> Result<String, Fau
     let Some(module) = module else {
         return copy(alloc, "none");
     };
-    let name = module.name.to_text(alloc)?;
+    let name = module.name(alloc)?;
     Ok(format!(in alloc; "{:#x} {}", module.base, name.as_str())?)
 }
 
@@ -188,21 +188,50 @@ pub fn x86(alloc: Global, row: &Row<'_>) -> Result<String, Fault> {
     Ok(format!(in alloc; "{:?}", x86_registers(context.as_slice()))?)
 }
 
-/// The debug id and the debug file of a module whose code view record is a row's.
+/// The debug id and the debug file of a module with a row's path and code view record.
 pub fn debug(alloc: Global, row: &Row<'_>) -> Result<String, Fault> {
-    let name = row.bytes(alloc, "name")?;
+    let path = row.bytes(alloc, "path")?;
     let code_view = row.bytes(alloc, "code_view")?;
     let module = Module {
         base: 0,
         size: 0,
-        name: ModuleName::from_utf16(name.as_slice()),
+        path: path.as_slice(),
         code_view: code_view.as_slice(),
     };
-    debug_text(alloc, &module)
+    debug_text(alloc, &module, row.number("most")?)
 }
 
-fn debug_text(alloc: Global, module: &Module<'_>) -> Result<String, Fault> {
+fn debug_text(alloc: Global, module: &Module<'_>, most: u64) -> Result<String, Fault> {
     let id = debug_id(alloc, module)?;
-    let file = debug_file(alloc, module)?;
-    Ok(format!(in alloc; "{:?} {:?}", id.as_str(), file.as_str())?)
+    match debug_file(alloc, module, most as usize)? {
+        Some(file) => Ok(format!(in alloc; "{:?} {:?}", id.as_str(), file.as_str())?),
+        None => Ok(format!(in alloc; "{:?} longer", id.as_str())?),
+    }
+}
+
+/// The name and the debug file of the one module of a dump with a row's path and code view record.
+pub fn named(alloc: Global, row: &Row<'_>) -> Result<String, Fault> {
+    let path = row.bytes(alloc, "path")?;
+    let code_view = row.bytes(alloc, "code_view")?;
+    let mut file = vec![in alloc; 0u8; 164]?;
+    let bytes = file.as_mut_slice();
+    put_numbers(bytes, "0=0x504D444D; 4=0xA793; 8=1; 12=32")?;
+    put_numbers(bytes, "32=4; 36=112; 40=44; 44=1; 68=160")?;
+    put_number(bytes, 124, code_view.len() as u64)?;
+    put_number(bytes, 128, 164 + path.len() as u64)?;
+    put_number(bytes, 160, path.len() as u64)?;
+    file.extend_from_slice(path.as_slice())?;
+    file.extend_from_slice(code_view.as_slice())?;
+    name_of_first(alloc, &Dump::read(alloc, file.as_slice())?)
+}
+
+fn name_of_first(alloc: Global, dump: &Dump<'_>) -> Result<String, Fault> {
+    let Some(module) = dump.modules().first() else {
+        return copy(alloc, "none");
+    };
+    let name = module.name(alloc)?;
+    match debug_file(alloc, module, usize::MAX)? {
+        Some(file) => Ok(format!(in alloc; "{} {}", name.as_str(), file.as_str())?),
+        None => copy(alloc, "longer"),
+    }
 }

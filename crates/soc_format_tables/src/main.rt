@@ -67,6 +67,7 @@ fn body_call(alloc: Global, name: &str, row: &Row<'_>) -> Result<String, Fault> 
         "interval" => dumps::interval(alloc, row),
         "x86" => dumps::x86(alloc, row),
         "debug" => dumps::debug(alloc, row),
+        "named" => dumps::named(alloc, row),
         "symbols" => symbols::symbols(alloc, row),
         "found" => symbols::found(alloc, row),
         "rules" => symbols::rules(alloc, row),

@@ -1,19 +1,21 @@
 -- Reading a kit, and looking up its symbol files.
-use Rattle.std.proofs.Common.{◌≡◌, ℕ, ◌+◌, ◌≤◌, ◌<◌, List, length, Option, Some, None, Ok, option_map, sym, ap, ◌∙◌, subst, arith}
-use Rattle.std.specs.Prelude.{IsFalse, nat_lt, slice_get, slice_index}
+use Rattle.std.proofs.Common.{◌≡◌, ℕ, ◌+◌, ◌<◌, ◌≤◌, List, ◌++◌, length, codes, Option, Some, None, Ok, option_map, sym, ap, ◌∙◌, subst, arith, inl, inr}
+use Rattle.std.specs.Prelude.{slice_get, slice_index}
 use Rattle.std.specs.Option.{option_or}
-use Rattle.std.proofs.lemmas.Bool.Decides.{nat_tests}
-use Rattle.std.proofs.lemmas.Option.{slice_get_within}
+use Rattle.std.proofs.lemmas.Bool.{cases_lt}
+use Rattle.std.proofs.lemmas.List.{length-append}
+use Rattle.soc_base.proofs.Folk.{some_same}
 use Rattle.soc_siglists.specs.declared.error.ListName.{ListName}
 use Rattle.soc_siglists.specs.Reading.{first_bad}
-use Rattle.soc_symfile.specs.Path.{path_of}
+use Rattle.soc_symfile.specs.Path.{path_of, stem_of}
 use Rattle.soc_symfile.specs.Records.{Records}
+use Rattle.soc_walk.specs.Process.{NoneLonger}
 use Rattle.soc_report.specs.declared.index.Index.{Index}
 use Rattle.soc_report.specs.Kits.{IsKit, bad_pattern, first_bad_symbols, kit_of, symbols_in}
 use Rattle.soc_report.specs.Texts.{KitTexts, SymbolText}
 use Rattle.soc_report.specs.inner.Index.{IsIndex, LeadsTo, place_or}
-use Rattle.soc_report.specs.inner.Kits.{HasNoSlash, HaveRecords, IsNowhere, LeadsOn, ids_of}
-use Rattle.soc_report.proofs.LookupLemmas.{found_nowhere, leads_by_chain, no_bad, records_length}
+use Rattle.soc_report.specs.inner.Kits.{HasNoSlash, HaveRecords, LeadsOn, ids_of}
+use Rattle.soc_report.proofs.LookupLemmas.{found_nowhere, leads_by_chain, no_bad}
 
 -- ---- reading
 
@@ -34,19 +36,23 @@ pub kit_next : (symbols : List SymbolText) (index : Index) (id : List ℕ) (plac
 kit_next symbols index id place next is here goes plain =
     leads_by_chain symbols id (place + 1) next (subst (LeadsTo (ids_of symbols) id (place + 1)) (sym goes) (is.next place id (omega arith) here)) plain
 
--- ---- an id that no path has
+-- ---- the longest path
 
-at_or_past : (place count : ℕ) → IsFalse (nat_lt place count) → count ≤ place
-at_or_past place count test = grind (arith, nat_tests)
+pub up_to_next : (symbols : List SymbolText) (place longest most : ℕ) (path : List ℕ)
+    → ((other : ℕ) (symbol : SymbolText) → other < place → slice_get symbols other ≡ Some symbol → length symbol.path ≤ longest)
+    → option_map (λ s. s.path) (slice_get symbols place) ≡ Some path → longest ≤ most → length path ≤ most
+    → (other : ℕ) (symbol : SymbolText) → other < place + 1 → slice_get symbols other ≡ Some symbol → length symbol.path ≤ most
+up_to_next symbols place longest most path before here up_to last other symbol below at = elim (cases_lt other place) [
+  | inl less ↦ omega (arith, before other symbol less at, up_to)
+  | inr more ↦
+      let same : other ≡ place = omega (arith, below, more) in
+      let path_of_other : option_map (λ s. s.path) (slice_get symbols other) ≡ Some symbol.path = ap (option_map (λ s. s.path)) at in
+      let path_is : symbol.path ≡ path = some_same _ _ (sym path_of_other ∙ ap (λ n. option_map (λ s. s.path) (slice_get symbols n)) same ∙ here) in
+      omega (arith, ap length path_is, last)
+]
 
-none_with_id : (symbols : List SymbolText) (id : List ℕ) (place : ℕ) → LeadsOn symbols id 0 place → length symbols ≤ place → (file : List ℕ) → IsNowhere symbols (path_of file id)
-none_with_id symbols id place leads past file = λ other symbol at.
-    let within : other < length symbols = slice_get_within symbols other symbol at in
-    leads.passed other symbol file (omega arith) (omega arith) at
-
-pub has_none : (texts : KitTexts) (records : List Records) (id : List ℕ) (place count : ℕ) → HaveRecords texts.symbols records → LeadsOn texts.symbols id 0 place → count ≡ length records
-    → IsFalse (nat_lt place count) → (file : List ℕ) → symbols_in (kit_of texts) file id ≡ None
-has_none texts records id place count have leads is test file =
-    let past : count ≤ place = at_or_past place count test in
-    let long : length records ≡ length texts.symbols = records_length texts.symbols records have in
-    found_nowhere (path_of file id) texts.symbols records have (none_with_id texts.symbols id place leads (omega arith) file)
+pub none_longer : (texts : KitTexts) (records : List Records) (most : ℕ) → HaveRecords texts.symbols records
+    → ((place : ℕ) (symbol : SymbolText) → slice_get texts.symbols place ≡ Some symbol → length symbol.path ≤ most) → NoneLonger (symbols_in (kit_of texts)) most
+none_longer texts records most have up_to = λ file id longer.
+    found_nowhere (path_of file id) texts.symbols records have
+    (λ place symbol at same. absurd (omega (arith, longer, up_to place symbol at, ap length same, length-append file (codes "/" ++ (id ++ (codes "/" ++ (stem_of file ++ codes ".sym")))))))

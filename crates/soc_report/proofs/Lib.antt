@@ -7,7 +7,6 @@ pub mod SplitLemmas
 pub mod ThreadLemmas
 pub mod TreeLemmas
 pub mod KitLemmas
-pub mod FrameLemmas
 pub mod StreamLemmas
 pub mod ChainLemmas
 pub mod PartLemmas

@@ -56,9 +56,3 @@ cut (x ∷ xs) zero d inside = refl
 cut (x ∷ xs) (suc i) d inside =
     ap (λ l. x ∷ l) (cut xs i d (omega arith))
     ∙ ap (λ n. x ∷ (take i xs ++ get_or xs i d ∷ drop n (x ∷ xs))) (let e : suc (i + 1) ≡ suc i + 1 = omega arith in e)
-
-pub take_past : {A : Type 0} (xs : List A) (n : ℕ) → length xs ≤ n → take n xs ≡ xs
-take_past [] zero past = refl
-take_past [] (suc n) past = refl
-take_past (x ∷ xs) zero past = absurd (omega arith)
-take_past (x ∷ xs) (suc n) past = ap (λ l. x ∷ l) (take_past xs n (omega arith))

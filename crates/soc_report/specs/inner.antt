@@ -4,7 +4,6 @@ pub mod Parts
 pub mod Index
 pub mod Reading
 pub mod Kits
-pub mod Places
 pub mod Stacks
 pub mod Known
 pub mod Tells

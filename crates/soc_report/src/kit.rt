@@ -158,8 +158,13 @@ impl<'a> Symbols for Kit<'a> {
         self.files.get(self.place_of(debug_file, debug_id)?)
     }
 
-    fn may_have(&self, debug_id: &str) -> bool {
-        self.first_place(debug_id) < self.files.len()
+    /// No name has more bytes than the longest path.
+    fn longest_name(&self) -> usize {
+        let mut longest: usize = 0;
+        for place in 0..self.texts.count() {
+            longest = longest.max(self.texts.path(place).len());
+        }
+        longest
     }
 }
 

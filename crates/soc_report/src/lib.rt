@@ -11,7 +11,6 @@ mod known;
 mod moment;
 mod parts;
 mod paths;
-mod placed;
 mod row;
 mod source;
 mod stack;

@@ -4,5 +4,6 @@ pub mod MakeLemmas
 pub mod LineLemmas
 pub mod FileLemmas
 pub mod FrameLemmas
+pub mod AnswerLemmas
 pub mod Fronts
 pub mod Crossing

@@ -4,7 +4,7 @@ use Rattle.std.specs.Prelude.{nat_le}
 use Rattle.std.specs.Option.{option_map_or}
 use Rattle.std.specs.Str.{chars, is_utf8, IsUtf8}
 use Rattle.std.proofs.lemmas.Str.{is_utf8-from_IsUtf8, IsUtf8-from_is_utf8}
-use Rattle.std.proofs.lemmas.Bool.{cases_Bool, eqb-true, false_from_ne_true, true_from_ne_false}
+use Rattle.std.proofs.lemmas.Bool.{eqb-true, false_from_ne_true, true_from_ne_false}
 use Rattle.std.proofs.lemmas.Str.{IsCharBoundary-start}
 use Rattle.std.proofs.lemmas.Bool.Decides.{nat_tests}
 use Rattle.regex_syntax.specs.Grammar.{Names, read}
@@ -14,7 +14,7 @@ use Rattle.regex_hir.specs.declared.hir.Hir.TheVariants.{Concat, Literal, Repeti
 use Rattle.regex_hir.specs.Meaning.{meaning, cat_all, up_to}
 use Rattle.regex_hir.proofs.MeaningLemmas.{meaning-Concat, meaning-Literal, meaning-Repetition}
 use Rattle.regex.specs.Patterns.{Re, Match, Matches, SameCaptures, cat, default_config, find_str, has_bytes_at, literal, repeat, span, Reads}
-use Rattle.regex.specs.Strings.{regex_source, regex_pattern}
+use Rattle.regex.specs.Strings.{regex_source}
 use Rattle.regex.specs.declared.string.regex.Regex.{Regex}
 use Rattle.regex.proofs.ForCallers.{find_str_sound, find_str_complete, span_alike}
 use Rattle.soc_siglists.specs.Patterns.{is_pattern, matches_start}
@@ -31,13 +31,6 @@ Found = Nested Re × Names
 weaker : (o : Option Found) (P Q : Found → Type 0) → ((x : Found) → P x → Q x) → IsSomeAnd o P → IsSomeAnd o Q
 weaker None P Q f h = absurd h
 weaker (Some x) P Q f h = f x h
-
--- what the crate says of a pattern that it compiled
-pub own_matches : (made : Regex) (compiled : Re) → IsOwn made → compiled ≡ regex_pattern made → MatchesAs (regex_source made) compiled
-unfolding Reads
-own_matches made compiled own is =
-    let found = rw own.config at own.read in
-    rw is (weaker (read default_config (chars (regex_source made))) _ _ (λ x h. h.1) found)
 
 within : (o : Option Found) (most : ℕ) → IsSomeAnd o (λ found. found.0.depth ≤ most) → option_map_or (λ (found : Found). nat_le found.0.depth most) o false ≡ true
 within None most h = absurd h
@@ -80,16 +73,6 @@ pub starts : (text frame : List ℕ) (compiled : Re) → ((k : ℕ) → get_or f
 unfolding matches_start
 starts text frame compiled bytes same = asked (read default_config (chars text)) frame compiled bytes same
 
-pub starts_some : (text frame : List ℕ) (compiled : Re) (s : ℕ × ℕ) → ((k : ℕ) → get_or frame k 0 < 256) → MatchesAs text compiled
-    → Some s ≡ option_map span (find_str compiled frame 0) → (s.0 == 0) ≡ matches_start frame text
-unfolding begins_by
-starts_some text frame compiled s bytes same is = ap begins_by is ∙ sym (by_span (find_str compiled frame 0)) ∙ starts text frame compiled bytes same
-
-pub starts_none : (text frame : List ℕ) (compiled : Re) → ((k : ℕ) → get_or frame k 0 < 256) → MatchesAs text compiled
-    → None ≡ option_map span (find_str compiled frame 0) → false ≡ matches_start frame text
-unfolding begins_by
-starts_none text frame compiled bytes same is = ap begins_by is ∙ sym (by_span (find_str compiled frame 0)) ∙ starts text frame compiled bytes same
-
 false_and : (a b : Bool) → a ≡ false → (a && b) ≡ false
 false_and true b e = absurd cc
 false_and false b e = refl
@@ -101,14 +84,12 @@ no_text text bad =
     false_and (is_utf8 text) _ (elim (is_utf8 text) as (λ b. is_utf8 text ≡ b → is_utf8 text ≡ false)
     [ true ↦ λ e. absurd (bad (IsUtf8-from_is_utf8 text e)) | false ↦ λ e. e ] refl)
 
--- what a maker made of an entry's bytes
-pub made_pattern : (made : Regex) (text bytes pattern : List ℕ) → IsMade text made → text ≡ bytes → IsUtf8 bytes → pattern ≡ regex_source made
-    → (pattern ≡ bytes) × (is_pattern bytes ≡ true)
-made_pattern made text bytes pattern is same utf8 is_pattern_text =
-    let source : regex_source made ≡ bytes = is.source ∙ same in
+-- what a maker makes an expression of is a pattern
+pub made_pattern : (made : Regex) (text : List ℕ) → IsMade text made → IsUtf8 text → is_pattern text ≡ true
+made_pattern made text is utf8 =
     let own : IsOwn made = record { config = is.config; read = is.read } in
-    let own_utf8 : IsUtf8 (regex_source made) = subst IsUtf8 (sym source) utf8 in
-    (is_pattern_text ∙ source, rw source at (own_is_pattern made own own_utf8))
+    let own_utf8 : IsUtf8 (regex_source made) = subst IsUtf8 (sym is.source) utf8 in
+    rw is.source at (own_is_pattern made own own_utf8)
 
 has_here : (text frame : List ℕ) → has_bytes_at frame 0 text ≡ begins_with frame text
 unfolding has_bytes_at

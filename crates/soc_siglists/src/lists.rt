@@ -57,7 +57,7 @@ impl Lists {
         })
     }
 
-    /// What asks the lists of many frames. What searches for a pattern is made when it is first needed, and kept.
+    /// What asks the lists of many frames. What long frames need is made for the first of them, and kept.
     pub fn matchers(&self, alloc: Global) -> Result<ListMatchers<'_>, NoMemory>
         ensures { IfOk result (λ matchers. matchers ≡ self.now) }
     {

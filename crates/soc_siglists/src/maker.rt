@@ -3,8 +3,10 @@ ghost use Rattle.std.specs.Prelude.{◌≡◌, ◌≤◌, false, IfOk, IsErrOf};
 ghost use Rattle.soc_edge.specs.Faults.{Rose};
 ghost use Rattle.soc_siglists.specs.Patterns.{is_pattern};
 ghost use Rattle.soc_siglists.specs.Makers.{IsMade};
+ghost use Rattle.soc_siglists.specs.declared.maker.MakeError.TheVariants.{NoMemory as WantsMemory};
 
 use regex::Regex;
+use soc_base::NoMemory;
 use soc_edge::CountsFaults;
 use std::alloc::Global;
 use thiserror::Error;
@@ -21,6 +23,14 @@ pub enum MakeError {
     /// An allocation was refused.
     #[error("out of memory")]
     NoMemory,
+}
+
+impl From<NoMemory> for MakeError {
+    ghost from_gives = { λ _ error. error ≡ WantsMemory };
+
+    fn from(_error: NoMemory) -> MakeError {
+        MakeError::NoMemory
+    }
 }
 
 /// A maker of regular expressions, in the syntax and with the default options of the crate `regex`. It counts the

@@ -1,5 +1,5 @@
 //! Lists that can be asked again and again.
-ghost use Rattle.std.specs.Prelude.{◌≡◌, ◌==◌, length, IfOk};
+ghost use Rattle.std.specs.Prelude.{◌≡◌, IfOk};
 ghost use Rattle.std.specs.List.{position};
 ghost use Rattle.soc_siglists.specs.Lists.{ListTexts, matches_one, is_irrelevant, is_prefix, is_sentinel};
 
@@ -107,13 +107,6 @@ impl<'a> ListMatchers<'a> {
         ensures same { self.new ≡ self.old }
     {
         self.prefix.match_one(alloc, frame)
-    }
-
-    /// Whether there is no sentinel.
-    pub fn has_no_sentinel(&self) -> bool
-        ensures { result ≡ (length self.now.sentinel == 0) }
-    {
-        self.sentinel.is_empty()
     }
 
     /// Whether a sentinel matches where the frame begins.

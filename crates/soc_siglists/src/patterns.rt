@@ -1,5 +1,5 @@
 //! The patterns of one list.
-ghost use Rattle.std.specs.Prelude.{◌≡◌, ◌==◌, ◌||◌, ℕ, List, length, IfOk, OnOk};
+ghost use Rattle.std.specs.Prelude.{◌≡◌, ◌||◌, ℕ, List, IfOk, IfSome, OnOk};
 ghost use Rattle.std.specs.Map.{keys_of};
 ghost use Rattle.soc_siglists.specs.Lists.{matches_one};
 ghost use Rattle.soc_siglists.specs.inner.Literals.{begins_with, begins_with_one};
@@ -9,7 +9,7 @@ use crate::literals::Literals;
 use crate::matchers::{matchers_of, matches_one};
 use crate::pattern::Pattern;
 use regex_vm::Backtracker;
-use soc_base::{NoMemory, Text, Texts};
+use soc_base::{NoMemory, Sorted, Text, Texts};
 use std::alloc::Global;
 use std::marker::Model;
 
@@ -47,7 +47,7 @@ impl Patterns {
             if lead.is_all {
                 add(alloc, &mut sorted, lead.text)?;
             } else {
-                others.push(LedPattern::of(alloc, pattern, lead.text)?)?;
+                others.push(LedPattern::of(alloc, &pattern, lead.text)?)?;
             }
         }
         let literals = literals_of(alloc, &sorted)?;
@@ -68,6 +68,7 @@ impl Patterns {
             literals: &self.literals,
             others,
             backtracker: Backtracker::new(alloc),
+            answers: Sorted::new(alloc),
         })
     }
 }
@@ -100,28 +101,39 @@ pub struct PatternMatchers<'a> {
     literals: &'a Literals,
     others: Vec<LedMatcher<'a>>,
     backtracker: Backtracker,
+    /// What was answered of each frame that the others were asked of.
+    answers: Sorted<bool>,
 }
 
 impl<'a> Model for PatternMatchers<'a> {
     ghost use Rattle.std.specs.Prelude.{List, ℕ};
-    ghost use Rattle.soc_siglists.specs.inner.Literals.{AreSplit};
+    ghost use Rattle.soc_siglists.specs.inner.Literals.{AreSplit, AreAnswers};
 
     ghost Value = { List (List ℕ) };
 
     ghost view = { λ m. m.texts.now };
 
-    ghost invariant = { λ m. AreSplit m.texts.now m.literals.now m.others.items };
+    ghost invariant = { λ m. AreSplit m.texts.now m.literals.now m.others.items
+        × AreAnswers m.texts.now m.answers };
 }
 
 impl<'a> PatternMatchers<'a> {
-    /// Whether there is no pattern.
-    pub fn is_empty(&self) -> bool
-        ensures { result ≡ (length self.now == 0) }
+    /// What was answered of a frame before.
+    fn answer_of(&self, frame: &str) -> Option<bool>
+        ensures { IfSome result (λ is. is ≡ matches_one self.now frame.now) }
     {
-        self.texts.is_empty()
+        self.answers.get(frame).copied()
     }
 
-    /// Whether one of the patterns matches where the frame begins.
+    /// Keeps an answer.
+    fn keep(&mut self, alloc: Global, frame: &str, is_one: bool) -> Result<(), NoMemory>
+        requires { is_one ≡ matches_one self.old frame.now }
+        ensures { self.new ≡ self.old }
+    {
+        self.answers.set(Text::of(alloc, frame)?, is_one)
+    }
+
+    /// Whether one of the patterns matches where the frame begins. A frame that came before isn't matched again.
     pub fn match_one(&mut self, alloc: Global, frame: &str) -> Result<bool, NoMemory>
         ensures value { IfOk result (λ is. is ≡ matches_one self.old frame.now) }
         ensures same { self.new ≡ self.old }
@@ -129,6 +141,11 @@ impl<'a> PatternMatchers<'a> {
         if self.literals.begin(frame) {
             return Ok(true);
         }
-        matches_one(alloc, &mut self.backtracker, &mut self.others, frame)
+        if let Some(is_one) = self.answer_of(frame) {
+            return Ok(is_one);
+        }
+        let is_one = matches_one(alloc, &mut self.backtracker, &mut self.others, frame)?;
+        self.keep(alloc, frame, is_one)?;
+        Ok(is_one)
     }
 }

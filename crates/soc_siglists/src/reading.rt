@@ -20,7 +20,8 @@ fn make_pattern<P: Maker>(alloc: Global, maker: &mut P, text: &[u8]) -> Result<P
     let Ok(text) = str::from_utf8(text) else {
         return Err(MakeError::Syntax);
     };
-    Ok(Pattern::of(maker.make(alloc, text)?))
+    let _made = maker.make(alloc, text)?;
+    Ok(Pattern::of(alloc, text)?)
 }
 
 fn refusal(error: MakeError, list: ListName, line: u64) -> ListError

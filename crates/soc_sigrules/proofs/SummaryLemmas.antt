@@ -1,20 +1,19 @@
 -- The summary of frames, one frame more.
-use Rattle.std.proofs.Common.{◌≡◌, ℕ, ◌-◌, ◌==◌, ◌&&◌, Bool, true, false, cond, List, [], ◌∷◌, ◌++◌, length, None, refl, sym, ap, ◌∙◌, arith, append-nil, append_assoc, true≢false}
-use Rattle.std.specs.Prelude.{◌||◌, not, nat_lt}
+use Rattle.std.proofs.Common.{◌≡◌, ℕ, Bool, true, false, cond, List, [], ◌∷◌, ◌++◌, length, None, refl, sym, ap, ◌∙◌, arith, append_assoc}
+use Rattle.std.specs.Prelude.{◌||◌, nat_lt}
 use Rattle.std.specs.List.{last_or}
 use Rattle.std.specs.Str.{bytes_eq}
 use Rattle.std.proofs.lemmas.Bool.Decides.{nat_tests}
-use Rattle.std.proofs.lemmas.Bool.{eqb-true}
-use Rattle.std.proofs.lemmas.List.{length_push, nil_from_length}
+use Rattle.std.proofs.lemmas.List.{length_push}
 use Rattle.soc_base.proofs.Folk.{or_true, or_false}
-use Rattle.soc_siglists.specs.Lists.{ListTexts, is_irrelevant, is_prefix, is_sentinel, matches_one}
-use Rattle.soc_sigrules.specs.Chars.{char_count, first_chars, joined}
+use Rattle.soc_siglists.specs.Lists.{ListTexts, is_irrelevant, is_prefix, is_sentinel}
+use Rattle.soc_sigrules.specs.Chars.{first_chars, joined}
 use Rattle.soc_sigrules.specs.Stacks.{kept_of, separator, proto_of, stack_texts}
 use Rattle.soc_sigrules.specs.Rules.{watchdog}
 use Rattle.soc_sigrules.specs.Signatures.{StackState, stack_state, Summary, summary_of}
 use Rattle.soc_sigrules.specs.inner.Fronts.{no_texts, with_text}
-use Rattle.soc_sigrules.specs.inner.Steps.{all_with, begins_here, ends, is_repeated, is_settled, proto_with, texts_before, texts_with, with_frame}
-use Rattle.soc_sigrules.proofs.CharLemmas.{first_chars-again, first_chars-append}
+use Rattle.soc_sigrules.specs.inner.Steps.{all_with, begins_here, ends, is_repeated, proto_with, texts_before, texts_with, with_frame}
+use Rattle.soc_sigrules.proofs.CharLemmas.{first_chars-again}
 use Rattle.soc_sigrules.proofs.FrontLemmas.{state-push}
 use Rattle.soc_sigrules.proofs.JoinLemmas.{push_first, push_later}
 use Rattle.soc_sigrules.proofs.StackLemmas.{stack-push, any-push}
@@ -77,50 +76,3 @@ unwatched summary is_watchdog is =
 pub watched : (summary : Summary) (is_watchdog : Bool) → true ≡ is_watchdog → record summary { watched = true } ≡ record summary { watched = summary.watched || is_watchdog }
 watched summary is_watchdog is =
     ap (λ w. record summary { watched = w }) (sym (or_true summary.watched)) ∙ ap (λ t. record summary { watched = summary.watched || t }) is
-
--- ---- a summary that is settled
-
-full_stays : (proto frame : List ℕ) (has : Bool) → has ≡ true → (char_count proto == 2000) ≡ true → proto_with has proto frame ≡ proto
-full_stays proto frame has some full =
-    let count : char_count proto ≡ 2000 = eqb-true (char_count proto) 2000 full in
-    let left : 2000 - char_count proto ≡ 0 = omega (arith, count) in
-    ap (λ t. first_chars 2000 (proto ++ cond t (separator ++ frame) frame)) some
-    ∙ first_chars-append 2000 proto (separator ++ frame) (omega (arith, count))
-    ∙ ap (λ n. proto ++ first_chars n (separator ++ frame)) left
-    ∙ append-nil proto
-
-no_sentinels : (lists : ListTexts) (frame : List ℕ) → (length lists.sentinel == 0) ≡ true → is_sentinel lists frame ≡ false
-no_sentinels lists frame none =
-    let empty : length lists.sentinel ≡ 0 = eqb-true (length lists.sentinel) 0 none in
-    ap (λ (texts : List (List ℕ)). matches_one texts frame) (nil_from_length lists.sentinel empty)
-
--- a sentinel was met, or none can be
-past_sentinels : (has met none : Bool) (texts : StackState) → (has || none) ≡ true → (none ≡ true → met ≡ false) → ((has || met) ≡ has) × (cond (not has && met) no_texts texts ≡ texts)
-past_sentinels true met none texts h k = (refl, refl)
-past_sentinels false true true texts h k = absurd (true≢false (k refl))
-past_sentinels false false true texts h k = (refl, refl)
-past_sentinels false met false texts h k = absurd (true≢false (sym h))
-
-ended_stays : (lists : ListTexts) (texts : StackState) (frame : List ℕ) → texts.is_ended ≡ true → texts_with lists texts frame ≡ texts
-ended_stays lists texts frame ended =
-    ap (λ t. cond (t || (is_irrelevant lists frame || is_repeated texts.last frame)) texts (with_text texts (kept_of frame).text (is_prefix lists (kept_of frame).text))) ended
-
-settled_parts : (a b c d : Bool) → (a && ((b && c) && d)) ≡ true → (a ≡ true) × (b ≡ true) × (c ≡ true) × (d ≡ true)
-settled_parts true true true true h = (refl, refl, refl, refl)
-settled_parts true true true false h = absurd (true≢false (sym h))
-settled_parts true true false d h = absurd (true≢false (sym h))
-settled_parts true false c d h = absurd (true≢false (sym h))
-settled_parts false b c d h = absurd (true≢false (sym h))
-
--- no other frame changes it
-settled_stays : (s : Summary) (frame : List ℕ) → is_settled s ≡ true → bytes_eq frame watchdog ≡ false → s ≡ with_frame s frame
-settled_stays s frame settled other =
-    let parts = settled_parts s.texts.is_ended s.has_frames (char_count s.proto == 2000) (s.has_sentinel || (length s.lists.sentinel == 0)) settled in
-    let past = past_sentinels s.has_sentinel (is_sentinel s.lists frame) (length s.lists.sentinel == 0) s.texts parts.3 (no_sentinels s.lists frame) in
-    same_summary s.lists _ _ _ _ _ _ _ _ _ _ parts.1 (sym (full_stays s.proto frame s.has_frames parts.1 parts.2))
-    (sym (ap (λ t. s.watched || t) other ∙ or_false s.watched)) (sym past.0)
-    (sym (ap (λ (texts : StackState). texts_with s.lists texts frame) past.1 ∙ ended_stays s.lists s.texts frame parts.0))
-
-pub settled_frames : (s : Summary) (lists : ListTexts) (frames : List (List ℕ)) (frame : List ℕ) → is_settled s ≡ true → bytes_eq frame watchdog ≡ false
-    → s ≡ summary_of lists frames → s ≡ summary_of lists (frames ++ frame ∷ [])
-settled_frames s lists frames frame settled other is = frames-push s s frame (settled_stays s frame settled other) lists frames is

@@ -1,11 +1,11 @@
 //! Signatures, by their frames one after another.
-ghost use Rattle.std.specs.Prelude.{◌≡◌, true, false, ◌++◌, ◌∷◌, ◌||◌, [], ℕ, List, IfOk, OnOk, IsTrue};
+ghost use Rattle.std.specs.Prelude.{◌≡◌, true, ◌++◌, ◌∷◌, ◌||◌, [], ℕ, List, IfOk, OnOk};
 ghost use Rattle.std.specs.Str.{bytes_eq};
-ghost use Rattle.soc_siglists.specs.Lists.{ListTexts, is_prefix, is_sentinel};
+ghost use Rattle.soc_siglists.specs.Lists.{is_prefix, is_sentinel};
 ghost use Rattle.soc_sigrules.specs.Rules.{watchdog, after_rule, after_rules};
 ghost use Rattle.soc_sigrules.specs.Signatures.{summary_of, signature_of};
 ghost use Rattle.soc_sigrules.specs.inner.Fronts.{with_text};
-ghost use Rattle.soc_sigrules.specs.inner.Steps.{proto_with, texts_with, texts_before, is_settled, with_frame};
+ghost use Rattle.soc_sigrules.specs.inner.Steps.{proto_with, texts_with, texts_before, with_frame};
 
 use crate::crash::{Crash, Marked};
 use crate::input::{SigInput, Signature};
@@ -21,8 +21,7 @@ use std::marker::Model;
 /// The watchdog's own frame.
 const WATCHDOG: &str = "mozilla::(anonymous namespace)::RunWatchdog";
 
-/// A signature whose frames come one after another, so that they needn't be held. Contracts see what a signature needs
-/// of the frames so far.
+/// A signature whose frames come one after another. Contracts see what a signature needs of the frames so far.
 #[derive(Drop)]
 pub struct SignatureBuilder<'a> {
     alloc: Global,
@@ -130,20 +129,6 @@ impl<'a> SignatureBuilder<'a> {
             return Ok(());
         }
         self.append(module)
-    }
-
-    /// Whether no frame but the watchdog's changes anything any more: nothing follows the texts, no sentinel can come
-    /// that they are forgotten for, and all that is kept of the frames as they are is there.
-    pub fn is_settled(&self) -> bool
-        ensures value { result ≡ is_settled self.now }
-        ensures frames { IsTrue result
-            → (lists : ListTexts) (frames : List (List ℕ)) (frame : List ℕ)
-            → bytes_eq frame watchdog ≡ false → self.now ≡ summary_of lists frames
-            → self.now ≡ summary_of lists (frames ++ frame ∷ []) }
-    {
-        self.texts.is_ended()
-            && self.proto.is_full()
-            && (self.has_sentinel || self.lists.has_no_sentinel())
     }
 
     /// Adds the text of the next frame.

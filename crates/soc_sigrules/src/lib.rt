@@ -16,6 +16,6 @@ mod shutdown;
 mod spaces;
 mod stack;
 
-pub use builder::{SignatureBuilder, signature};
+pub use builder::signature;
 pub use input::{SigInput, Signature};
 pub use joins::join;

@@ -1,6 +1,5 @@
 //! The frames as they are.
-ghost use Rattle.std.specs.Prelude.{◌≡◌, ◌==◌, ◌&&◌, false, true, [], OnOk};
-ghost use Rattle.soc_sigrules.specs.Chars.{char_count};
+ghost use Rattle.std.specs.Prelude.{◌≡◌, false, true, [], OnOk};
 ghost use Rattle.soc_sigrules.specs.inner.Steps.{proto_with};
 
 use crate::short::Short;
@@ -53,13 +52,6 @@ impl Proto {
         self.text.push(frame)?;
         self.has_frames = true;
         Ok(())
-    }
-
-    /// Whether no frame can be added any more.
-    pub fn is_full(&self) -> bool
-        ensures { result ≡ (self.now.has_frames && (char_count self.now.text == 2000)) }
-    {
-        self.has_frames && self.text.is_full()
     }
 
     /// The text.

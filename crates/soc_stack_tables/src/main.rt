@@ -42,6 +42,7 @@ impl Calls for Stack {
             "sentinel" => lists::sentinel(alloc, row),
             "matchers" => lists::matchers(alloc, row),
             "signature" => signatures::signature_of(alloc, row),
+            "shutdown" => signatures::shutdown(alloc, row),
             "step" => steps::step(alloc, row),
             "arm64" => steps::arm64(alloc, row),
             "context" => steps::context(alloc, row),

@@ -1,13 +1,24 @@
 //! Signatures.
 use crate::lists::{read, texts};
 use soc_base::Text;
-use soc_siglists::{Lists, RegexMaker};
+use soc_siglists::RegexMaker;
 use soc_sigrules::{SigInput, signature};
 use soc_tables::{Fault, Row};
 use std::alloc::Global;
 
 /// The signature of a crash with these frames, under these lists.
 pub fn signature_of(alloc: Global, row: &Row<'_>) -> Result<String, Fault> {
+    signed(alloc, row, &input_of(alloc, row)?)
+}
+
+/// The signature of a shutdown that hangs, with what it says of itself.
+pub fn shutdown(alloc: Global, row: &Row<'_>) -> Result<String, Fault> {
+    let mut input = input_of(alloc, row)?;
+    input.shutdown = row.optional(alloc, "shutdown")?.map(Text::from);
+    signed(alloc, row, &input)
+}
+
+fn signed(alloc: Global, row: &Row<'_>, input: &SigInput) -> Result<String, Fault> {
     let lists = read(
         alloc,
         row,
@@ -16,12 +27,7 @@ pub fn signature_of(alloc: Global, row: &Row<'_>) -> Result<String, Fault> {
         "prefix",
         "sentinel",
     )?;
-    signed(alloc, &lists, row)
-}
-
-fn signed(alloc: Global, lists: &Lists, row: &Row<'_>) -> Result<String, Fault> {
-    let input = input_of(alloc, row)?;
-    let signature = signature(alloc, &input, lists)?;
+    let signature = signature(alloc, input, &lists)?;
     copy(alloc, signature.text.as_str())
 }
 

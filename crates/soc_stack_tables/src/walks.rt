@@ -32,8 +32,8 @@ impl<'a> Symbols for Kit<'a> {
         }
     }
 
-    fn may_have(&self, _debug_id: &str) -> bool {
-        true
+    fn longest_name(&self) -> usize {
+        "mozglue.pdb".len()
     }
 }
 

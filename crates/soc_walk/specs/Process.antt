@@ -1,5 +1,5 @@
 -- What a walk sees of a process: its modules with their symbols, and its memory.
-use Rattle.std.specs.Prelude.{ℕ, ◌-◌, ◌==◌, ◌&&◌, ◌||◌, nat_lt, Bool, true, false, if◌then◌else◌, List, length, map, find, Option, None, Some, is_some}
+use Rattle.std.specs.Prelude.{◌≡◌, ℕ, ◌<◌, ◌-◌, ◌==◌, ◌&&◌, ◌||◌, nat_lt, Bool, true, false, if◌then◌else◌, List, length, map, find, Option, None, Some, is_some}
 use Rattle.std.specs.Option.{option_map_or}
 use Rattle.soc_cfi.specs.Rules.{Rule, rules_at}
 use Rattle.soc_dump.specs.Dump.{Contents}
@@ -20,6 +20,10 @@ use Rattle.soc_walk.specs.declared.architecture.Architecture.TheVariants.{X86, A
 -- the symbols of a module, by its debug file and its debug id
 abbrev pub Kit : Type 0
 Kit = List ℕ → List ℕ → Option Records
+
+-- no debug file has symbols whose name has more bytes
+abbrev pub NoneLonger : Kit → ℕ → Type 0
+NoneLonger kit most = (file id : List ℕ) → most < length file → kit file id ≡ None
 
 -- a module and its symbols, where it has some
 pub record LoadedEntry : Type 0 where

@@ -1,7 +1,6 @@
 -- What contracts see of the program's values.
 use Rattle.std.specs.Prelude.{ℕ, List, Option, option_map, slice_get}
 use Rattle.std.specs.Option.{option_and_then, option_copied}
-use Rattle.soc_text.specs.Paths.{base_name_of}
 use Rattle.soc_dump.specs.Views.{module_entry}
 use Rattle.soc_frames.specs.declared.frame.Frame.{Frame}
 use Rattle.soc_walk.specs.Process.{LoadedEntry}
@@ -11,11 +10,11 @@ use Rattle.soc_walk.specs.declared.borrowed.BorrowedFrame.{BorrowedFrame}
 abbrev pub loaded_entry : Loaded → LoadedEntry
 loaded_entry loaded = record { entry = module_entry loaded.entry.now; symbols = option_copied loaded.symbols }
 
--- the base name of the module at an index
+-- the name of the module at an index
 abbrev pub name_at : List LoadedEntry → ℕ → Option (List ℕ)
-name_at loaded index = option_map (λ l. base_name_of l.entry.name) (slice_get loaded index)
+name_at loaded index = option_map (λ l. l.entry.name) (slice_get loaded index)
 
--- the frame that a borrowed one stands for, in a module with this base name
+-- the frame that a borrowed one stands for, in a module with this name
 abbrev pub named_copy : Option (List ℕ) → BorrowedFrame → Frame
 named_copy name frame = record {
   instruction = frame.instruction;

@@ -1,7 +1,6 @@
 -- The frames of a thread's stack (after Breakpad's walkers; this project's profile).
 use Rattle.std.specs.Prelude.{ℕ, zero, suc, ◌-◌, ◌==◌, ◌&&◌, nat_lt, Bool, true, false, if◌then◌else◌, List, [], ◌∷◌, Option, None, Some, slice_get}
 use Rattle.std.specs.Option.{option_and_then, option_map_or, unwrap_or}
-use Rattle.soc_text.specs.Paths.{base_name_of}
 use Rattle.soc_base.specs.Options.{◌>>=◌}
 use Rattle.soc_dump.specs.Dump.{Contents}
 use Rattle.soc_dump.specs.Entries.{ExceptionEntry, ThreadEntry}
@@ -36,7 +35,7 @@ finding_in offset loaded =
 abbrev pub in_module : ℕ → ℕ → Trust → LoadedEntry → Frame
 in_module instruction address trust loaded =
     let offset = address - loaded.entry.base in let finding = finding_in offset loaded in
-    record { instruction = instruction; trust = trust; «module» = Some (base_name_of loaded.entry.name); offset = offset; function = finding.function; file = finding.file; line = finding.line }
+    record { instruction = instruction; trust = trust; «module» = Some loaded.entry.name; offset = offset; function = finding.function; file = finding.file; line = finding.line }
 
 abbrev pub in_no_module : ℕ → ℕ → Trust → Frame
 in_no_module instruction address trust =

@@ -7,7 +7,6 @@ use crate::borrowed::BorrowedFrame;
 use crate::process::Process;
 use soc_base::{Items, NoMemory, Text};
 use soc_frames::Frame;
-use soc_text::base_name;
 use std::alloc::Global;
 
 /// A copy of a text.
@@ -21,8 +20,8 @@ fn text_of(alloc: Global, text: Option<&str>) -> Result<Option<Text>, NoMemory>
 }
 
 impl<'a> BorrowedFrame<'a> {
-    /// The frame that it stands for, in a module with this base name.
-    pub fn named(&self, alloc: Global, name: Option<Text>) -> Result<Frame, NoMemory>
+    /// The frame that it stands for, in a module with this name.
+    fn named(&self, alloc: Global, name: Option<Text>) -> Result<Frame, NoMemory>
         ensures { IfOk result (λ copy. copy ≡ named_copy name self.now) }
     {
         let function = text_of(alloc, self.function)?;
@@ -40,15 +39,14 @@ impl<'a> BorrowedFrame<'a> {
 }
 
 impl<'a> Process<'a> {
-    /// The base name of the module at an index. It is decoded anew each time.
-    pub fn name(&self, alloc: Global, index: usize) -> Result<Option<Text>, NoMemory>
+    /// The name of the module at an index.
+    fn name(&self, alloc: Global, index: usize) -> Result<Option<Text>, NoMemory>
         ensures { IfOk result (λ name. name ≡ name_at self.now.loaded index) }
     {
         let Some(loaded) = self.loaded(index) else {
             return Ok(None);
         };
-        let path = loaded.entry.name.to_text(alloc)?;
-        Ok(Some(Text::of(alloc, base_name(path.as_str()))?))
+        Ok(Some(loaded.entry.name(alloc)?))
     }
 
     /// The frame that a borrowed one of a walk stands for.

@@ -1,7 +1,8 @@
 //! The symbols of modules.
-ghost use Rattle.std.specs.Prelude.{◌≡◌, ℕ, List, Option, None, IsFalse};
+ghost use Rattle.std.specs.Prelude.{◌≡◌, ℕ, List, Option};
 ghost use Rattle.std.specs.Option.{option_copied};
 ghost use Rattle.soc_symfile.specs.Records.{Records};
+ghost use Rattle.soc_walk.specs.Process.{NoneLonger};
 
 use soc_symfile::SymFile;
 
@@ -14,9 +15,7 @@ pub trait Symbols {
     fn symbols(&self, debug_file: &str, debug_id: &str) -> Option<&SymFile<'_>>
         ensures { option_copied result ≡ symbols self.now debug_file.now debug_id.now };
 
-    /// Whether a debug file with this id may have a symbol file. It is asked before the debug file's
-    /// name is made, and false only where none with this id has one.
-    fn may_have(&self, debug_id: &str) -> bool
-        ensures { IsFalse result → (debug_file : List ℕ)
-            → symbols self.now debug_file debug_id.now ≡ None };
+    /// The most bytes that the name of a debug file with symbols has. A longer name isn't decoded.
+    fn longest_name(&self) -> usize
+        ensures { NoneLonger (symbols self.now) result };
 }

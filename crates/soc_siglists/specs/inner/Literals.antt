@@ -1,7 +1,7 @@
 -- Patterns that stand for a text, and tables of such texts.
 use Rattle.std.specs.Prelude.{◌≡◌, ℕ, ◌<◌, ◌||◌, nat_eq, Bool, false, List, get_or, length}
 use Rattle.std.specs.Ordering.{is_gt}
-use Rattle.std.specs.List.{All, list_any, starts_with}
+use Rattle.std.specs.List.{All, AllByRecursion, list_any, starts_with}
 use Rattle.std.specs.Str.{IsUtf8}
 use Rattle.soc_base.specs.Names.{byte_cmp}
 use Rattle.soc_siglists.specs.Lists.{matches_one}
@@ -39,3 +39,7 @@ AreApart texts = (i j : ℕ) (d : List ℕ) → i < j → j < length texts → I
 -- the patterns match the frames that begin with a literal or that one of the others matches
 abbrev pub AreSplit : List (List ℕ) → List (List ℕ) → List (List ℕ) → Type 0
 AreSplit patterns literals others = (frame : List ℕ) → IsFrame frame → matches_one patterns frame ≡ (begins_with_one literals frame || matches_one others frame)
+
+-- answers that were given before, each by a frame
+abbrev pub AreAnswers : List (List ℕ) → List (List ℕ × Bool) → Type 0
+AreAnswers patterns answers = AllByRecursion (λ p. p.1 ≡ matches_one patterns p.0) answers

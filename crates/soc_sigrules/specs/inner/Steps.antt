@@ -1,9 +1,9 @@
 -- What one frame more does to the summary of those so far.
-use Rattle.std.specs.Prelude.{ℕ, ◌==◌, ◌&&◌, ◌||◌, not, Bool, true, if◌then◌else◌, List, ◌∷◌, [], ◌++◌, length, Option, None}
+use Rattle.std.specs.Prelude.{ℕ, ◌&&◌, ◌||◌, not, Bool, true, if◌then◌else◌, List, ◌∷◌, [], ◌++◌, Option, None}
 use Rattle.std.specs.List.{list_all, last_or}
 use Rattle.std.specs.Str.{bytes_eq}
 use Rattle.soc_siglists.specs.Lists.{ListTexts, is_irrelevant, is_prefix, is_sentinel}
-use Rattle.soc_sigrules.specs.Chars.{char_count, first_chars}
+use Rattle.soc_sigrules.specs.Chars.{first_chars}
 use Rattle.soc_sigrules.specs.Stacks.{separator, kept_of, is_text}
 use Rattle.soc_sigrules.specs.Rules.{watchdog}
 use Rattle.soc_sigrules.specs.Signatures.{StackState, Summary}
@@ -49,10 +49,3 @@ with_frame summary frame = record {
   has_sentinel = summary.has_sentinel || is_sentinel summary.lists frame;
   texts = texts_with summary.lists (texts_before summary frame) frame;
 }
-
--- nothing but the watchdog's frame changes the summary: nothing follows the texts, no sentinel can come, and the frames as
--- they are fill what is kept of them
-abbrev pub is_settled : Summary → Bool
-is_settled summary =
-    summary.texts.is_ended
-    && ((summary.has_frames && (char_count summary.proto == 2000)) && (summary.has_sentinel || (length summary.lists.sentinel == 0)))

@@ -1,5 +1,4 @@
-use Rattle.std.proofs.Common.{◌∙◌, ap, sym}
-use Rattle.soc_text.specs.Paths.{base_name_of}
+use Rattle.std.proofs.Common.{◌∙◌, sym}
 use Rattle.soc_dump.specs.Views.{module_entry}
 use Rattle.soc_dump.proofs.IdentityLemmas.{debug_file_of-pdb, debug_file_of-build, debug_file_of-other}
 use Rattle.soc_dump.proofs.identity.debug_file.Goals as goal
@@ -7,18 +6,16 @@ use Rattle.soc_dump.proofs.identity.debug_file.Goals as goal
 pub returns-then-names_pdb : goal.returns-then-names_pdb
 returns-then-names_pdb c =
     let pdb = sym c.names_pdb.ensures ∙ c.if-names_pdb.true in
-    let name = c.base_name.ensures ∙ ap base_name_of (c.as_str.ensures ∙ c.in_ok-path.ensures) in
-    rw (debug_file_of-pdb (module_entry c.args.module.now) pdb) (rw name at c.of.ensures)
+    rw (debug_file_of-pdb (module_entry c.args.module.now) pdb) c.pdb_name.ensures
 
 pub returns-then-holds_build_id : goal.returns-then-holds_build_id
 returns-then-holds_build_id c =
     let pdb = sym c.names_pdb.ensures ∙ c.if-names_pdb.false in
     let build = sym c.holds_build_id.ensures ∙ c.if-holds_build_id.true in
-    let name = c.base_name-then-holds_build_id.ensures ∙ ap base_name_of (c.as_str-then-holds_build_id.ensures ∙ c.in_ok-path-2.ensures) in
-    rw (debug_file_of-build (module_entry c.args.module.now) pdb build) (rw name at c.of-then-holds_build_id.ensures)
+    rw (debug_file_of-build (module_entry c.args.module.now) pdb build) c.own_name.ensures
 
 pub returns : goal.returns
 returns c =
     let pdb = sym c.names_pdb.ensures ∙ c.if-names_pdb.false in
     let build = sym c.holds_build_id.ensures ∙ c.if-holds_build_id.false in
-    rw (debug_file_of-other (module_entry c.args.module.now) pdb build) c.of-2.ensures
+    rw (debug_file_of-other (module_entry c.args.module.now) pdb build) c.in_ok-of.ensures

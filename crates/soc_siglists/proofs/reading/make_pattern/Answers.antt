@@ -1,3 +1,4 @@
+use Rattle.std.proofs.Common.{◌∙◌}
 use Rattle.soc_siglists.proofs.PatternLemmas.{made_pattern, no_text}
 use Rattle.soc_siglists.proofs.reading.make_pattern.Goals as goal
 
@@ -6,4 +7,5 @@ returns-in_default-clause-made g c = no_text c.args.text.now c.in_default.ensure
 
 pub returns-clause-made : goal.returns-clause-made
 returns-clause-made g c =
-    made_pattern c.in_ok-make.field-0 c.in-Ok.text.now c.args.text.now _ c.in_ok-make.ensures.made c.in-Ok.ensures.cases.0 c.in-Ok.ensures.cases.1 c.of.ensures
+    let text = c.in-Ok.ensures.cases.0 in
+    (c.in_ok-of.ensures ∙ text, made_pattern c.in_ok-_made._made c.args.text.now (rw text at c.in_ok-_made.ensures.made) c.in-Ok.ensures.cases.1)

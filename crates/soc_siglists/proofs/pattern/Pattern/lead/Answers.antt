@@ -4,4 +4,4 @@ use Rattle.soc_siglists.proofs.pattern.Pattern.lead.Goals as goal
 
 pub returns : goal.returns
 returns c =
-    IfOk-weaker c.lead_of.result _ _ (λ lead leads. led_by _ c.in_ok-parsed.parsed.hir _ lead c.in_ok-parsed.ensures leads) c.lead_of.ensures
+    IfOk-weaker c.lead_of.result _ _ (λ lead leads. led_by c.args.self.now c.self.inside.parsed.hir _ lead (rw c.self.view_is at c.self.invariant) leads) c.lead_of.ensures
