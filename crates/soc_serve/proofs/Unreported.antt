@@ -150,7 +150,9 @@ grows_none basis log doubt (C.Finish processed) reply piece after none says = (f
 grows_none basis log doubt (C.Raw caller id) reply piece after none says = stays doubt piece after none says.1
 grows_none basis log doubt (C.Processed caller id) reply piece after none says = stays doubt piece after none says.1
 grows_none basis log doubt (C.Dump caller id name) reply piece after none says = stays doubt piece after none says.1
+grows_none basis log doubt (C.Stack caller id) reply piece after none says = stays doubt piece after none says.1
 grows_none basis log doubt (C.Fetch id) reply piece after none says = stays doubt piece after none says.1
+grows_none basis log doubt (C.Counts caller) reply piece after none says = stays doubt piece after none says.1
 grows_none basis log doubt (C.Search query) reply piece after none says = stays doubt piece after none says
 grows_none basis log doubt (C.Tops query) reply piece after none says = stays doubt piece after none says
 
