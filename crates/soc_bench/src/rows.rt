@@ -17,12 +17,22 @@ const PRODUCTS: [&str; 8] = [
 
 /// A row with a value of each field. Rows of different numbers have different ids.
 pub fn made_row(alloc: Global, number: u64) -> Result<Row, Fault> {
+    row_of(alloc, number, number)
+}
+
+/// A row like the first one. Rows of different numbers have different ids.
+pub fn alike_row(alloc: Global, number: u64) -> Result<Row, Fault> {
+    row_of(alloc, number, 0)
+}
+
+/// A row with the id of one number and the other values of another.
+fn row_of(alloc: Global, id: u64, number: u64) -> Result<Row, Fault> {
     let mut row = Row::new(alloc);
     for place in 0..Field::COUNT {
         let field = Field::at(place);
         match field.kind() {
             FieldKind::Text => {
-                let text = made_text(alloc, field.name(), number)?;
+                let text = made_text(alloc, field.name(), id, number)?;
                 row.set(field, Value::text(alloc, text.as_str())?)?;
             }
             FieldKind::Number => row.set(field, Value::Number(made_number(number)))?,
@@ -32,26 +42,16 @@ pub fn made_row(alloc: Global, number: u64) -> Result<Row, Fault> {
     Ok(row)
 }
 
-/// A row like the first one. Rows of different numbers have different ids.
-pub fn alike_row(alloc: Global, number: u64) -> Result<Row, Fault> {
-    let mut row = made_row(alloc, 0)?;
-    row.set(
-        Field::UUID,
-        Value::text(alloc, made_id(alloc, number)?.as_str())?,
-    )?;
-    Ok(row)
-}
-
 /// One of 50,000 numbers.
 fn made_number(number: u64) -> u64 {
     number.wrapping_mul(2_654_435_761) % 50_000
 }
 
 /// The text of a field: one of 8 products, 20,000 signatures, a second of 28 days, or one of 300 texts.
-fn made_text(alloc: Global, field: &str, number: u64) -> Result<String, Fault> {
+fn made_text(alloc: Global, field: &str, id: u64, number: u64) -> Result<String, Fault> {
     let mixed = number.wrapping_mul(0x9E37_79B9_7F4A_7C15) >> 20;
     Ok(match field {
-        "uuid" => made_id(alloc, number)?,
+        "uuid" => made_id(alloc, id)?,
         "product" => String::from_str(alloc, PRODUCTS[(mixed % 8) as usize])?,
         "date" => made_date(alloc, mixed)?,
         "signature" => format!(in alloc; "mozilla::Thing{}::Run", mixed % 20_000)?,
