@@ -1,16 +1,11 @@
 -- An answer as a JSON object (RFC 8259), compact, with names in byte order: this project's profile.
 use Rattle.std.specs.Prelude.{ℕ, List, ◌++◌, codes, decimal}
-use Rattle.serde_json.specs.Written.{compact_text}
-use Rattle.soc_schema.specs.declared.value.Value.{Value}
 use Rattle.soc_schema.specs.Commas.{joined}
 use Rattle.soc_schema.specs.Fields.{name_of}
-use Rattle.soc_schema.specs.RowJson.{data_of, row_json}
+use Rattle.soc_schema.specs.RowJson.{row_json, value_json}
 use Rattle.soc_query.specs.declared.answer.Term.{Term}
 use Rattle.soc_query.specs.declared.answer.Facet.{Facet}
 use Rattle.soc_query.specs.declared.answer.Answer.{Answer}
-
-abbrev pub value_json : Value → List ℕ
-value_json v = compact_text (data_of v)
 
 abbrev pub term_json : Term → List ℕ
 term_json t = codes "{\"count\":" ++ decimal t.count ++ codes ",\"term\":" ++ value_json t.value ++ codes "}"

@@ -1,14 +1,12 @@
 //! Answers as JSON (RFC 8259).
-ghost use Rattle.std.specs.Prelude.{◌≡◌, ◌++◌, IfOk, OnOk, string_bytes, codes, drop, decimal};
-ghost use Rattle.soc_schema.specs.RowJson.{data_of, row_json};
-ghost use Rattle.serde_json.specs.View.{view};
-ghost use Rattle.soc_query.specs.Json.{answer_json, facet_json, term_json, value_json};
-ghost use Rattle.soc_schema.specs.Commas.{comma_after, joined};
+ghost use Rattle.std.specs.Prelude.{◌≡◌, ◌++◌, OnOk};
+ghost use Rattle.soc_schema.specs.RowJson.{row_json};
+ghost use Rattle.soc_query.specs.Json.{facet_json, term_json};
+ghost use Rattle.soc_schema.specs.Commas.{joined};
 
 use crate::answer::{Answer, Facet, Term};
-use serde_json::Value as Json;
 use soc_base::{Bytes, NoMemory};
-use soc_schema::{Row, Value, row_json};
+use soc_schema::{Row, put_comma, put_number, put_row, put_value};
 use std::alloc::Global;
 
 impl Answer {
@@ -78,43 +76,7 @@ fn put_rows(alloc: Global, out: &mut Vec<u8>, rows: &[Row]) -> Result<(), NoMemo
 {
     for (i, row) in rows.iter().enumerate() {
         put_comma(out, i)?;
-        out.extend_from_slice(row_json(alloc, row)?.as_slice())?;
+        put_row(alloc, out, row)?;
     }
-    Ok(())
-}
-
-/// A comma, unless nothing stands before.
-fn put_comma(out: &mut Vec<u8>, before: usize) -> Result<(), NoMemory>
-    ensures { OnOk result (out.new.items ≡ out.old.items ++ comma_after before) }
-{
-    if before > 0 {
-        out.extend_from_slice(b",")?;
-    }
-    Ok(())
-}
-
-fn put_value(alloc: Global, out: &mut Vec<u8>, value: &Value) -> Result<(), NoMemory>
-    ensures { OnOk result (out.new.items ≡ out.old.items ++ value_json value.now) }
-{
-    let text = json_of(alloc, value)?.to_string(alloc)?;
-    out.extend_from_slice(text.as_bytes())?;
-    Ok(())
-}
-
-fn json_of(alloc: Global, value: &Value) -> Result<Json, NoMemory>
-    ensures { IfOk result (λ json. view json ≡ data_of value.now) }
-{
-    match value {
-        Value::Text(text) => Ok(Json::String(String::from_str(alloc, text.as_str())?)),
-        Value::Number(number) => Ok(Json::from(*number)),
-        Value::Flag(flag) => Ok(Json::Bool(*flag)),
-    }
-}
-
-fn put_number(out: &mut Vec<u8>, number: u64) -> Result<(), NoMemory>
-    ensures { OnOk result (out.new.items ≡ out.old.items ++ decimal number) }
-{
-    let mut buffer = itoa::Buffer::new();
-    out.extend_from_slice(buffer.format(number).as_bytes())?;
     Ok(())
 }

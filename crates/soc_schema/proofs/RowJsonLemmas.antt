@@ -1,64 +1,115 @@
--- Rows as members of an object.
-use Rattle.std.proofs.Common.{◌≡◌, ℕ, List, ◌∷◌, false, true, Bool, ◌||◌, refl, sym, ap, ◌∙◌, BTreeMap, String, Global}
-use Rattle.std.specs.Ordering.{match_ordering}
+-- A row's object is its members in the order of the table.
+use Rattle.std.proofs.Common.{◌≡◌, ℕ, ◌+◌, ◌<◌, ◌≤◌, List, [], ◌∷◌, ◌++◌, Bool, true, false, refl, sym, ap, ◌∙◌, arith, append-nil, append_assoc}
+use Rattle.std.proofs.lemmas.Bool.{false≢true, agree_below, agree_below_at}
+use Rattle.std.specs.Prelude.{⊤, codes}
+use Rattle.json.specs.Token.{Token}
+use Rattle.json.specs.Token as token
+use Rattle.json.specs.Print.{print, print_from}
+use Rattle.std.specs.Ordering.{is_gt, nat_cmp}
 use Rattle.std.specs.declared.cmp.Ordering.{Ordering}
 use Rattle.std.specs.declared.cmp.Ordering.TheVariants.{Less, Equal, Greater}
-use Rattle.std.specs.Ordering.{nat_cmp}
 use Rattle.std.specs.Cmp.Lexicographic.{slice_cmp}
-use Rattle.serde_json.specs.Data.{Data, Members, no_members, member, put}
-use Rattle.serde_json.specs.Written.{has_float, members_have_float}
-use Rattle.serde_json.specs.Data.{object}
-use Rattle.serde_json.specs.View.{members_view, view}
-use Rattle.serde_json.specs.Written.{compact_text}
-use Rattle.serde_json.specs.declared.value.Value.{Value as Value'}
-use Rattle.serde_json.specs.declared.value.Value.TheVariants.{Object}
-use Rattle.serde_json.proofs.Views.{view-Object}
-use Rattle.soc_base.proofs.Folk.{or_no_left, or_no_right}
-use Rattle.soc_schema.specs.Rows.{cell}
+use Rattle.serde_json.specs.Data.{Data, Members, no_members, member, object, put, string}
+use Rattle.serde_json.specs.Written.{compact_text, members_text}
+use Rattle.soc_schema.specs.Commas.{after_commas, joined}
+use Rattle.soc_schema.specs.Fields.{field_entry, field_table, name_of}
+use Rattle.soc_schema.specs.RowJson.{data_of, row_json, value_json, with_cells}
+use Rattle.soc_schema.specs.Rows.{IsRow, RisesFrom}
 use Rattle.soc_schema.specs.declared.value.Cell.{Cell}
-use Rattle.soc_schema.specs.declared.value.Value.{Value}
-use Rattle.soc_schema.specs.declared.value.Value.TheVariants.{Text, Number, Flag}
-use Rattle.soc_schema.specs.Fields.{name_of}
-use Rattle.soc_schema.specs.RowJson.{data_of, row_json, with_cells}
-use Rattle.soc_schema.specs.inner.Members.{HasCells}
+use Rattle.soc_schema.specs.inner.Members.{cell_json}
 
-both_false : (a b : Bool) → a ≡ false → b ≡ false → (a || b) ≡ false
-both_false a b p q = rw (p, q) refl
+-- the names rise with the fields, by a test over the whole table
+abbrev comes_after : ℕ → ℕ → Bool
+comes_after g f = is_gt (slice_cmp nat_cmp (name_of g) (name_of f))
 
-by_order : (o : Ordering) (k l : List ℕ) (d e : Data) (ms put_ms : Members) → has_float d ≡ false → has_float e ≡ false → members_have_float ms ≡ false
-    → members_have_float put_ms ≡ false
-    → members_have_float (match_ordering o (member k d (member l e ms)) (member l d ms) (member l e put_ms)) ≡ false
-by_order Less k l d e ms put_ms p q r s = both_false _ _ p (both_false _ _ q r)
-by_order Equal k l d e ms put_ms p q r s = both_false _ _ p r
-by_order Greater k l d e ms put_ms p q r s = both_false _ _ q s
+abbrev is_last : ℕ → Bool
+is_last g = agree_below (comes_after g) (λ _. true) g
 
--- one more member that is no float
-pub put_exact : (k : List ℕ) (d : Data) (ms : Members) → has_float d ≡ false → members_have_float ms ≡ false → members_have_float (put k d ms) ≡ false
-put_exact k d no_members p q = both_false _ _ p refl
-put_exact k d (member l e ms) p q =
-    let here = or_no_left (has_float e) (members_have_float ms) q in
-    let rest = or_no_right (has_float e) (members_have_float ms) q in
-    by_order (slice_cmp nat_cmp k l) k l d e ms (put k d ms) p here rest (put_exact k d ms p rest)
+all_rise : agree_below is_last (λ _. true) 36 ≡ true
+unfolding name_of field_entry field_table
+all_rise = refl
 
-pub data_exact : (value : Value) → has_float (data_of value) ≡ false
-data_exact (Text text) = refl
-data_exact (Number n) = refl
-data_exact (Flag b) = refl
+greater : (o : Ordering) → is_gt o ≡ true → o ≡ Greater
+greater Less h = absurd (false≢true h)
+greater Equal h = absurd (false≢true h)
+greater Greater h = refl
 
--- the next cell is put
-pub cells_step : (members new : Members) (left rest all : List Cell) (field : ℕ) (value : Value) → left ≡ cell field value ∷ rest
-    → new ≡ put (name_of field) (data_of value) members → with_cells members left ≡ with_cells no_members all → with_cells new rest ≡ with_cells no_members all
-cells_step members new left rest all field value next is so_far =
-    ap (λ ms. with_cells ms rest) is ∙ (ap (λ l. with_cells members l) (sym next) ∙ so_far)
+names_rise : (f g : ℕ) → f < g → g < 36 → slice_cmp nat_cmp (name_of g) (name_of f) ≡ Greater
+names_rise f g below within =
+    greater (slice_cmp nat_cmp (name_of g) (name_of f)) (agree_below_at (comes_after g) (λ _. true) g f (agree_below_at is_last (λ _. true) 36 g all_rise within) below)
 
-pub cells_exact : (members new : Members) (name : List ℕ) (value : Value) → new ≡ put name (data_of value) members
-    → members_have_float members ≡ false → members_have_float new ≡ false
-cells_exact members new name value is exact =
-    ap (λ ms. members_have_float ms) is ∙ put_exact name (data_of value) members (data_exact value) exact
+-- members with one more at the end, and with a row's cells at the end
+abbrev ended : Members → List ℕ → Data → Members
+ended no_members k d = member k d no_members
+ended (member l e ms) k d = member l e (ended ms k d)
 
--- the text of the object
-pub row-text : (m : BTreeMap (String Global) Value') (row : List Cell) (text : List ℕ) → HasCells row (members_view m.entries)
-    → (has_float (view (Object m)) ≡ false → text ≡ compact_text (view (Object m))) → text ≡ row_json row
+abbrev listed : List Cell → Members
+listed [] = no_members
+listed (c ∷ cs) = member (name_of c.field) (data_of c.value) (listed cs)
+
+abbrev onto : Members → List Cell → Members
+onto no_members cells = listed cells
+onto (member l e ms) cells = member l e (onto ms cells)
+
+onto-none : (ms : Members) → onto ms [] ≡ ms
+onto-none no_members = refl
+onto-none (member l e ms) = ap (λ m. member l e m) (onto-none ms)
+
+onto-ended : (ms : Members) (c : Cell) (cs : List Cell) → onto (ended ms (name_of c.field) (data_of c.value)) cs ≡ onto ms (c ∷ cs)
+onto-ended no_members c cs = refl
+onto-ended (member l e ms) c cs = ap (λ m. member l e m) (onto-ended ms c cs)
+
+-- the names of these fields are greater than those of the members
+abbrev AreBelow : ℕ → Members → Type 0
+AreBelow low no_members = ⊤
+AreBelow low (member l e ms) = ((g : ℕ) → low ≤ g → g < 36 → slice_cmp nat_cmp (name_of g) l ≡ Greater) × AreBelow low ms
+
+put_last : (low : ℕ) (ms : Members) (f : ℕ) (d : Data) → AreBelow low ms → low ≤ f → f < 36 → put (name_of f) d ms ≡ ended ms (name_of f) d
+put_last low no_members f d below above within = refl
+put_last low (member l e ms) f d below above within =
+    rw (below.0 f above within) (ap (λ m. member l e m) (put_last low ms f d below.1 above within))
+
+still_below : (low : ℕ) (ms : Members) (f : ℕ) (d : Data) → AreBelow low ms → low ≤ f → AreBelow (f + 1) (ended ms (name_of f) d)
+still_below low no_members f d below above = ((λ g after within. names_rise f g (omega arith) within), tt)
+still_below low (member l e ms) f d below above =
+    ((λ g after within. below.0 g (omega arith) within), still_below low ms f d below.1 above)
+
+with_cells-onto : (low : ℕ) (ms : Members) (cells : List Cell) → AreBelow low ms → RisesFrom low cells → with_cells ms cells ≡ onto ms cells
+with_cells-onto low ms [] below rises = sym (onto-none ms)
+with_cells-onto low ms (c ∷ cs) below rises =
+    ap (λ m. with_cells m cs) (put_last low ms c.field (data_of c.value) below rises.0 rises.1.in_table)
+    ∙ with_cells-onto (c.field + 1) (ended ms (name_of c.field) (data_of c.value)) cs (still_below low ms c.field (data_of c.value) below rises.0) rises.2
+    ∙ onto-ended ms c cs
+
+-- the texts of the cells, and what is behind them
+member_text : (c : Cell) (rest : List ℕ) → compact_text (string (name_of c.field)) ++ (58 ∷ (value_json c.value ++ rest)) ≡ cell_json c ++ rest
+member_text c rest =
+    let name = compact_text (string (name_of c.field)) in
+    sym (append_assoc name (codes ":") (value_json c.value ++ rest)) ∙ sym (append_assoc (name ++ codes ":") (value_json c.value) rest)
+
+later_text : (cells : List Cell) → members_text true (listed cells) ≡ after_commas cell_json cells ++ codes "}"
+later_text [] = refl
+later_text (c ∷ cs) =
+    ap (λ t. 44 ∷ t) (member_text c (members_text true (listed cs)) ∙ ap (λ t. cell_json c ++ t) (later_text cs) ∙ sym (append_assoc (cell_json c) (after_commas cell_json cs) (codes "}")))
+
+all_text : (cells : List Cell) → members_text false (listed cells) ≡ joined cell_json cells ++ codes "}"
+all_text [] = refl
+all_text (c ∷ cs) =
+    member_text c (members_text true (listed cs)) ∙ ap (λ t. cell_json c ++ t) (later_text cs) ∙ sym (append_assoc (cell_json c) (after_commas cell_json cs) (codes "}"))
+
+row_text : (cells : List Cell) → IsRow cells → row_json cells ≡ codes "{" ++ (joined cell_json cells ++ codes "}")
 unfolding row_json
-row-text m row text cells is =
-    is (ap has_float (view-Object m) ∙ cells.exact) ∙ ap compact_text (view-Object m ∙ ap object cells.are)
+row_text cells is_row = ap (λ ms. compact_text (object ms)) (with_cells-onto 0 no_members cells tt is_row) ∙ ap (λ t. 123 ∷ t) (all_text cells)
+
+-- the object of a row is put behind a text
+pub row_put : (row cells : List Cell) (out a b t : List ℕ) → cells ≡ row → IsRow cells → a ≡ out ++ codes "{" → b ≡ a ++ joined cell_json cells → t ≡ b ++ codes "}" → t ≡ out ++ row_json row
+row_put row cells out a b t same is_row first second third =
+    third ∙ ap (λ l. l ++ codes "}") (second ∙ ap (λ l. l ++ joined cell_json cells) first)
+    ∙ append_assoc (out ++ codes "{") (joined cell_json cells) (codes "}") ∙ append_assoc out (codes "{") (joined cell_json cells ++ codes "}")
+    ∙ ap (λ l. out ++ l) (sym (row_text cells is_row) ∙ ap row_json same)
+
+-- a text in quotes is put behind a text
+pub text_put : (out text before now : List ℕ) (tokens : List Token) → before ≡ out → tokens ≡ token.string text ∷ [] → now ≡ before ++ print tokens → now ≡ out ++ compact_text (string text)
+unfolding print_from
+text_put out text before now tokens same one is =
+    is ∙ ap (λ l. l ++ print tokens) same ∙ ap (λ ts. out ++ print ts) one ∙ ap (λ l. out ++ l) (append-nil (compact_text (string text)))

@@ -12,6 +12,9 @@ data_of (Text text) = string text
 data_of (Number n) = number (unsigned n)
 data_of (Flag b) = boolean b
 
+abbrev pub value_json : Value → List ℕ
+value_json v = compact_text (data_of v)
+
 -- the members with each field's name and value
 abbrev pub with_cells : Members → List Cell → Members
 with_cells members [] = members

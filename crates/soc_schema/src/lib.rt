@@ -4,7 +4,7 @@
 
 mod caller;
 mod field;
-mod json;
+mod json_text;
 mod permission;
 mod processed;
 mod reporter;
@@ -17,7 +17,7 @@ mod value;
 
 pub use caller::{Caller, ProductNames, Products};
 pub use field::{Field, FieldKind};
-pub use json::row_json;
+pub use json_text::{put_comma, put_number, put_row, put_text, put_value, row_json};
 pub use permission::{Permission, Permissions};
 pub use processed::Processed;
 pub use reporter::{Bare, Reporter, product_of};

@@ -1,13 +1,11 @@
 //! Top crashers as JSON (RFC 8259).
-ghost use Rattle.std.specs.Prelude.{◌≡◌, ◌++◌, IfOk, OnOk, decimal};
-ghost use Rattle.serde_json.specs.Data.{string};
-ghost use Rattle.serde_json.specs.Written.{compact_text};
+ghost use Rattle.std.specs.Prelude.{◌≡◌, ◌++◌, OnOk};
 ghost use Rattle.soc_tops.specs.Json.{counts_json, rank_json, ranks_json, top_json};
-ghost use Rattle.soc_schema.specs.Commas.{comma_after, joined};
+ghost use Rattle.soc_schema.specs.Commas.{joined};
 
 use crate::tops::{Top, Tops};
-use serde_json::Value as Json;
 use soc_base::{Bytes, NoMemory};
+use soc_schema::{put_comma, put_number, put_text};
 use std::alloc::Global;
 
 impl Tops {
@@ -34,16 +32,6 @@ fn put_tops(alloc: Global, out: &mut Vec<u8>, tops: &[Top]) -> Result<(), NoMemo
     for (i, top) in tops.iter().enumerate() {
         put_comma(out, i)?;
         put_top(alloc, out, top)?;
-    }
-    Ok(())
-}
-
-/// A comma, unless nothing stands before.
-fn put_comma(out: &mut Vec<u8>, before: usize) -> Result<(), NoMemory>
-    ensures { OnOk result (out.new.items ≡ out.old.items ++ comma_after before) }
-{
-    if before > 0 {
-        out.extend_from_slice(b",")?;
     }
     Ok(())
 }
@@ -86,21 +74,5 @@ fn put_rank(out: &mut Vec<u8>, rank: Option<u64>) -> Result<(), NoMemory>
         Some(rank) => put_number(out, rank)?,
         None => out.extend_from_slice(b"null")?,
     }
-    Ok(())
-}
-
-fn put_text(alloc: Global, out: &mut Vec<u8>, text: &str) -> Result<(), NoMemory>
-    ensures { OnOk result (out.new.items ≡ out.old.items ++ compact_text (string text.now)) }
-{
-    let json = Json::String(String::from_str(alloc, text)?).to_string(alloc)?;
-    out.extend_from_slice(json.as_bytes())?;
-    Ok(())
-}
-
-fn put_number(out: &mut Vec<u8>, number: u64) -> Result<(), NoMemory>
-    ensures { OnOk result (out.new.items ≡ out.old.items ++ decimal number) }
-{
-    let mut buffer = itoa::Buffer::new();
-    out.extend_from_slice(buffer.format(number).as_bytes())?;
     Ok(())
 }

@@ -1,11 +1,11 @@
--- The members of a row's object.
-use Rattle.std.specs.Prelude.{◌≡◌, false, List}
-use Rattle.serde_json.specs.Data.{Members, no_members}
-use Rattle.serde_json.specs.Written.{members_have_float}
+-- A member of a row's object.
+use Rattle.std.specs.Prelude.{ℕ, List, ◌++◌, codes}
+use Rattle.serde_json.specs.Data.{string}
+use Rattle.serde_json.specs.Written.{compact_text}
 use Rattle.soc_schema.specs.declared.value.Cell.{Cell}
-use Rattle.soc_schema.specs.RowJson.{with_cells}
+use Rattle.soc_schema.specs.Fields.{name_of}
+use Rattle.soc_schema.specs.RowJson.{value_json}
 
--- the members are those of the row, and none of them is a float
-pub record HasCells (row : List Cell) (members : Members) : Type 0 where
-  pub are : members ≡ with_cells no_members row
-  pub exact : members_have_float members ≡ false
+-- the field's name and its value
+abbrev pub cell_json : Cell → List ℕ
+cell_json c = compact_text (string (name_of c.field)) ++ codes ":" ++ value_json c.value
