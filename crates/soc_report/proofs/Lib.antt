@@ -13,3 +13,4 @@ pub mod PartLemmas
 pub mod LookupLemmas
 pub mod DigestLemmas
 pub mod CutLemmas
+pub mod JsonLemmas

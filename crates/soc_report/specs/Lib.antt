@@ -5,6 +5,7 @@ pub mod Cuts
 pub mod Annotations
 pub mod Dumps
 pub mod Stacks
+pub mod StackText
 pub mod Report
 pub mod Tables
 pub mod inner

@@ -59,7 +59,7 @@ impl<'a> Reading<'a> {
 }
 
 /// The number by which a refusal is noted.
-fn refusal_number(error: DumpError) -> u64
+pub fn refusal_number(error: DumpError) -> u64
     ensures { result ≡ spec.refusal_number error }
 {
     match error {
@@ -73,7 +73,7 @@ fn refusal_number(error: DumpError) -> u64
 }
 
 /// The place that a refusal names.
-fn refusal_place(error: DumpError) -> u64
+pub fn refusal_place(error: DumpError) -> u64
     ensures { result ≡ spec.refusal_place error }
 {
     match error {

@@ -54,7 +54,7 @@ fn copied(alloc: Global, text: Option<&str>) -> Result<Option<Value>, NoMemory>
 }
 
 /// A text's first bytes, up to the limit, less those of a character that the limit would cut.
-fn cut_text(text: &str) -> &str
+pub fn cut_text(text: &str) -> &str
     ensures { result.now ≡ cut_text text.now }
 {
     &text[..text.floor_char_boundary(TEXT_LIMIT)]

@@ -50,6 +50,7 @@ impl Calls for Stack {
             "kit" => reports::kit(alloc, row),
             "digest" => reports::digest(alloc, row),
             "report" => reports::report(alloc, self.layout.as_str(), row),
+            "stack" => reports::stack(alloc, self.layout.as_str(), row),
             _ => Err(Fault::new(format_args!("no call {name}"))),
         }
     }

@@ -4,8 +4,8 @@ use crate::signatures::copy;
 use soc_base::{Blobs, Bytes, Text};
 use soc_edge::{MemTree, Numbers};
 use soc_raw::RawCrash;
-use soc_report::{Kit, KitText};
-use soc_schema::{Reporter, row_json};
+use soc_report::{Kit, KitText, stack_text};
+use soc_schema::{Caller, Permission, Permissions, Products, Reporter, row_json};
 use soc_siglists::RegexMaker;
 use soc_tables::{Fault, Row};
 use std::alloc::Global;
@@ -144,4 +144,44 @@ fn report_by(
 fn json(alloc: Global, raw: &RawCrash, kit: &Kit<'_>) -> Result<Bytes, Fault> {
     let report = kit.row(alloc, raw)?;
     Ok(row_json(alloc, &report)?)
+}
+
+/// The stack of a crash as JSON, for a caller who sees `all` fields or the public ones: what is wanted, where it is within.
+pub fn stack(alloc: Global, layout: &str, row: &Row<'_>) -> Result<String, Fault> {
+    let record = record_of(alloc, layout, row)?;
+    stack_of(alloc, record.as_slice(), row)
+}
+
+fn stack_of(alloc: Global, record: &[u8], row: &Row<'_>) -> Result<String, Fault> {
+    let raw = RawCrash::decode(alloc, record)?;
+    stack_with(alloc, &raw, row)
+}
+
+fn stack_with(alloc: Global, raw: &RawCrash, row: &Row<'_>) -> Result<String, Fault> {
+    let texts = texts(alloc, row)?;
+    stack_by(alloc, raw, &texts, row)
+}
+
+fn stack_by(
+    alloc: Global,
+    raw: &RawCrash,
+    texts: &KitText,
+    row: &Row<'_>,
+) -> Result<String, Fault> {
+    let kit = Kit::read(alloc, texts, &mut RegexMaker::new())?;
+    match stack_text(alloc, &kit, &caller(row)?, raw)? {
+        Some(text) => row.within(alloc, str::from_utf8(text.as_slice())?),
+        None => copy(alloc, "no dump"),
+    }
+}
+
+fn caller(row: &Row<'_>) -> Result<Caller, Fault> {
+    let mut permissions = Permissions::public();
+    if row.cell("sees")? == "all" {
+        permissions.add(Permission::ProtectedData);
+    }
+    Ok(Caller {
+        permissions,
+        products: Products::All,
+    })
 }

@@ -69,6 +69,14 @@ finding_or files offset (Some owner) other = in_function files owner.0 (source_a
 abbrev pub found : Records → ℕ → Finding
 found records offset = finding_or records.files offset (owner_at records.functions offset) (by_label (public_at records offset))
 
+-- where what names the offset begins: the function that covers it, else the public symbol before it
+abbrev pub start_or : Option (ExtentEntry × List SourceLine) → Option LabelEntry → Option ℕ
+start_or None label = option_map (λ l. l.address) label
+start_or (Some owner) label = Some owner.0.address
+
+abbrev pub start_of : Records → ℕ → Option ℕ
+start_of records offset = start_or (owner_at records.functions offset) (public_at records offset)
+
 -- whether a function covers the offset
 abbrev pub is_in_function : Records → ℕ → Bool
 is_in_function records offset = is_some (owner_at records.functions offset)

@@ -1,7 +1,7 @@
 //! A whole symbol file.
 ghost use Rattle.std.specs.Prelude.{◌≡◌, IfOk, map, option_map};
 ghost use Rattle.soc_symfile.specs.Records.{records_of};
-ghost use Rattle.soc_symfile.specs.Found.{found, owner_at, is_in_function, file_named, is_hidden, public_at};
+ghost use Rattle.soc_symfile.specs.Found.{found, start_of, owner_at, is_in_function, file_named, is_hidden, public_at};
 ghost use Rattle.soc_symfile.specs.Cfi.{span_at};
 ghost use Rattle.soc_symfile.specs.Reading.{Gives};
 ghost use Rattle.soc_symfile.specs.Views.{extent_entry, label_entry, finding_of, span_of};
@@ -157,6 +157,18 @@ impl<'a> SymFile<'a> {
                 line: None,
             },
         }
+    }
+
+    /// Where what names an offset begins: the function that covers it, or else the public symbol before it. It takes no
+    /// memory.
+    pub fn start(&self, offset: u64) -> Option<u64>
+        ensures { result ≡ start_of self.now offset }
+    {
+        if let Some(function) = self.function_at(offset) {
+            return Some(function.extent.address);
+        }
+        let label = self.public_at(offset)?;
+        Some(label.address)
     }
 
     /// Whether a function covers an offset. It takes no memory.

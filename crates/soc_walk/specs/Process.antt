@@ -8,7 +8,7 @@ use Rattle.soc_dump.specs.Identity.{debug_file_of, debug_id_of}
 use Rattle.soc_dump.specs.Memory.{holds_address, regions_of, word_in}
 use Rattle.soc_base.specs.Options.{◌>>=◌}
 use Rattle.soc_symfile.specs.Records.{Records}
-use Rattle.soc_symfile.specs.Found.{is_in_function}
+use Rattle.soc_symfile.specs.Found.{is_in_function, start_of}
 use Rattle.soc_symfile.specs.Cfi.{span_at}
 use Rattle.soc_step.specs.Machine.{bytes_of}
 use Rattle.soc_step.specs.Surroundings.{Surroundings, surroundings}
@@ -56,6 +56,14 @@ loaded_at process address = find (holds address) process.loaded
 
 abbrev pub is_in_module : ProcessEntry → ℕ → Bool
 is_in_module process address = is_some (loaded_at process address)
+
+-- how far an offset in the module that holds an address lies behind the begin of what the module's symbols name there
+abbrev pub into_function : ProcessEntry → ℕ → ℕ → Option ℕ
+into_function process address offset = do
+  loaded ← loaded_at process address
+  records ← loaded.symbols
+  start ← start_of records offset
+  Some (offset - start)
 
 -- whether an address of a module can be code: with symbols, where a function covers it
 abbrev pub is_code : ℕ → LoadedEntry → Bool

@@ -13,7 +13,7 @@ mod walking;
 
 pub use architecture::Architecture;
 pub use borrowed::BorrowedFrame;
-pub use loaded::Loaded;
+pub use loaded::{Loaded, symbols_for};
 pub use process::Process;
 pub use symbols::Symbols;
 pub use walking::{Start, start_of, walk};

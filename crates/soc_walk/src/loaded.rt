@@ -20,7 +20,7 @@ pub struct Loaded<'a> {
 
 /// The symbols of a module. One without a debug file or without an id has none, nor has one whose
 /// debug file has a longer name than all that have some.
-fn symbols_for<'a, Y: Symbols>(
+pub fn symbols_for<'a, Y: Symbols>(
     alloc: Global,
     entry: &Module<'_>,
     symbols: &'a Y,

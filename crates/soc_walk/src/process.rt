@@ -89,6 +89,18 @@ impl<'a> Process<'a> {
     }
 }
 
+impl<'a> Process<'a> {
+    /// How far an offset in the module that holds an address lies behind the begin of what the module's symbols name
+    /// there.
+    pub fn into_function(&self, address: u64, offset: u64) -> Option<u64>
+        ensures { result ≡ spec.into_function self.now address offset }
+    {
+        let loaded = self.loaded_at(address)?;
+        let start = loaded.symbols?.start(offset)?;
+        Some(offset.saturating_sub(start))
+    }
+}
+
 /// Whether an address of a module can be code: with symbols, where a function covers it.
 fn is_code(address: u64, loaded: &Loaded<'_>) -> bool
     ensures { result ≡ spec.is_code address (loaded_entry loaded.now) }
