@@ -1,16 +1,20 @@
 //! One connection.
-ghost use Rattle.std.specs.Prelude.{◌≡◌};
+ghost use Rattle.std.specs.Prelude.{◌≡◌, ℕ};
+ghost use Rattle.soc_edge.specs.Calls.{one_more};
 
-use soc_edge::{Sink, Source};
+/// Wakes whoever waits at a listener.
+pub trait Waker {
+    /// How often it was asked to.
+    ghost wakes: { Self → ℕ };
 
-/// A connection: bytes that come in and bytes that go out, each direction with a count of faults of its own.
-pub trait Conn: Source + Sink + Drop + Send {
-    // What a poke does: the connection before it, the connection after it.
-    ghost Pokes: { Self → Self → Type 0 };
+    /// Wakes whoever waits, by the listener's end or by one more connection. That it does so is not promised.
+    fn wake(&mut self)
+        ensures { wakes self.new ≡ one_more (wakes self.old) };
+}
 
-    /// Wakes whoever waits at the listener that it came from, by the listener's end or by one more connection. That it
-    /// does so is not promised. What this one has read and written and both its counts stay.
-    fn poke(&mut self)
-        ensures pokes { Pokes self.old self.new }
-        ensures untouched { Self.told self.new ≡ Self.told self.old };
+/// A connection: what is read and written, and what wakes whoever waits at the listener that it came from.
+#[derive(Drop)]
+pub struct Conn<X, W> {
+    pub link: X,
+    pub waker: W,
 }

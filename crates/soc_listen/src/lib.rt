@@ -5,6 +5,6 @@ mod conn;
 mod listener;
 mod memory;
 
-pub use conn::Conn;
+pub use conn::{Conn, Waker};
 pub use listener::Listener;
-pub use memory::{MemConn, MemListener};
+pub use memory::{MemLink, MemListener, MemWaker};

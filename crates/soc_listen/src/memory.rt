@@ -1,6 +1,8 @@
 //! Stand-ins in memory for connections and where they come from.
-mod conn;
+mod link;
 mod listener;
+mod waker;
 
-pub use conn::MemConn;
+pub use link::MemLink;
 pub use listener::MemListener;
+pub use waker::MemWaker;

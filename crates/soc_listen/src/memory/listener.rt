@@ -4,8 +4,9 @@ ghost use Rattle.soc_edge.specs.Calls.{is_due, after_call};
 ghost use Rattle.soc_listen.specs.Memory.{link_told, listener_told, fresh_listener, none_left};
 ghost use Rattle.soc_listen.specs.Told.{HandsOver, Ends, AcceptFailed};
 
-use super::conn::{MemConn, Written};
-use crate::Listener;
+use super::link::{MemLink, Written};
+use super::waker::MemWaker;
+use crate::{Conn, Listener};
 use soc_base::NoMemory;
 use soc_edge::{BytesList, CallCount, Failed, Numbers};
 use std::alloc::Global;
@@ -17,7 +18,7 @@ use std::sync::{Arc, OnceLock};
 /// ended.
 #[derive(Drop)]
 pub struct MemListener {
-    left: VecDeque<MemConn>,
+    left: VecDeque<MemLink>,
     written: Vec<Written>,
     calls: CallCount,
     ended: bool,
@@ -55,7 +56,7 @@ impl MemListener {
         let mut written = Vec::new(alloc);
         for script in scripts.as_slice() {
             let place = Arc::new(alloc, OnceLock::new())?;
-            left.push_back(MemConn::new(alloc, script.as_slice(), room, place.clone()?)?)?;
+            left.push_back(MemLink::new(alloc, script.as_slice(), room, place.clone()?)?)?;
             written.push(place)?;
         }
         Ok(MemListener {
@@ -80,29 +81,36 @@ impl MemListener {
 }
 
 impl Listener for MemListener {
-    type Conn = MemConn;
+    type Link = MemLink;
+
+    type Waker = MemWaker;
 
     ghost told = { listener_told };
 
     ghost spent = { none_left };
 
-    fn accept(&mut self) -> Result<Option<MemConn>, Failed>
+    fn accept(&mut self) -> Result<Option<Conn<MemLink, MemWaker>>, Failed>
         ensures gives { IfOk result (λ conn. MatchOption conn
             (Ends (listener_told self.old) (listener_told self.new))
-            (λ c. HandsOver (listener_told self.old) (listener_told self.new) (link_told c))) }
+            (λ c. HandsOver (listener_told self.old) (listener_told self.new) (link_told c.link))) }
         ensures fails { OnErr result (AcceptFailed (listener_told self.old)
             (listener_told self.new)) }
         ensures only { IsErr result ↔ IsTrue (not self.old.ended && is_due self.old.calls) }
         ensures first { IfOk result (λ conn. MatchOption conn (self.old.left ≡ [])
-            (λ c. self.old.left ≡ c ∷ self.new.left)) }
+            (λ c. self.old.left ≡ c.link ∷ self.new.left)) }
         ensures calls { self.new.calls ≡ after_call self.old.calls result }
     {
         if self.is_due() {
             return Err(self.calls.fail());
         }
         self.calls.pass();
-        let conn = self.left.pop_front();
-        self.ended = self.ended || conn.is_none();
-        Ok(conn)
+        let Some(link) = self.left.pop_front() else {
+            self.ended = true;
+            return Ok(None);
+        };
+        Ok(Some(Conn {
+            link,
+            waker: MemWaker::new(),
+        }))
     }
 }

@@ -4,14 +4,18 @@ mod tests;
 
 use super::SocketLimits;
 use super::accepting::accept_through;
-use super::conn::SocketConn;
+use super::link::SocketLink;
+use super::waker::SocketWaker;
 use crate::alarm::Alarm;
 use crate::notices::{Faults, tell};
 use soc_edge::{Failed, FaultCount};
-use soc_listen::Listener;
+use soc_listen::{Conn, Listener};
 use std::io;
 use std::net::{Net, TcpListener, TcpStream};
 use std::time::Clock;
+
+/// A connection over TCP.
+type SocketConn<'a, R> = Conn<SocketLink<'a, R>, SocketWaker<'a>>;
 
 /// An address that is bound at the first accept. Where that can't be done the accept fails, and the next one tries again.
 /// It ends once the alarm is raised.
@@ -42,7 +46,9 @@ impl<'a, R: Net<Listener = TcpListener, Stream = TcpStream> + Clock + Eprint + S
     for SocketListener<'a, R> {
     ghost use Rattle.std.specs.Prelude.{None};
 
-    type Conn = SocketConn<'a, R>;
+    type Link = SocketLink<'a, R>;
+
+    type Waker = SocketWaker<'a>;
 
     ghost told = { λ l. record {
       handed = l.handed;
@@ -60,9 +66,9 @@ impl<'a, R: Net<Listener = TcpListener, Stream = TcpStream> + Clock + Eprint + S
             return Ok(None);
         }
         match self.address.accept() {
-            Ok(Some(conn)) => {
+            Ok(Some(stream)) => {
                 self.handed += 1;
-                Ok(Some(conn))
+                Ok(Some(self.address.connection(stream)))
             }
             Ok(None) => {
                 self.has_ended = true;
@@ -102,13 +108,13 @@ impl<'a, R: Net<Listener = TcpListener, Stream = TcpStream> + Clock + Eprint> Ad
         }
     }
 
-    /// The next connection, none once the alarm is raised.
-    fn accept(&mut self) -> io::Result<Option<SocketConn<'a, R>>> {
+    /// The next client, none once the alarm is raised.
+    fn accept(&mut self) -> io::Result<Option<TcpStream>> {
         let answer = self.accept_bound();
         self.lasting.noted(self.rt, self.text, answer)
     }
 
-    fn accept_bound(&mut self) -> io::Result<Option<SocketConn<'a, R>>> {
+    fn accept_bound(&mut self) -> io::Result<Option<TcpStream>> {
         let socket = match self.bound.take() {
             Some(socket) => socket,
             None => bind(self.rt, self.text)?,
@@ -116,9 +122,14 @@ impl<'a, R: Net<Listener = TcpListener, Stream = TcpStream> + Clock + Eprint> Ad
         let pause = self.limits.pause;
         let answer = accept_through(self.rt, &socket, self.alarm, pause, &mut self.passing);
         self.bound = Some(socket);
-        match answer? {
-            Some(stream) => Ok(Some(SocketConn::new(self.rt, stream, self.alarm, self.limits))),
-            None => Ok(None),
+        answer
+    }
+
+    /// A connection that was accepted now.
+    fn connection(&self, stream: TcpStream) -> SocketConn<'a, R> {
+        Conn {
+            link: SocketLink::new(self.rt, stream, self.limits),
+            waker: SocketWaker::new(self.alarm),
         }
     }
 }

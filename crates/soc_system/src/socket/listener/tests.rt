@@ -3,7 +3,7 @@ use super::{Address, SocketListener, bind};
 use crate::alarm::Alarm;
 use crate::socket::SocketLimits;
 use soc_edge::Source;
-use soc_listen::{Conn, Listener};
+use soc_listen::{Listener, Waker};
 use std::io;
 use std::net::{Ipv4Addr, SocketAddr, TcpListener, TcpStream};
 use std::process::Abort;
@@ -31,7 +31,7 @@ fn bind_now(address: &mut Address<'_, HostRuntime>) -> io::Result<()> {
 }
 
 #[test]
-fn a_poke_ends_the_listener(rt: HostRuntime) -> Result<(), Fail> {
+fn a_wake_ends_the_listener(rt: HostRuntime) -> Result<(), Fail> {
     for host in ["127.0.0.1", "0.0.0.0"] {
         let alarm = Alarm::new()?;
         let (text, address) = free(&rt, host)?;
@@ -47,8 +47,8 @@ fn a_poke_ends_the_listener(rt: HostRuntime) -> Result<(), Fail> {
             return Err(Fail::new("no connection"));
         };
         drop(client);
-        assert_eq!(rt; conn.read(&mut [0; 8]), Ok(0));
-        conn.poke();
+        assert_eq!(rt; conn.link.read(&mut [0; 8]), Ok(0));
+        conn.waker.wake();
         let waiting = TcpStream::connect(&rt, address)?;
         for _ in 0..2u32 {
             let next = listener.accept();

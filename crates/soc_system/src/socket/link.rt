@@ -1,13 +1,11 @@
-//! A connection over TCP.
+//! What is read and written of a connection over TCP.
 ghost use Rattle.std.specs.Prelude.{◌≤◌, ◌<◌, length, IfOk};
 
 #[cfg(test)]
 mod tests;
 
 use super::SocketLimits;
-use crate::alarm::Alarm;
 use soc_edge::{Failed, FaultCount, Sink, Source, Tells};
-use soc_listen::Conn;
 use std::io::{self, ErrorKind, Read, Write};
 use std::net::{Shutdown, TcpStream};
 use std::time::{Clock, Duration, Instant};
@@ -15,13 +13,11 @@ use std::time::{Clock, Duration, Instant};
 /// How many bytes are read at once of what a client still sends at the end.
 const CHUNK: usize = 16_384;
 
-/// An accepted connection. Where its client is still there as it is dropped, the client sees an end and no reset: the
+/// An accepted connection's bytes. Where its client is still there as it is dropped, the client sees an end and no reset: the
 /// writing half is shut down, and what still comes is read for a while.
-pub struct SocketConn<'a, R: Clock> {
+pub struct SocketLink<'a, R: Clock> {
     rt: &'a R,
     stream: TcpStream,
-    /// What whoever accepts connections waits for too.
-    alarm: &'a Alarm,
     limits: SocketLimits,
     /// When it was accepted, where the clock could be read.
     since: Option<Instant>,
@@ -33,15 +29,14 @@ pub struct SocketConn<'a, R: Clock> {
     write_faults: FaultCount,
 }
 
-impl<'a, R: Clock> SocketConn<'a, R> {
+impl<'a, R: Clock> SocketLink<'a, R> {
     /// A connection that was accepted now.
-    pub fn new(rt: &'a R, stream: TcpStream, alarm: &'a Alarm, limits: SocketLimits) -> Self {
+    pub fn new(rt: &'a R, stream: TcpStream, limits: SocketLimits) -> Self {
         // A small reply needn't wait for another. Where this can't be set, it may wait.
         let _may_wait = stream.set_nodelay(true);
-        SocketConn {
+        SocketLink {
             rt,
             stream,
-            alarm,
             limits,
             since: Instant::now(rt).ok(),
             written: Duration::ZERO,
@@ -52,12 +47,11 @@ impl<'a, R: Clock> SocketConn<'a, R> {
     }
 }
 
-impl<'a, R: Clock> Drop for SocketConn<'a, R> {
+impl<'a, R: Clock> Drop for SocketLink<'a, R> {
     fn drop(self) {
-        let SocketConn {
+        let SocketLink {
             rt,
             mut stream,
-            alarm: _,
             limits,
             since: _,
             written: _,
@@ -71,14 +65,14 @@ impl<'a, R: Clock> Drop for SocketConn<'a, R> {
     }
 }
 
-impl<'a, R: Clock> Tells for SocketConn<'a, R> {
+impl<'a, R: Clock> Tells for SocketLink<'a, R> {
     ghost use Rattle.soc_edge.specs.Told.{untold};
 
     ghost told = { λ conn. record untold
         { read_faults = conn.read_faults.count; write_faults = conn.write_faults.count } };
 }
 
-impl<'a, R: Clock> Source for SocketConn<'a, R> {
+impl<'a, R: Clock> Source for SocketLink<'a, R> {
     /// Fails where it waits too long, and always once the connection has been read for too long.
     fn read(&mut self, into: &mut [u8]) -> Result<usize, Failed> {
         match receive(self.rt, &mut self.stream, into, self.since, &self.limits) {
@@ -94,10 +88,10 @@ impl<'a, R: Clock> Source for SocketConn<'a, R> {
     }
 }
 
-impl<'a, R: Clock> Sink for SocketConn<'a, R> {
+impl<'a, R: Clock> Sink for SocketLink<'a, R> {
     /// Fails where it takes too long, also where some bytes were taken, and where all writes together do.
     fn write(&mut self, bytes: &[u8]) -> Result<usize, Failed> {
-        let SocketConn {
+        let SocketLink {
             rt,
             stream,
             limits,
@@ -111,17 +105,6 @@ impl<'a, R: Clock> Sink for SocketConn<'a, R> {
                 Err(self.write_faults.fail())
             }
         }
-    }
-}
-
-impl<'a, R: Clock + Sync> Conn for SocketConn<'a, R> {
-    ghost use Rattle.std.specs.Prelude.{◌≡◌};
-
-    ghost Pokes = { λ before after. after ≡ before };
-
-    /// Raises the alarm, by which the listener ends.
-    fn poke(&mut self) {
-        self.alarm.raise();
     }
 }
 

@@ -1,11 +1,10 @@
-//! A connection in memory.
+//! What is read and written of a connection, in memory.
 ghost use Rattle.std.specs.Prelude.{◌≡◌, ◌≤◌, ◌<◌, ◌-◌, ◌↔◌, ◌⊎◌, Some, min, [], length, take, IfOk, OnErr, IsErr, IsTrue};
 ghost use Rattle.std.specs.Io.KnownBytes.{IsAtEnd};
 ghost use Rattle.soc_edge.specs.Calls.{is_due, after_call};
 ghost use Rattle.soc_edge.specs.Told.{Reads, ReadFailed, Writes, WriteFailed};
 ghost use Rattle.soc_listen.specs.Memory.{link_told, fresh_link};
 
-use crate::Conn;
 use soc_base::{Bytes, NoMemory};
 use soc_edge::{Both, Failed, MemSink, MemSource, Numbers, Sink, Source, Tells};
 use std::alloc::Global;
@@ -15,14 +14,13 @@ use std::sync::{Arc, OnceLock};
 /// What a connection wrote, once it was dropped.
 pub(crate) type Written = Arc<OnceLock<MemSink>, Global>;
 
-/// A connection that reads a script from memory and writes into memory. Where it is dropped, its listener has what it
-/// wrote.
-pub struct MemConn {
+/// Reads a script from memory and writes into memory. Where it is dropped, its listener has what it wrote.
+pub struct MemLink {
     link: Both<MemSource, MemSink>,
     written: Written,
 }
 
-impl Model for MemConn {
+impl Model for MemLink {
     ghost use Rattle.soc_listen.specs.Memory.{LinkState};
 
     ghost Value = { LinkState };
@@ -30,35 +28,35 @@ impl Model for MemConn {
     ghost view = { λ c. record { source = c.link.source; sink = c.link.sink } };
 }
 
-impl MemConn {
-    /// A connection that reads this script and has room for so many bytes.
+impl MemLink {
+    /// Reads this script and has room for so many bytes.
     pub(crate) fn new(
         alloc: Global,
         script: &[u8],
         room: usize,
         written: Written,
-    ) -> Result<MemConn, NoMemory>
+    ) -> Result<MemLink, NoMemory>
         ensures { IfOk result (λ c. c ≡ fresh_link room script.now) }
     {
         let source = MemSource::new(Bytes::of(alloc, script)?, Numbers::new(Vec::new(alloc)));
         let sink = MemSink::new(alloc, room, Numbers::new(Vec::new(alloc)))?;
         let link = Both { source, sink };
-        Ok(MemConn { link, written })
+        Ok(MemLink { link, written })
     }
 }
 
-impl Drop for MemConn {
+impl Drop for MemLink {
     fn drop(self) {
-        let MemConn { link, written } = self;
+        let MemLink { link, written } = self;
         let _ = written.try_set(link.sink);
     }
 }
 
-impl Tells for MemConn {
+impl Tells for MemLink {
     ghost told = { link_told };
 }
 
-impl Source for MemConn {
+impl Source for MemLink {
     /// Reads as much as there is room for.
     fn read(&mut self, into: &mut [u8]) -> Result<usize, Failed>
         ensures count { IfOk result (λ n. n ≤ length into.new) }
@@ -77,7 +75,7 @@ impl Source for MemConn {
     }
 }
 
-impl Sink for MemConn {
+impl Sink for MemLink {
     /// Writes as much as the room has left.
     fn write(&mut self, bytes: &[u8]) -> Result<usize, Failed>
         ensures count { IfOk result (λ n. n ≤ length bytes.now) }
@@ -96,13 +94,4 @@ impl Sink for MemConn {
     {
         self.link.sink.write(bytes)
     }
-}
-
-impl Conn for MemConn {
-    ghost use Rattle.std.specs.Prelude.{◌≡◌};
-
-    ghost Pokes = { λ before after. after ≡ before };
-
-    /// Does nothing: the listener has its scripts, and nobody waits for it.
-    fn poke(&mut self) {}
 }

@@ -1,6 +1,5 @@
 //! Connections over the loopback, with a client in the same thread.
-use super::SocketConn;
-use crate::alarm::Alarm;
+use super::SocketLink;
 use crate::socket::SocketLimits;
 use soc_edge::{Failed, Sink, Source};
 use std::io::{self, Read, Write};
@@ -23,21 +22,19 @@ fn short() -> SocketLimits {
 /// A client, and its connection under these limits.
 fn connected<'a>(
     rt: &'a HostRuntime,
-    alarm: &'a Alarm,
     limits: SocketLimits,
-) -> io::Result<(TcpStream, SocketConn<'a, HostRuntime>)> {
+) -> io::Result<(TcpStream, SocketLink<'a, HostRuntime>)> {
     let listener = TcpListener::bind(rt, SocketAddr::from((Ipv4Addr::LOCALHOST, 0)))?;
     let address = listener.local_addr()?;
     let client = TcpStream::connect(rt, address)?;
     client.set_read_timeout(Some(Duration::from_secs(10)))?;
     let (stream, _) = listener.accept()?;
-    Ok((client, SocketConn::new(rt, stream, alarm, limits)))
+    Ok((client, SocketLink::new(rt, stream, limits)))
 }
 
 #[test]
 fn a_connection_is_read_and_written(rt: HostRuntime) -> Result<(), Fail> {
-    let alarm = Alarm::new()?;
-    let (mut client, mut conn) = connected(&rt, &alarm, SocketLimits::of_service())?;
+    let (mut client, mut conn) = connected(&rt, SocketLimits::of_service())?;
     let mut into = [0; 8];
     assert_eq!(rt; conn.write(b"abc"), Ok(3));
     assert_eq!(rt; client.read(&mut into)?, 3);
@@ -55,8 +52,7 @@ fn a_connection_is_read_and_written(rt: HostRuntime) -> Result<(), Fail> {
 
 #[test]
 fn a_silent_client_is_not_waited_for(rt: HostRuntime) -> Result<(), Fail> {
-    let alarm = Alarm::new()?;
-    let (mut client, mut conn) = connected(&rt, &alarm, short())?;
+    let (mut client, mut conn) = connected(&rt, short())?;
     let mut into = [0; 8];
     assert_eq!(rt; conn.read(&mut into), Err(Failed));
     // An answer that is due still goes out.
@@ -67,12 +63,11 @@ fn a_silent_client_is_not_waited_for(rt: HostRuntime) -> Result<(), Fail> {
 
 #[test]
 fn a_connection_is_not_read_for_ever(rt: HostRuntime) -> Result<(), Fail> {
-    let alarm = Alarm::new()?;
     let limits = SocketLimits {
         all_reads: Duration::ZERO,
         ..SocketLimits::of_service()
     };
-    let (mut client, mut conn) = connected(&rt, &alarm, limits)?;
+    let (mut client, mut conn) = connected(&rt, limits)?;
     let mut into = [0; 8];
     assert_eq!(rt; client.write(b"abc")?, 3);
     assert_eq!(rt; conn.read(&mut into), Err(Failed));
@@ -83,8 +78,7 @@ fn a_connection_is_not_read_for_ever(rt: HostRuntime) -> Result<(), Fail> {
 
 #[test]
 fn a_client_that_does_not_read_is_not_waited_for(rt: HostRuntime) -> Result<(), Fail> {
-    let alarm = Alarm::new()?;
-    let (client, mut conn) = connected(&rt, &alarm, short())?;
+    let (client, mut conn) = connected(&rt, short())?;
     let bytes = [7; 65_536];
     let mut failed = false;
     for _ in 0..1_000u32 {
@@ -100,12 +94,11 @@ fn a_client_that_does_not_read_is_not_waited_for(rt: HostRuntime) -> Result<(), 
 
 #[test]
 fn all_writes_together_are_waited_for_so_long(rt: HostRuntime) -> Result<(), Fail> {
-    let alarm = Alarm::new()?;
     let limits = SocketLimits {
         all_writes: Duration::from_millis(50),
         ..SocketLimits::of_service()
     };
-    let (mut client, mut conn) = connected(&rt, &alarm, limits)?;
+    let (mut client, mut conn) = connected(&rt, limits)?;
     conn.written = Duration::from_millis(40);
     assert_eq!(rt; conn.write(b"abc"), Ok(3));
     conn.written = Duration::from_millis(60);
@@ -117,8 +110,7 @@ fn all_writes_together_are_waited_for_so_long(rt: HostRuntime) -> Result<(), Fai
 
 #[test]
 fn a_client_that_is_refused_sees_its_answer(rt: HostRuntime) -> Result<(), Fail> {
-    let alarm = Alarm::new()?;
-    let (mut client, mut conn) = connected(&rt, &alarm, short())?;
+    let (mut client, mut conn) = connected(&rt, short())?;
     client.write_all(&[7; 50_000])?;
     let mut into = [0; 8];
     assert_eq!(rt; conn.read(&mut into), Ok(8));
@@ -131,12 +123,11 @@ fn a_client_that_is_refused_sees_its_answer(rt: HostRuntime) -> Result<(), Fail>
 
 #[test]
 fn what_a_client_still_sends_is_not_read_for_ever(rt: HostRuntime) -> Result<(), Fail> {
-    let alarm = Alarm::new()?;
     let limits = SocketLimits {
         linger_bytes: 1,
         ..SocketLimits::of_service()
     };
-    let (mut client, conn) = connected(&rt, &alarm, limits)?;
+    let (mut client, conn) = connected(&rt, limits)?;
     client.write_all(&[7; 50_000])?;
     drop(conn);
     // The connection is gone, which a client sees that goes on.
@@ -146,12 +137,11 @@ fn what_a_client_still_sends_is_not_read_for_ever(rt: HostRuntime) -> Result<(),
 
 #[test]
 fn a_connection_that_failed_is_closed_at_once(rt: HostRuntime) -> Result<(), Fail> {
-    let alarm = Alarm::new()?;
     let limits = SocketLimits {
         linger: Duration::from_secs(50),
         ..short()
     };
-    let (client, mut conn) = connected(&rt, &alarm, limits)?;
+    let (client, mut conn) = connected(&rt, limits)?;
     assert_eq!(rt; conn.read(&mut [0; 8]), Err(Failed));
     let since = Instant::now(&rt)?;
     drop(conn);
