@@ -1,5 +1,5 @@
--- The log of a shared desk: the events of the desk's log, and of each accepted crash its record, where the disk tells its
--- content.
+-- The log of a shared desk: the events of the desk's log, each with the body of its journal entry, where it has one and the
+-- disk tells its content. That of an accepted crash is its record.
 use Rattle.std.specs.Prelude.{ℕ, suc, Bool, true, false, List, [], ◌∷◌, map, Option, None, bytes_eq, if◌then◌else◌}
 use Rattle.soc_ledger.specs.declared.event.Event.{Event}
 use Rattle.soc_ledger.specs.declared.event.Event.TheVariants as E

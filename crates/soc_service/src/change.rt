@@ -2,7 +2,8 @@
 use soc_ledger::Event;
 use std::collections::LinkedList;
 
-/// A change of the log: what was done, and of an accepted crash its record, where the disk tells it. No value of it is made.
+/// A change of the log: what was done, and the body of its journal entry, where it has one and the disk tells it. No value of
+/// it is made.
 pub struct Change {
     pub event: Event,
     pub text: Option<LinkedList<u8>>,

@@ -20,7 +20,6 @@ use Rattle.soc_journal.specs.Entries.{Entry}
 use Rattle.soc_journal.specs.States.{JournalState}
 use Rattle.soc_ledger.specs.Due.{is_due}
 use Rattle.soc_ledger.specs.Events.{has_stop, is_held}
-use Rattle.soc_ledger.specs.Legal.{IsLegal as AreLegal}
 use Rattle.soc_vault.specs.Vaults.{Means}
 use Rattle.soc_desk.specs.declared.desk.Command.{Command}
 use Rattle.soc_desk.specs.declared.desk.Command.TheVariants as C
@@ -38,12 +37,12 @@ use Rattle.soc_desk.specs.Log.{Accepted, Change as Logged, IsLegal, accepted_of,
 use Rattle.soc_desk.specs.State.{State, doubted, settled}
 use Rattle.soc_book.specs.declared.book.Book.{Book}
 use Rattle.soc_book.specs.declared.opening.Restored.{Restored}
-use Rattle.soc_book.specs.Books.{AllowsBook, AsksBook, ForEachState, SameSetting, StandsFor, crashes_in, disk_of, limits_of, log_in, reporter_of}
+use Rattle.soc_book.specs.Books.{AllowsBook, AsksBook, ForEachState, SameSetting, StandsFor, disk_of, limits_of, log_in, reporter_of}
 use Rattle.soc_book.specs.Openings.{RestoredFor, Restores}
 use Rattle.soc_book.proofs.Listings.{sound_accepted}
 use Rattle.soc_service.specs.declared.change.Change.{Change}
 use Rattle.soc_service.specs.Changes.{events_in, text_in}
-use Rattle.soc_turns.specs.Changes.{body_at, changes_at}
+use Rattle.soc_turns.specs.Changes.{changes_at}
 use Rattle.soc_turns.specs.Logs.{change_of, changes_of}
 use Rattle.soc_turns.specs.Grounds.{basis_of, desk_basis}
 use Rattle.soc_turns.specs.Runs.{RunsFrom}
@@ -89,18 +88,18 @@ means_some disk journal entries [] means = tells_some _ disk.content means
 means_some disk journal entries (first ∷ more) means = tells_some _ disk.content means
 
 module _ {D R : Type 0} {d : disk.Ghosts D} {r : reporter.Ghosts R} (tells : Bool) (book : Book D R d r) (steady : is_some (disk_of book).content ≡ tells) where
-  raw_here : (crash : Crash) → (IsTrue tells → IsCrash crash × (text_in (changes_at (body_at tells (disk_of book).content) (log_in book) (crashes_in book)) crash.id ≡ Some (record_of crash)))
+  raw_here : (crash : Crash) → (IsTrue tells → IsCrash crash × (text_in (changes_at tells (disk_of book).content (log_in book)) crash.id ≡ Some (record_of crash)))
       → ForEachState book (λ basis state. IsTrue basis.is_told → raw_of state.log crash.id ≡ Some crash)
   raw_here crash may basis state stands is_told =
       let means : tells ≡ true = sym steady ∙ means_some (disk_of book) _ _ _ (stands.told is_told).means in
       let there = may means in
       let text : text_in (changes_of basis state.log) crash.id ≡ Some (record_of crash) =
       ap (λ l. text_in l crash.id) (sym (log_is stands))
-      ∙ (ap (λ b. text_in (changes_at (body_at b (disk_of book).content) (log_in book) (crashes_in book)) crash.id) (is_told ∙ sym means) ∙ there.1) in
+      ∙ (ap (λ b. text_in (changes_at b (disk_of book).content (log_in book)) crash.id) (is_told ∙ sym means) ∙ there.1) in
       raw_by (raw_of state.log crash.id) crash (λ raw is. raw_sound basis state.log crash.id raw stands.legal.log is) there.0
-      (sym (text_is basis state.log crash.id is_told) ∙ text)
+      (sym (text_is basis state.log crash.id is_told (stands.legal.log.told is_told)) ∙ text)
 
-  pub allowed : (digest : Option (List ℕ)) (command : Command) → MayAsk (desk_basis (r.row_of (reporter_of book)) digest (limits_of book) tells) (changes_at (body_at tells (disk_of book).content) (log_in book) (crashes_in book)) command
+  pub allowed : (digest : Option (List ℕ)) (command : Command) → MayAsk (desk_basis (r.row_of (reporter_of book)) digest (limits_of book) tells) (changes_at tells (disk_of book).content (log_in book)) command
       → AllowsBook book command
   allowed digest (C.Finish processed) may = (may.0, λ basis state stands is_told due. raw_here processed.crash may.1 basis state stands is_told)
   allowed digest (C.Submit raw) may = tt
@@ -139,10 +138,10 @@ fetched_raw raw held false false before after step = absurd (not_refused step.0)
   not_refused : R.Fetched (Some raw) ≡ R.Refused F.NoCrash → ⊥
   not_refused is = cc
 
-module _ (basis : Basis) (before after : State) (is_told : IsTrue basis.is_told) where
+module _ (basis : Basis) (before after : State) (legal : IsLegal basis before.log) (is_told : IsTrue basis.is_told) where
   of_fetch : (id : List ℕ) (reply : Reply) → Step basis before (C.Fetch id) reply after → FetchesText (changes_of basis before.log) (C.Fetch id) reply
   of_fetch id (R.Fetched (Some raw)) step =
-      text_is basis before.log id is_told
+      text_is basis before.log id is_told (legal.told is_told)
       ∙ ap (λ o. option_map record_of o) (fetched_raw raw (raw_of before.log id) (is_due (events basis before.log) id) (is_held (events basis before.log) id) before after step)
   of_fetch id _ step = tt
 
@@ -151,7 +150,7 @@ module _ (basis : Basis) (before after : State) (is_told : IsTrue basis.is_told)
   fetched_text _ reply step = tt
 
 -- what the desk's step says, of the logs that the tables tell
-answers_of : (basis : Basis) (before after : State) → AreLegal (events basis before.log)
+answers_of : (basis : Basis) (before after : State) → IsLegal basis before.log
     → (log log' : List Change) (disk disk' : DiskTold) (command : Command) (receipt : Receipt) → log ≡ changes_of basis before.log → log' ≡ changes_of basis after.log
     → Asks basis before disk command receipt after disk' → Answers basis log command receipt log'
 answers_of basis before after legal log log' disk disk' command receipt is is' asks =
@@ -168,12 +167,12 @@ answers_of basis before after legal log log' disk disk' command receipt is is' a
           subst (λ l. Grows basis l (doubted basis before) command receipt.reply (events_in (changes_of basis piece)) (doubted basis after)) (sym was)
           (subst (λ p. Grows basis (events basis before.log) (doubted basis before) command receipt.reply p (doubted basis after)) (sym (events_are basis piece)) asks.gains.grows);
       kind = asks.kind;
-      idle = subst (λ l. TellsIdle l command receipt.reply) (sym was) (tells_idle basis (events basis before.log) legal (doubted basis before) command receipt.reply (events basis piece) (doubted basis after) asks.gains.grows);
+      idle = subst (λ l. TellsIdle l command receipt.reply) (sym was) (tells_idle basis (events basis before.log) legal.events_legal (doubted basis before) command receipt.reply (events basis piece) (doubted basis after) asks.gains.grows);
       front = asks.front ∙ size;
       short = subst (λ n. n < 2 ^ 60) size asks.short;
       stopped = asks.stopped ∙ ap (λ l. has_stop l) (sym now);
       altered = asks.altered;
-      fetched = λ told. subst (λ l. FetchesText l command receipt.reply) (sym is) (fetched_text basis before after told command receipt.reply (asks.step told));
+      fetched = λ told. subst (λ l. FetchesText l command receipt.reply) (sym is) (fetched_text basis before after legal told command receipt.reply (asks.step told));
     }
 
 -- the second log begins with the first, which it was taken from
@@ -203,7 +202,7 @@ module _ {D R : Type 0} {d : disk.Ghosts D} {r : reporter.Ghosts R} (tells : Boo
     basis = basis_of tells before
 
     abbrev log_of : Book D R d r → List Change
-    log_of book = changes_at (body_at tells (disk_of book).content) (log_in book) (crashes_in book)
+    log_of book = changes_at tells (disk_of book).content (log_in book)
 
     pub stands_still : ∥ Stood after ∥₁
     stands_still =
@@ -218,7 +217,7 @@ module _ {D R : Type 0} {d : disk.Ghosts D} {r : reporter.Ghosts R} (tells : Boo
     answers_at : Stood before → Answers basis (log_of before) command receipt (log_of after)
     answers_at s =
         let a = asks basis s.0 refl s.1 in
-        answers_of basis s.0 a.0 s.1.legal.log.events_legal (log_of before) (log_of after) (disk_of before) (disk_of after) command receipt (log_is s.1) (log_is a.1) a.2
+        answers_of basis s.0 a.0 s.1.legal.log (log_of before) (log_of after) (disk_of before) (disk_of after) command receipt (log_is s.1) (log_is a.1) a.2
 
     pub answers_now : ∥ Answers basis (log_of before) command receipt (log_of after) ∥₁
     answers_now = ∥∥₁_map known (λ (s : Stood before). answers_at s)

@@ -1,27 +1,38 @@
--- What the tables of a book tell of its log.
-use Rattle.std.specs.Prelude.{ℕ, Bool, List, [], ◌∷◌, take, drop, Option, None, if◌then◌else◌}
+-- What the events of a book and the journal on its disk tell of its log.
+use Rattle.std.specs.Prelude.{ℕ, Bool, true, false, List, [], ◌∷◌, take, drop, Option, None, if◌then◌else◌}
 use Rattle.std.specs.Int.{from_le_bytes, w32}
 use Rattle.std.specs.Option.{option_map}
-use Rattle.soc_journal.specs.Entries.{head_size}
-use Rattle.soc_ledger.specs.declared.crash.Filed.{Filed}
+use Rattle.soc_journal.specs.Entries.{first_gate, head_size}
 use Rattle.soc_ledger.specs.declared.event.Event.{Event}
 use Rattle.soc_ledger.specs.declared.event.Event.TheVariants as E
 use Rattle.soc_service.specs.declared.change.Change.{Change}
 
--- the body of the entry with which the bytes begin: behind its head, which ends in its length
+-- ---- the entry with which bytes begin
+
+-- how many bytes its body has: its head ends in them
+abbrev pub first_length : List ℕ → ℕ
+first_length bytes = from_le_bytes w32 (take 4 (drop 2 bytes))
+
 abbrev pub first_body : List ℕ → List ℕ
-first_body bytes = take (from_le_bytes w32 (take 4 (drop 2 bytes))) (drop head_size bytes)
+first_body bytes = take (first_length bytes) (drop head_size bytes)
 
--- the body of the entry at a place of the disk, where that tells its content
-abbrev pub body_at : Bool → Option (List ℕ) → ℕ → Option (List ℕ)
-body_at told content place = if told then option_map (λ bytes. first_body (drop place bytes)) content else None
+abbrev pub behind_first : List ℕ → List ℕ
+behind_first bytes = drop (first_length bytes) (drop head_size bytes)
 
-abbrev pub plain : Event → Change
-plain event = record { event = event; text = None }
+-- ---- the log
 
--- the log of these events, with the text at the place of each accepted crash
-abbrev pub changes_at : (ℕ → Option (List ℕ)) → List Event → List Filed → List Change
-changes_at text_at [] filed = []
-changes_at text_at (E.Accepted id ∷ events) [] = plain (E.Accepted id) ∷ changes_at text_at events []
-changes_at text_at (E.Accepted id ∷ events) (crash ∷ filed) = record { event = E.Accepted id; text = text_at crash.place } ∷ changes_at text_at events filed
-changes_at text_at (event ∷ events) filed = plain event ∷ changes_at text_at events filed
+-- a journal has an entry for the event
+abbrev pub has_entry : Event → Bool
+has_entry (E.Done id) = false
+has_entry E.Stopped = false
+has_entry _ = true
+
+-- the log of these events, whose entries stand one behind the other where the bytes begin
+abbrev pub changes_from : Option (List ℕ) → List Event → List Change
+changes_from bytes [] = []
+changes_from bytes (event ∷ events) = record { event = event; text = if has_entry event then option_map first_body bytes else None }
+    ∷ changes_from (if has_entry event then option_map behind_first bytes else bytes) events
+
+-- the log of these events, with the bodies of their entries where the disk tells its content
+abbrev pub changes_at : Bool → Option (List ℕ) → List Event → List Change
+changes_at told content events = changes_from (if told then option_map (λ bytes. drop first_gate bytes) content else None) events

@@ -1,4 +1,5 @@
 pub mod Grounds
 pub mod Changes
+mod Examples
 pub mod Logs
 pub mod Runs

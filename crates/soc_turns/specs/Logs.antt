@@ -1,17 +1,13 @@
--- What a shared book's log tells of the desk's log: the events, and of each accepted crash its record, where the disk tells its
--- content.
-use Rattle.std.specs.Prelude.{ℕ, Bool, List, map, Option, None, if◌then◌else◌}
-use Rattle.std.specs.Option.{option_map}
-use Rattle.soc_raw.specs.Record.{record_of}
+-- What a shared book's log tells of the desk's log: the events, and of each change that the journal keeps the body of its
+-- entry, where the disk tells its content.
+use Rattle.std.specs.Prelude.{ℕ, Bool, List, map, Option, None, Some, if◌then◌else◌}
 use Rattle.soc_desk.specs.Basis.{Basis}
-use Rattle.soc_desk.specs.Log.{Change as Logged, accept, ask, withdraw, report, keep, done, stop, event_of}
+use Rattle.soc_desk.specs.Log.{Change as Logged, keep, done, stop, event_of}
+use Rattle.soc_desk.specs.State.{body_of}
 use Rattle.soc_service.specs.declared.change.Change.{Change}
 
 abbrev pub text_of : Bool → Logged → Option (List ℕ)
-text_of told (keep (accept crash)) = if told then option_map record_of crash.raw else None
-text_of told (keep (ask id)) = None
-text_of told (keep (withdraw id)) = None
-text_of told (keep (report made)) = None
+text_of told (keep change) = if told then Some (body_of change) else None
 text_of told (done id) = None
 text_of told stop = None
 

@@ -87,8 +87,8 @@ impl<'a, D: Telling, R: Reporter> SharedBook<'a, D, R> {
 
 impl<'a, D: Telling, R: Reporter> Logged for SharedBook<'a, D, R> {
     ghost use Rattle.soc_desk.specs.Kinds.{IsReplyTo};
-    ghost use Rattle.soc_book.specs.Books.{AsksBook, SameSetting, crashes_in, disk_of, lent_to, limits_of, log_in, reporter_of};
-    ghost use Rattle.soc_turns.specs.Changes.{body_at, changes_at};
+    ghost use Rattle.soc_book.specs.Books.{AsksBook, SameSetting, disk_of, lent_to, limits_of, log_in, reporter_of};
+    ghost use Rattle.soc_turns.specs.Changes.{changes_at};
     ghost use Rattle.soc_service.specs.Answers.{Answers, MayAsk};
     ghost use Rattle.soc_service.specs.inner.Stays.{may_still};
 
@@ -100,8 +100,7 @@ impl<'a, D: Telling, R: Reporter> Logged for SharedBook<'a, D, R> {
 
     type Basis = Grounds<R, Book<'a, D, R>>;
 
-    ghost log_of = { λ s. changes_at
-        (body_at D.tells (disk_of s.book).content) (log_in s.book) (crashes_in s.book) };
+    ghost log_of = { λ s. changes_at D.tells (disk_of s.book).content (log_in s.book) };
 
     ghost basis_of = { λ s. record {
       reporter = reporter_of s.book;
