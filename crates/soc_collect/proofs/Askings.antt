@@ -3,9 +3,8 @@ use Rattle.std.proofs.Common.{ℕ, ◌<◌, ◌≤◌, List, [], ◌∷◌, ◌+
 use Rattle.soc_desk.specs.declared.desk.Command.{Command}
 use Rattle.soc_desk.specs.declared.desk.Command.TheVariants as C
 use Rattle.soc_desk.specs.declared.desk.Receipt.{Receipt}
-use Rattle.soc_session.specs.declared.rules.Rules.{Rules}
 use Rattle.soc_session.specs.declared.ending.SessionEnd.{SessionEnd}
-use Rattle.soc_session.specs.Desk.{Asking, StepsDesk}
+use Rattle.soc_session.specs.Desk.{Asking, StepsDesk, Ways}
 use Rattle.soc_session.specs.Session.{Around, Response, met, refused, RunsDesk, Serves}
 use Rattle.soc_collect.specs.Asked.{AsksAll, Step}
 use Rattle.soc_collect.specs.Serving.{GoesOn, no_crash, ServesOne}
@@ -32,24 +31,24 @@ module _ {K : Type 0} (asks : K → Command → Receipt → K → Type 0) where
   by_run (refused error ∷ responses) before after rest = by_run responses before after rest
 
   -- a session
-  pub by_session : (rules : Rules) (before after : Around K) (window : List ℕ) (end : SessionEnd) → Serves asks rules before after window end → AsksSome before.desk after.desk
-  by_session rules before after window end serves = by_run serves.responses before.desk after.desk serves.runs
+  pub by_session : (ways : Ways) (before after : Around K) (window : List ℕ) (end : SessionEnd) → Serves asks ways before after window end → AsksSome before.desk after.desk
+  by_session ways before after window end serves = by_run serves.responses before.desk after.desk serves.runs
 
   -- one asking
   pub by_step : (before after : K) (command : Command) (receipt : Receipt) → asks before command receipt after → AsksSome before after
   by_step before after command receipt asked = (record { command = command; receipt = receipt } ∷ [], (after, asked, refl))
 
-  goes_on : (rules : Rules) (before after : Around K) (window : List ℕ) (receipt : Receipt) (end : Option SessionEnd) (stopped : Bool)
-      → GoesOn asks rules before after window receipt end stopped → AsksSome before.desk after.desk
-  goes_on rules before after window receipt None stopped unread = ([], ap (λ (a : Around K). a.desk) unread.2)
-  goes_on rules before after window receipt (Some end) stopped served = by_session rules before after window end served.1
+  goes_on : (ways : Ways) (before after : Around K) (window : List ℕ) (receipt : Receipt) (end : Option SessionEnd) (stopped : Bool)
+      → GoesOn asks ways before after window receipt end stopped → AsksSome before.desk after.desk
+  goes_on ways before after window receipt None stopped unread = ([], ap (λ (a : Around K). a.desk) unread.2)
+  goes_on ways before after window receipt (Some end) stopped served = by_session ways before after window end served.1
 
   -- one connection served
-  pub by_serving : (rules : Rules) (before after : Around K) (window : List ℕ) (end : Option SessionEnd) (stopped : Bool)
-      → ServesOne asks rules before after window end stopped → AsksSome before.desk after.desk
-  by_serving rules before after window end stopped serves = some_append before.desk serves.between after.desk
+  pub by_serving : (ways : Ways) (before after : Around K) (window : List ℕ) (end : Option SessionEnd) (stopped : Bool)
+      → ServesOne asks ways before after window end stopped → AsksSome before.desk after.desk
+  by_serving ways before after window end stopped serves = some_append before.desk serves.between after.desk
       (by_step before.desk serves.between (C.Fetch no_crash) serves.receipt serves.looks)
-      (goes_on rules (record before { desk = serves.between }) after window serves.receipt end stopped serves.goes_on)
+      (goes_on ways (record before { desk = serves.between }) after window serves.receipt end stopped serves.goes_on)
 
   -- what a desk has added stays below a bound
   pub stays_below : (added : K → ℕ) (bound : ℕ) → ((k : K) (command : Command) (receipt : Receipt) (l : K) → asks k command receipt l → (added k ≤ added l) × (added l < bound))

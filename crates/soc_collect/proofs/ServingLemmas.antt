@@ -5,9 +5,8 @@ use Rattle.soc_base.proofs.Folk.{or_false, or_assoc}
 use Rattle.soc_raw.specs.CrashId.{is_id}
 use Rattle.soc_desk.specs.declared.desk.Command.{Command}
 use Rattle.soc_desk.specs.declared.desk.Receipt.{Receipt}
-use Rattle.soc_session.specs.declared.rules.Rules.{Rules}
 use Rattle.soc_session.specs.declared.ending.SessionEnd.{SessionEnd}
-use Rattle.soc_session.specs.Desk.{Asking, StepsDesk, says_stopped}
+use Rattle.soc_session.specs.Desk.{Asking, StepsDesk, Ways, says_stopped}
 use Rattle.soc_session.specs.Session.{Around, Response, met, refused, RunsDesk, Serves}
 use Rattle.soc_collect.specs.Serving.{any_stopped, no_crash}
 
@@ -42,8 +41,8 @@ module _ {V K N : Type 0} (watches : V → Command → Receipt → V → Type 0)
   abbrev pub of_desk : Around V → Around K
   of_desk around = record { left = around.left; held = around.held; desk = desk around.desk; outlook = around.outlook }
 
-  abbrev pub serves : (rules : Rules) (before after : Around V) (window : List ℕ) (end : SessionEnd) → Serves watches rules before after window end → Serves asks rules (of_desk before) (of_desk after) window end
-  serves rules before after window end session = record {
+  abbrev pub serves : (ways : Ways) (before after : Around V) (window : List ℕ) (end : SessionEnd) → Serves watches ways before after window end → Serves asks ways (of_desk before) (of_desk after) window end
+  serves ways before after window end session = record {
     responses = session.responses;
     by_rules = session.by_rules;
     runs = (run before.desk session.responses after.desk session.runs).1;

@@ -1,12 +1,10 @@
 -- One connection served at a desk. This project's profile.
 use Rattle.std.specs.Prelude.{◌≡◌, ℕ, ◌+◌, Bool, true, false, ◌||◌, List, [], ◌∷◌, Option, None, Some, codes}
-use Rattle.soc_edge.specs.Told.{Told}
 use Rattle.soc_desk.specs.declared.desk.Command.{Command}
 use Rattle.soc_desk.specs.declared.desk.Command.TheVariants as C
 use Rattle.soc_desk.specs.declared.desk.Receipt.{Receipt}
-use Rattle.soc_session.specs.declared.rules.Rules.{Rules}
 use Rattle.soc_session.specs.declared.ending.SessionEnd.{SessionEnd}
-use Rattle.soc_session.specs.Desk.{says_stopped}
+use Rattle.soc_session.specs.Desk.{Ways, says_stopped}
 use Rattle.soc_session.specs.Session.{Around, Response, met, refused, Serves}
 use Rattle.soc_collect.specs.Tallies.{Counts}
 
@@ -20,13 +18,13 @@ any_stopped [] = false
 any_stopped (met exchange ∷ responses) = says_stopped exchange.asked || any_stopped responses
 any_stopped (refused error ∷ responses) = any_stopped responses
 
-module _ {K : Type 0} (asks : K → Command → Receipt → K → Type 0) (rules : Rules) where
+module _ {K : Type 0} (asks : K → Command → Receipt → K → Type 0) (ways : Ways) where
   -- Behind the first turn the connection stays unread where its receipt said stopped; else one session serves it. This tells
   -- whether a receipt said stopped.
   abbrev pub GoesOn : Around K → Around K → List ℕ → Receipt → Option SessionEnd → Bool → Type 0
   GoesOn before after window receipt None stopped = (receipt.stopped ≡ true) × (stopped ≡ true) × (after ≡ before) × (window ≡ [])
   GoesOn before after window receipt (Some end) stopped =
-      (receipt.stopped ≡ false) × (session : Serves asks rules before after window end) × (stopped ≡ any_stopped session.responses)
+      (receipt.stopped ≡ false) × (session : Serves asks ways before after window end) × (stopped ≡ any_stopped session.responses)
 
   -- one turn that looks whether the desk has stopped, and what follows
   pub record ServesOne (before after : Around K) (window : List ℕ) (end : Option SessionEnd) (stopped : Bool) : Type 0 where
@@ -40,12 +38,3 @@ pub record Tallied (before after : Counts) (added_before added_after : ℕ) (sai
   pub connections : after.connections ≡ before.connections + 1
   pub kept : after.kept + added_before ≡ before.kept + added_after
   pub stopped : after.stopped ≡ (before.stopped || said_stopped)
-
--- one poke where there is to be one
-abbrev pub PokesIf : {X : Type 0} → (X → X → Type 0) → Bool → X → X → Type 0
-PokesIf pokes true before after = pokes before after
-PokesIf pokes false before after = after ≡ before
-
--- it was poked once where a receipt said stopped, and else not, and tells afterwards what it told before
-abbrev pub WasPokedWhere : {X : Type 0} → (X → Told) → (X → X → Type 0) → Bool → X → Type 0
-WasPokedWhere {X} told pokes stopped conn = (before : X) × (told conn ≡ told before) × PokesIf pokes stopped before conn

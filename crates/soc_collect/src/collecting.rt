@@ -11,7 +11,7 @@ use soc_desk::KeepingDesk;
 use soc_edge::{Clock, Draws};
 use soc_http::Buffer;
 use soc_listen::Listener;
-use soc_session::Setting;
+use soc_session::{Setting, Stacks};
 use std::sync::Wait;
 use std::sync::ledger::Ledger;
 
@@ -19,6 +19,7 @@ use std::sync::ledger::Ledger;
 /// one comes.
 pub fn collect<
     K: KeepingDesk,
+    S: Stacks,
     L: Listener,
     N: Ledger,
     M: Ledger,
@@ -28,9 +29,9 @@ pub fn collect<
     R: Wait,
 >(
     rt: &R,
-    setting: Setting<'_>,
+    setting: &Setting<'_, S>,
     desk: &mut K,
-    served: &mut Tally<L::Conn>,
+    served: &mut Tally<L::Link>,
     ticket: &mut Ticket<N, M>,
     buffer: &mut Buffer,
     shared: &Shared<L, N, M, J, C, W>,

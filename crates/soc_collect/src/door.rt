@@ -6,7 +6,7 @@ ghost use Rattle.soc_collect.specs.inner.Rises.{has_risen};
 
 use crate::ticket::Ticket;
 use soc_edge::Failed;
-use soc_listen::Listener;
+use soc_listen::{Conn, Listener};
 use std::marker::{Brand, PhantomData};
 use std::sync::ledger::{Blank, Book, Ledger};
 
@@ -70,12 +70,12 @@ impl<L: Listener, N: Ledger, M: Ledger, J: Naming> Door<L, N, M, J> {
     /// The next connection, which is counted on the ticket. `None` where no further one comes, and where the listener
     /// fails, and this is counted too.
     #[tactic(auto, using(crate::proofs::Rises::risen))]
-    pub fn accept(&mut self, mine: &mut Ticket<N, M>) -> Option<L::Conn>
+    pub fn accept(&mut self, mine: &mut Ticket<N, M>) -> Option<Conn<L::Link, L::Waker>>
         requires { (0 < mine.old.handed.parts) × (0 < mine.old.refused.parts) }
         ensures gives { MatchOption result
             (GivesNone (L.told self.old.listener) (L.told self.new.listener) self.old.failed self.new.failed)
             (λ conn. GivesConn (L.told self.old.listener)
-            (L.told self.new.listener) self.old.failed self.new.failed (L.Conn.told conn)) }
+            (L.told self.new.listener) self.old.failed self.new.failed (L.Link.told conn.link)) }
         ensures counts { MatchOption result
             ((mine.new.handed.amount ≡ mine.old.handed.amount)
             × (mine.new.refused.amount ≡ mine.old.refused.amount + 1))

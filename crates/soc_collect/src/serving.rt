@@ -1,11 +1,13 @@
 //! One connection served.
-ghost use Rattle.std.specs.Prelude.{◌≡◌, ◌<◌, ◌≤◌, ◌+◌, ◌-◌, ◌^◌, [], Bool, false, Some, IfNone};
+ghost use Rattle.std.specs.Prelude.{◌≡◌, ◌<◌, ◌≤◌, ◌+◌, ◌-◌, ◌^◌, [], Bool, false, Some, IfNone, if◌then◌else◌};
 ghost use Rattle.soc_edge.specs.Ahead.{outlook};
+ghost use Rattle.soc_edge.specs.Calls.{one_more};
 ghost use Rattle.soc_edge.specs.Told.{HasCause, NeverFall};
 ghost use Rattle.soc_desk.specs.declared.desk.Command.TheVariants.{Fetch};
 ghost use Rattle.soc_desk.specs.declared.desk.Receipt.{Receipt};
+ghost use Rattle.soc_session.specs.Desk.{ways};
 ghost use Rattle.soc_session.specs.Session.{around};
-ghost use Rattle.soc_collect.specs.Serving.{ServesOne, Tallied, WasPokedWhere, no_crash};
+ghost use Rattle.soc_collect.specs.Serving.{ServesOne, Tallied, no_crash};
 
 mod tally;
 
@@ -14,45 +16,47 @@ use crate::watch::Watched;
 use soc_desk::{Command, Desk, KeepingDesk};
 use soc_edge::{Clock, Draws, Sink, Source};
 use soc_http::Buffer;
-use soc_listen::Conn;
+use soc_listen::{Conn, Waker};
 use soc_raw::CrashId;
-use soc_session::{SessionEnd, Setting, session};
+use soc_session::{SessionEnd, Setting, Stacks, session};
 pub use tally::Tally;
 
 /// The id by which a turn looks whether the desk has stopped. No drawn id is this one, since a draw gives version 4.
 const NO_CRASH: &str = "00000000-0000-0000-0000-000000000101";
 
 /// Serves one connection: looks in one turn whether the desk has stopped, and where it hasn't answers the connection's
-/// messages. Where a receipt said stopped the connection is poked, so that its listener's next wait ends.
-pub fn serve_one<K: KeepingDesk, X: Conn, C: Clock, W: Draws>(
-    setting: Setting<'_>,
+/// messages. Where a receipt said stopped it wakes whoever waits at the connection's listener, once.
+pub fn serve_one<K: KeepingDesk, S: Stacks, X: Source + Sink, V: Waker, C: Clock, W: Draws>(
+    setting: &Setting<'_, S>,
     desk: &mut K,
     served: &mut Tally<X>,
-    conn: X,
+    conn: Conn<X, V>,
     buffer: &mut Buffer,
     clock: &mut C,
     draws: &mut W,
-) -> Shut<X>
+) -> Shut<X, V>
     requires connections { served.old.connections + 1 < 2 ^ 64 }
     requires kept { served.old.kept < 2 ^ 63 }
     ensures serves { (stopped : Bool)
-        × ServesOne K.Asks setting.entry.rules.now
-        (around (X.told conn) desk.old (outlook (C.told clock.old) (W.told draws.old)))
-        (around (X.told result.conn) desk.new (outlook (C.told clock.new) (W.told draws.new)))
+        × ServesOne K.Asks
+        (ways setting.now.rules.now (S.stack_of setting.now.stacks.now))
+        (around (X.told conn.link) desk.old (outlook (C.told clock.old) (W.told draws.old)))
+        (around (X.told result.conn.link) desk.new (outlook (C.told clock.new) (W.told draws.new)))
         buffer.new result.end stopped
         × Tallied served.old served.new (K.added desk.old) (K.added desk.new) stopped
-        × WasPokedWhere X.told X.Pokes stopped result.conn }
-    ensures never_fall { NeverFall (X.told conn) (X.told result.conn) }
-    ensures unread { IfNone result.end (X.told result.conn ≡ X.told conn) }
+        × (V.wakes result.conn.waker ≡ (if stopped then one_more (V.wakes conn.waker)
+        else V.wakes conn.waker)) }
+    ensures never_fall { NeverFall (X.told conn.link) (X.told result.conn.link) }
+    ensures unread { IfNone result.end (X.told result.conn.link ≡ X.told conn.link) }
     ensures cause { HasCause (result.end ≡ Some SessionEnd.ReadFault)
-        (result.end ≡ Some SessionEnd.WriteFault) (X.told conn) (X.told result.conn) }
+        (result.end ≡ Some SessionEnd.WriteFault) (X.told conn.link) (X.told result.conn.link) }
 {
     let mut conn = conn;
     buffer.clear();
     let kept = desk.kept();
-    let (end, stopped) = attend(setting, desk, &mut conn, buffer, clock, draws);
+    let (end, stopped) = attend(setting, desk, &mut conn.link, buffer, clock, draws);
     if stopped {
-        conn.poke();
+        conn.waker.wake();
     }
     served.count(desk.kept() - kept, stopped);
     Shut { conn, end }
@@ -60,8 +64,8 @@ pub fn serve_one<K: KeepingDesk, X: Conn, C: Clock, W: Draws>(
 
 /// Looks in one turn whether the desk has stopped, and where it hasn't answers the connection's messages. Also answers
 /// whether a receipt said stopped.
-fn attend<K: KeepingDesk, X: Source + Sink, C: Clock, W: Draws>(
-    setting: Setting<'_>,
+fn attend<K: KeepingDesk, S: Stacks, X: Source + Sink, C: Clock, W: Draws>(
+    setting: &Setting<'_, S>,
     desk: &mut K,
     conn: &mut X,
     buffer: &mut Buffer,
@@ -69,7 +73,8 @@ fn attend<K: KeepingDesk, X: Source + Sink, C: Clock, W: Draws>(
     draws: &mut W,
 ) -> (Option<SessionEnd>, bool)
     requires { buffer.old ≡ [] }
-    ensures serves { ServesOne K.Asks setting.entry.rules.now
+    ensures serves { ServesOne K.Asks
+        (ways setting.now.rules.now (S.stack_of setting.now.stacks.now))
         (around (X.told conn.old) desk.old (outlook (C.told clock.old) (W.told draws.old)))
         (around (X.told conn.new) desk.new (outlook (C.told clock.new) (W.told draws.new)))
         buffer.new result.0 result.1 }
@@ -88,8 +93,8 @@ fn attend<K: KeepingDesk, X: Source + Sink, C: Clock, W: Draws>(
 }
 
 /// The same at a desk that is watched, which tells afterwards whether a receipt said stopped.
-fn answer<K: KeepingDesk, X: Source + Sink, C: Clock, W: Draws>(
-    setting: Setting<'_>,
+fn answer<K: KeepingDesk, S: Stacks, X: Source + Sink, C: Clock, W: Draws>(
+    setting: &Setting<'_, S>,
     watched: &mut Watched<'_, K>,
     conn: &mut X,
     buffer: &mut Buffer,
@@ -99,7 +104,8 @@ fn answer<K: KeepingDesk, X: Source + Sink, C: Clock, W: Draws>(
     requires window { buffer.old ≡ [] }
     requires unstopped { watched.old.stopped ≡ false }
     ensures same_desk { watched.new.desk.ghost_name ≡ watched.old.desk.ghost_name }
-    ensures serves { ServesOne K.Asks setting.entry.rules.now
+    ensures serves { ServesOne K.Asks
+        (ways setting.now.rules.now (S.stack_of setting.now.stacks.now))
         (around (X.told conn.old) watched.old.desk.now (outlook (C.told clock.old) (W.told draws.old)))
         (around (X.told conn.new) watched.new.desk.now (outlook (C.told clock.new) (W.told draws.new)))
         buffer.new result watched.new.stopped }

@@ -7,8 +7,8 @@ use soc_collect::{Naming, Shared, Tally, Ticket, collect};
 use soc_desk::KeepingDesk;
 use soc_edge::{Clock, Draws};
 use soc_http::Buffer;
-use soc_listen::{Conn, Listener};
-use soc_session::Setting;
+use soc_listen::Listener;
+use soc_session::{Setting, Stacks};
 use std::sync::Wait;
 use std::sync::ledger::Ledger;
 
@@ -21,12 +21,12 @@ pub(crate) struct Collector<K, X, N: Ledger, M: Ledger> {
     pub(crate) ticket: Ticket<N, M>,
 }
 
-impl<K: KeepingDesk, X: Conn, N: Ledger, M: Ledger> Collector<K, X, N, M> {
+impl<K: KeepingDesk, X, N: Ledger, M: Ledger> Collector<K, X, N, M> {
     /// Serves one connection after another, until a receipt says stopped or no further one comes.
-    pub(crate) fn collect<J: Naming, L: Listener<Conn = X>, C: Clock, W: Draws, R: Wait>(
+    pub(crate) fn collect<S: Stacks, J: Naming, L: Listener<Link = X>, C: Clock, W: Draws, R: Wait>(
         &mut self,
         rt: &R,
-        setting: Setting<'_>,
+        setting: &Setting<'_, S>,
         shared: &Shared<L, N, M, J, C, W>,
     )
         requires new { (self.old.served ≡ nothing_served) × (K.added self.old.desk ≡ 0) }

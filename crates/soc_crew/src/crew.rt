@@ -25,7 +25,7 @@ use soc_listen::Listener;
 use soc_pool::{Pass, Passes, RingEnd};
 use soc_schema::Reporter;
 use soc_service::{Gate, HallDesk, SharedDesk, Site};
-use soc_session::Setting;
+use soc_session::{Setting, Stacks};
 use std::marker::Brand;
 use std::snapshot::Snapshot;
 use std::sync::ledger::{Blank, Ledger};
@@ -40,11 +40,11 @@ pub struct Crew {
 }
 
 /// What a crew goes by.
-#[derive(Clone, Copy)]
-pub struct CrewSetting<'s, P, G> {
+#[derive(Drop)]
+pub struct CrewSetting<'s, S, P, G> {
     pub crew: Crew,
     /// What messages are answered by.
-    pub session: Setting<'s>,
+    pub session: Setting<'s, S>,
     /// What makes the reports: the desk's own.
     pub reporter: &'s P,
     /// What each turn passes.
@@ -58,7 +58,7 @@ pub struct CrewEnd<T, L: Listener> {
     pub listener: L,
     /// Whether the listener has failed; `NoMemory` where memory was wanting before the first thread started.
     pub failed: Result<bool, NoMemory>,
-    pub served: Tally<L::Conn>,
+    pub served: Tally<L::Link>,
     /// The end of the ring of jobs, where threads were started.
     pub jobs: Option<RingEnd>,
 }
@@ -70,6 +70,7 @@ pub fn serve_together<
     's,
     R: Threads + Wait + Sync,
     T: SharedDesk + Send,
+    S: Stacks + Send + Sync,
     P: Reporter + Sync,
     L: Listener,
     C: Clock + Send,
@@ -77,7 +78,7 @@ pub fn serve_together<
     G: Gate + Sync,
 >(
     rt: &'s R,
-    setting: CrewSetting<'s, P, G>,
+    setting: CrewSetting<'s, S, P, G>,
     desk: T,
     listener: L,
     clock: &mut C,
@@ -101,7 +102,7 @@ pub fn serve_together<
         setting.entry.crew.collectors setting.entry.crew.processors (seen_in end)) }
 {
     let parts = setting.crew.collectors as u64 + 1;
-    serve_with::<Brand, Brand, Brand, R, T, P, L, C, W, G>(
+    serve_with::<Brand, Brand, Brand, R, T, S, P, L, C, W, G>(
         rt,
         setting,
         desk,
@@ -120,6 +121,7 @@ fn serve_with<
     J: Naming + Send + Sync,
     R: Threads + Wait + Sync,
     T: SharedDesk + Send,
+    S: Stacks + Send + Sync,
     P: Reporter + Sync,
     L: Listener,
     C: Clock + Send,
@@ -127,7 +129,7 @@ fn serve_with<
     G: Gate + Sync,
 >(
     rt: &'s R,
-    setting: CrewSetting<'s, P, G>,
+    setting: CrewSetting<'s, S, P, G>,
     desk: T,
     listener: L,
     clock: &mut C,
@@ -229,6 +231,7 @@ fn serve_in<
     J: Naming + Send + Sync,
     R: Threads + Wait + Sync,
     T: SharedDesk + Send,
+    S: Stacks + Send + Sync,
     P: Reporter + Sync,
     L: Listener,
     C: Clock + Send + Drop,
@@ -236,17 +239,17 @@ fn serve_in<
     G: Gate + Sync,
 >(
     site: &'h Site<'h, T, G, R>,
-    setting: CrewSetting<'h, P, G>,
+    setting: CrewSetting<'h, S, P, G>,
     opened: &Snapshot<T>,
     own: Pass,
-    collecting: Vec<Collector<HallDesk<'h, T, G, R>, L::Conn, N, M>>,
+    collecting: Vec<Collector<HallDesk<'h, T, G, R>, L::Link, N, M>>,
     processing: Vec<Processor<'h, T, P, G, R>>,
     buffers: Vec<Buffer>,
     seats: &mut Seats<T>,
     passes: &mut Passes,
     ticket: &mut Ticket<N, M>,
     shared: Shared<L, N, M, J, C, W>,
-) -> (Tally<L::Conn>, Door<L, N, M, J>)
+) -> (Tally<L::Link>, Door<L, N, M, J>)
     requires lists { (collecting.items ≡ []) × (vec_len buffers ≤ vec_capacity collecting)
         × (processing.items ≡ []) × (setting.crew.processors ≤ vec_capacity processing) }
     requires crew { (0 < vec_len buffers) × (vec_len buffers ≤ 8)
@@ -293,7 +296,7 @@ fn serve_in<
     );
     let (collecting, processing, own) = work(
         site.rt,
-        setting.session,
+        &setting.session,
         site.jobs,
         own,
         collecting,

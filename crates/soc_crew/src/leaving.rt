@@ -12,7 +12,7 @@ use crate::processor::Processor;
 use crate::stations::give_back;
 use soc_collect::{Door, Naming, Tally, Ticket};
 use soc_hall::Seats;
-use soc_listen::{Conn, Listener};
+use soc_listen::Listener;
 use soc_pool::Passes;
 use soc_schema::Reporter;
 use soc_service::{Gate, HallDesk, SharedDesk, Site};
@@ -33,12 +33,12 @@ pub(crate) fn leave_collectors<
 >(
     site: &Site<'_, T, G, R>,
     opened: &Snapshot<T>,
-    mut collectors: Vec<Collector<HallDesk<'h, T, G, R>, L::Conn, N, M>>,
+    mut collectors: Vec<Collector<HallDesk<'h, T, G, R>, L::Link, N, M>>,
     seats: &mut Seats<T>,
     passes: &mut Passes,
     door: &mut Door<L, N, M, J>,
     ticket: &mut Ticket<N, M>,
-) -> Tally<L::Conn>
+) -> Tally<L::Link>
     requires each { All (λ c. (c.desk.hall.now ≡ site.now.hall.now)
         × IsNew (T.basis_of opened.now.value) (T.log_of opened.now.value)
         (known_of c.desk.began.value)

@@ -11,7 +11,6 @@ use soc_base::NoMemory;
 use soc_collect::{Tally, Ticket};
 use soc_hall::{Seat, Seats};
 use soc_http::Buffer;
-use soc_listen::Conn;
 use soc_pool::{Jobs, Pass, Passes};
 use soc_schema::Reporter;
 use soc_service::{Gate, HallDesk, SharedDesk, Site};
@@ -103,7 +102,7 @@ pub(crate) fn give_back<T: SharedDesk>(
 }
 
 /// A collector for each buffer.
-pub(crate) fn collectors<'h, T: SharedDesk, G: Gate, R: Wait, X: Conn, N: Ledger, M: Ledger>(
+pub(crate) fn collectors<'h, T: SharedDesk, G: Gate, R: Wait, X: Drop, N: Ledger, M: Ledger>(
     site: &'h Site<'h, T, G, R>,
     opened: &Snapshot<T>,
     mut list: Vec<Collector<HallDesk<'h, T, G, R>, X, N, M>>,

@@ -15,7 +15,7 @@ use soc_desk::KeepingDesk;
 use soc_edge::{Clock, Draws};
 use soc_listen::Listener;
 use soc_pool::{Jobs, Pass};
-use soc_session::Setting;
+use soc_session::{Setting, Stacks};
 use std::sync::Wait;
 use std::sync::ledger::Ledger;
 use std::thread::Threads;
@@ -24,6 +24,7 @@ use std::thread::Threads;
 pub(crate) fn work<
     K: KeepingDesk + Send + Drop,
     T: Task + Send + Drop,
+    S: Stacks + Send + Sync,
     N: Ledger + Send + Sync,
     M: Ledger + Send + Sync,
     J: Naming + Send + Sync,
@@ -33,13 +34,13 @@ pub(crate) fn work<
     W: Draws + Send,
 >(
     rt: &R,
-    setting: Setting<'_>,
+    setting: &Setting<'_, S>,
     jobs: &Jobs,
     own: Pass,
-    collectors: Vec<Collector<K, L::Conn, N, M>>,
+    collectors: Vec<Collector<K, L::Link, N, M>>,
     processors: Vec<T>,
     shared: &Shared<L, N, M, J, C, W>,
-) -> (Vec<Collector<K, L::Conn, N, M>>, Vec<T>, Pass)
+) -> (Vec<Collector<K, L::Link, N, M>>, Vec<T>, Pass)
     requires collectors { All (λ c. (c.served ≡ nothing_served) × (K.added c.desk ≡ 0)
         × (c.ticket.handed.parts ≡ 1) × (c.ticket.refused.parts ≡ 1) × (c.ticket.handed.amount ≡ 0)
         × (c.ticket.refused.amount ≡ 0)) collectors.items }
@@ -61,7 +62,7 @@ pub(crate) fn work<
         rt,
         collectors,
         processors,
-        &|_place: usize, collector: &mut Collector<K, L::Conn, N, M>|
+        &|_place: usize, collector: &mut Collector<K, L::Link, N, M>|
             requires new { (collector.old.served ≡ nothing_served)
                 × (K.added collector.old.desk ≡ 0) }
             requires ticket { (collector.old.ticket.handed.parts ≡ 1)

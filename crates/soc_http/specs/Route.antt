@@ -27,6 +27,7 @@ literals =
     ∷ literal (codes "/api/RawCrash/") Get R.RawCrash
     ∷ literal (codes "/api/RawDump/") Get R.RawDump
     ∷ literal (codes "/api/Reprocessing/") Post R.Reprocessing
+    ∷ literal (codes "/api/Stack/") Get R.Stack
     ∷ literal (codes "/api/SuperSearch/") Get R.SuperSearch
     ∷ literal (codes "/api/SuperSearchFields/") Get R.SuperSearchFields
     ∷ literal (codes "/api/TopCrashers/") Get R.Tops

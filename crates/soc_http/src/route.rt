@@ -27,6 +27,8 @@ pub enum Route {
     Turn,
     Drain,
     Stop,
+    /// The stack of a crash.
+    Stack,
     /// What the log has, counted.
     Counts,
     /// Whether the service answers, by a turn of its desk.
@@ -130,6 +132,7 @@ fn fill(literals: &mut Router<Target>) -> Result<(), NoMemory>
         Route::SuperSearchFields,
     )?;
     add(literals, "/api/SuperSearch/", Verb::Get, Route::SuperSearch)?;
+    add(literals, "/api/Stack/", Verb::Get, Route::Stack)?;
     add(
         literals,
         "/api/Reprocessing/",
@@ -173,6 +176,7 @@ fn copy_of(alloc: Global, route: &Route) -> Result<Route, NoMemory>
         Route::Turn => Route::Turn,
         Route::Drain => Route::Drain,
         Route::Stop => Route::Stop,
+        Route::Stack => Route::Stack,
         Route::Counts => Route::Counts,
         Route::Heartbeat => Route::Heartbeat,
         Route::Alive => Route::Alive,

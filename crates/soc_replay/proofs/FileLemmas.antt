@@ -1,6 +1,6 @@
 -- What files say, once they are read and looked at.
 use Rattle.std.proofs.Common.{◌≡◌, ℕ, List, [], ◌∷◌, Option, None, Some, Result, Ok, Err, refl, sym, ap, subst, ◌∙◌}
-use Rattle.std.specs.Prelude.{IfErr, IfSome, codes, option_map}
+use Rattle.std.specs.Prelude.{IfErr, IfSome, codes, is_ok, option_map}
 use Rattle.std.specs.Option.{option_or}
 use Rattle.std.specs.Result.{IsErrAnd, IsErrOf}
 use Rattle.soc_siglists.specs.declared.error.ListName.{ListName}
@@ -54,17 +54,20 @@ kit_not_tree (Err fault) texts (kit.BadPattern list line) gives reads is = cc
 
 -- ---- what is said
 
+setup_said : (files : Files) (texts : Texts) (setup : Setup) → AreTexts files texts → setup_of texts.settings texts.tokens texts.page texts.version ≡ Ok setup
+    → setup_in files ≡ Ok setup
+setup_said files texts setup are says =
+    sym (ap (λ (s : List ℕ). setup_of s (text_at files (codes "tokens.toml")) (shown_at files (codes "ui.html")) (shown_at files (codes "version.json"))) are.settings)
+    ∙ (sym (ap (λ (t : List ℕ). setup_of texts.settings t (shown_at files (codes "ui.html")) (shown_at files (codes "version.json"))) are.tokens)
+    ∙ (sym (ap (λ (p : Option (List ℕ)). setup_of texts.settings texts.tokens p (shown_at files (codes "version.json"))) are.page)
+    ∙ (sym (ap (λ (v : Option (List ℕ)). setup_of texts.settings texts.tokens texts.page v) are.version) ∙ says)))
+
 -- what lists and symbol files make of settings and tokens that are good
 says_kit : (files : Files) (texts : Texts) (setup : Setup) → AreTexts files texts → setup_of texts.settings texts.tokens texts.page texts.version ≡ Ok setup
     → files_say files ≡ kit_says setup texts.kit (refusal_of texts.kit)
 says_kit files texts setup are says =
-    let as_said : setup_in files ≡ Ok setup =
-    sym (ap (λ (s : List ℕ). setup_of s (text_at files (codes "tokens.toml")) (shown_at files (codes "ui.html")) (shown_at files (codes "version.json"))) are.settings)
-    ∙ (sym (ap (λ (t : List ℕ). setup_of texts.settings t (shown_at files (codes "ui.html")) (shown_at files (codes "version.json"))) are.tokens)
-    ∙ (sym (ap (λ (p : Option (List ℕ)). setup_of texts.settings texts.tokens p (shown_at files (codes "version.json"))) are.page)
-    ∙ (sym (ap (λ (v : Option (List ℕ)). setup_of texts.settings texts.tokens texts.page v) are.version) ∙ says))) in
     ap (λ m. missing_says files m) are.none_missing
-    ∙ (ap (λ (s : Result Setup FilesFault). setup_says (texts_in files) s) as_said
+    ∙ (ap (λ (s : Result Setup FilesFault). setup_says (texts_in files) s) (setup_said files texts setup are says)
     ∙ sym (ap (λ (k : KitTexts). kit_says setup k (refusal_of k)) are.kit))
 
 pub says_said : (told : Option Files) (texts : Texts) (setup : Setup) → IfSome told (λ files. AreTexts files texts) → setup_of texts.settings texts.tokens texts.page texts.version ≡ Ok setup → refusal_of texts.kit ≡ None
@@ -75,9 +78,9 @@ says_said (Some files) texts setup are says none = says_kit files texts setup ar
 -- ---- lists and symbol files that are refused
 
 kit_refused : (files : Files) (texts : Texts) (setup : Setup) (error : KitError) → AreTexts files texts → setup_of texts.settings texts.tokens texts.page texts.version ≡ Ok setup
-    → IsKit (Err error) texts.kit → IsFilesFault (files_say files) (of_kit error)
+    → IsKit (Err error) texts.kit → IsFilesFault files (of_kit error)
 kit_refused files texts setup kit.TreeFault are says reads = tt
-kit_refused files texts setup kit.MakerFault are says reads = tt
+kit_refused files texts setup kit.MakerFault are says reads = (are.none_missing, ap is_ok (setup_said files texts setup are says))
 kit_refused files texts setup kit.NoMemory are says reads = tt
 kit_refused files texts setup (kit.Missing name) are says reads = says_kit files texts setup are says ∙ ap (λ r. kit_says setup texts.kit r) reads
 kit_refused files texts setup (kit.BadLine name line) are says reads = says_kit files texts setup are says ∙ ap (λ r. kit_says setup texts.kit r) reads
@@ -85,11 +88,11 @@ kit_refused files texts setup (kit.BadPattern list line) are says reads = says_k
 
 pub kit_fault : {A : Type 0} (told : Option Files) (texts : Texts) (setup : Setup) (error : KitError) (result : Result A FilesFault)
     → IfSome told (λ files. AreTexts files texts) → setup_of texts.settings texts.tokens texts.page texts.version ≡ Ok setup → IsKit (Err error) texts.kit
-    → IsErrAnd result (λ fault. fault ≡ of_kit error) → IfErr result (λ fault. IfSome told (λ files. IsFilesFault (files_say files) fault))
+    → IsErrAnd result (λ fault. fault ≡ of_kit error) → IfErr result (λ fault. IfSome told (λ files. IsFilesFault files fault))
 kit_fault told texts setup error (Ok _) are says reads never = tt
 kit_fault None texts setup error (Err fault) are says reads gives = tt
 kit_fault (Some files) texts setup error (Err fault) are says reads gives =
-    subst (λ (f : FilesFault). IsFilesFault (files_say files) f) (sym gives) (kit_refused files texts setup error are says reads)
+    subst (λ (f : FilesFault). IsFilesFault files f) (sym gives) (kit_refused files texts setup error are says reads)
 
 pub kit_maker : {A : Type 0} (result : Result A FilesFault) (error : KitError) → IsErrAnd result (λ fault. fault ≡ of_kit error) → IsErrOf result Maker → error ≡ kit.MakerFault
 kit_maker (Ok _) error never is = absurd never

@@ -1,6 +1,7 @@
 -- A session over a book is one over its log, which every stop of the machine outlives.
 use Rattle.std.proofs.Common.{◌≡◌, ◌⊎◌, ℕ, ◌≤◌, Bool, true, false, IsTrue, is_some, IfSome, List, [], ◌∷◌, map, Option, None, Some, refl, sym, ap, ◌∙◌, subst, inl, inr, ⊎_elim, arith}
 use Rattle.soc_raw.specs.Record.{Crash}
+use Rattle.soc_schema.specs.declared.permission.Permissions.{Permissions}
 use Rattle.soc_schema.specs.declared.value.Cell.{Cell}
 use Rattle.soc_edge.specs.Ahead.{Outlook}
 use Rattle.soc_edge.specs.Disk.{DiskTold, IsDisk, DiskFailed, GoesOn}
@@ -27,8 +28,7 @@ use Rattle.soc_session.specs.declared.ending.SessionEnd.{SessionEnd}
 use Rattle.soc_session.specs.declared.ending.SessionEnd.TheVariants.{Ended, Closed, Stopped, Refused, ReadFault, WriteFault, TooLong, NoMemory}
 use Rattle.soc_desk.specs.Runs.{DeskAt}
 use Rattle.soc_replay.specs.Blames.{RoseBy, store_faults}
-use Rattle.soc_session.specs.declared.rules.Rules.{Rules}
-use Rattle.soc_session.specs.Desk.{Asking, StepsDesk}
+use Rattle.soc_session.specs.Desk.{Asking, StepsDesk, Ways, ways}
 use Rattle.soc_session.specs.Session.{Around, Response, met, refused, RunsDesk, Serves, around}
 use Rattle.soc_replay.specs.declared.ending.Keeping.{Keeping}
 use Rattle.soc_replay.specs.declared.ending.Keeping.TheVariants as K
@@ -117,11 +117,11 @@ module _ {K : Type 0} (asks : K → Command → Receipt → K → Type 0) (disk_
     (steps : (desk desk' : K) (command : Command) (receipt : Receipt) → asks desk command receipt desk' → Same desk
     → Same desk' × ((basis : Basis) (state : State) → basis.row_of ≡ row_of → Stands desk basis state
     → (after : State) × Stands desk' basis after × Asks basis state (disk_of desk) command receipt after (disk_of desk'))) where
-  module _ (setup : Setup) (before after : Surroundings) (first second : K) (end : SessionEnd) (keeping : Keeping) (window : List ℕ)
+  module _ (setup : Setup) (stack_of : Permissions → Crash → Option (List ℕ)) (before after : Surroundings) (first second : K) (end : SessionEnd) (keeping : Keeping) (window : List ℕ)
       (same : Same first)
       (opens : (basis : Basis) → IsBasisOf row_of digest setup.limits before.disk.content basis → OpensBook basis before.disk (disk_of first) (Stands first basis))
       (to_opened : GoesOn before.disk (disk_of first))
-      (serves : Serves asks setup.rules (around before.streams first before.outlook) (around after.streams second after.outlook) window end)
+      (serves : Serves asks (ways setup.rules stack_of) (around before.streams first before.outlook) (around after.streams second after.outlook) window end)
       (keeps : Same second → (basis : Basis) (state : State) → basis.row_of ≡ row_of → basis.digest ≡ digest → Stands second basis state
       → (kept : State) × KeepsDisk basis state (disk_of second) (keep_reply keeping) kept after.disk)
       (where_ended : is_some (keep_reply keeping) ≡ keeps_reports end) where
@@ -209,7 +209,7 @@ module _ {K : Type 0} (asks : K → Command → Receipt → K → Type 0) (disk_
       now = keep_allows basis reached.last.state (disk_of second) after.disk (keep_reply keeping) kept.0 kept.1 (is_told refl) (allowed_last (is_told refl));
     }
 
-    pub serves_journal : ServesJournal (service row_of digest setup) before after end keeping
+    pub serves_journal : ServesJournal (service row_of digest stack_of setup) before after end keeping
     serves_journal = record {
       opening = record {
         basis = basis;
@@ -330,9 +330,9 @@ kept_along asks P steps (met exchange ∷ responses) first second runs holds =
     by_asked (Some asking) is = steps first runs.0 asking.command asking.receipt (subst (λ a. StepsDesk asks first a runs.0) is runs.1) holds
 
 -- the link is the one from before the opening
-pub from_streams : {X K : Type 0} (told : X → Told) (asks : K → Command → Receipt → K → Type 0) (rules : Rules) (first : K) (ahead : Outlook) (after : Around K) (window : List ℕ) (end : SessionEnd)
-    {here before : X} → here ≡ before → Serves asks rules (around (told here) first ahead) after window end → Serves asks rules (around (told before) first ahead) after window end
-from_streams told asks rules first ahead after window end same serves = subst (λ x. Serves asks rules (around (told x) first ahead) after window end) same serves
+pub from_streams : {X K : Type 0} (told : X → Told) (asks : K → Command → Receipt → K → Type 0) (ways : Ways) (first : K) (ahead : Outlook) (after : Around K) (window : List ℕ) (end : SessionEnd)
+    {here before : X} → here ≡ before → Serves asks ways (around (told here) first ahead) after window end → Serves asks ways (around (told before) first ahead) after window end
+from_streams told asks ways first ahead after window end same serves = subst (λ x. Serves asks ways (around (told x) first ahead) after window end) same serves
 
 pub moved_disk : {D : Type 0} (P : D → Type 0) {disk disk' : D} → disk' ≡ disk → P disk → P disk'
 moved_disk P same holds = subst P (sym same) holds

@@ -1,5 +1,5 @@
 -- What the files of a tree say of a run: this project's profile.
-use Rattle.std.specs.Prelude.{◌≡◌, ℕ, nat_le, if◌then◌else◌, IfSome, List, length, option_and_then, Option, None, Some, Ok, Err, Result, codes}
+use Rattle.std.specs.Prelude.{◌≡◌, ℕ, nat_le, if◌then◌else◌, IfSome, IsOk, List, length, option_and_then, Option, None, Some, Ok, Err, Result, codes}
 use Rattle.soc_report.specs.declared.error.KitError.{KitError}
 use Rattle.soc_report.specs.Kits.{refusal_of}
 use Rattle.soc_report.specs.Texts.{Files, KitTexts, missing_in, texts_in, text_at}
@@ -28,6 +28,10 @@ abbrev pub setup_in : Files → Result Setup FilesFault
 setup_in files =
     setup_of (text_at files (codes "settings.toml")) (text_at files (codes "tokens.toml"))
     (shown_at files (codes "ui.html")) (shown_at files (codes "version.json"))
+
+-- No file is missing, and neither settings nor tokens are refused: the lists are looked at, whose patterns are made.
+abbrev pub ReachesLists : Files → Type 0
+ReachesLists files = (missing_in files ≡ None) × IsOk (setup_in files)
 
 -- the lists and the symbol files are looked at last
 abbrev pub kit_says : Setup → KitTexts → Option KitError → Result Said FilesFault

@@ -10,6 +10,7 @@ pub mod Replay
 pub mod Serving
 pub mod Settings
 pub mod Setup
+pub mod Stacks
 pub mod Tasks
 pub mod TokenText
 mod SettingExamples

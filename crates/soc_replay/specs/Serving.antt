@@ -2,6 +2,7 @@
 -- profile.
 use Rattle.std.specs.Prelude.{◌≡◌, ◌⊎◌, ℕ, ◌≤◌, Bool, true, false, is_some, IfSome, IsTrue, List, ◌++◌, Option, None, Some}
 use Rattle.soc_raw.specs.Record.{Crash}
+use Rattle.soc_schema.specs.declared.permission.Permissions.{Permissions}
 use Rattle.soc_schema.specs.declared.value.Cell.{Cell}
 use Rattle.soc_edge.specs.Disk.{DiskTold, GoesOn}
 use Rattle.soc_edge.specs.Faults.{Rose}
@@ -18,6 +19,7 @@ use Rattle.soc_session.specs.declared.ending.SessionEnd.{SessionEnd}
 use Rattle.soc_session.specs.declared.ending.SessionEnd.TheVariants.{Ended, Closed, Stopped, Refused, ReadFault, WriteFault, TooLong, NoMemory}
 use Rattle.soc_desk.specs.Runs.{Answers, DeskAt}
 use Rattle.soc_replay.specs.Blames.{RoseBy, store_faults}
+use Rattle.soc_session.specs.Desk.{ways}
 use Rattle.soc_session.specs.Session.{Serves, around}
 use Rattle.soc_replay.specs.declared.ending.Keeping.{Keeping}
 use Rattle.soc_replay.specs.declared.ending.Keeping.TheVariants as K
@@ -80,14 +82,15 @@ pub record SurvivesStops (before after : DiskTold) (bytes : List ℕ) (opened se
 
 -- ---- the whole
 
--- what a desk is served by: the rows of its reports, their digest, and the setup
+-- what a desk is served by: the rows of its reports, their digest, the stacks of its crashes, and the setup
 pub record Service : Type 0 where
   pub row_of : Crash → List Cell
   pub digest : Option (List ℕ)
+  pub stack_of : Permissions → Crash → Option (List ℕ)
   pub setup : Setup
 
-abbrev pub service : (Crash → List Cell) → Option (List ℕ) → Setup → Service
-service row_of digest setup = record { row_of = row_of; digest = digest; setup = setup }
+abbrev pub service : (Crash → List Cell) → Option (List ℕ) → (Permissions → Crash → Option (List ℕ)) → Setup → Service
+service row_of digest stack_of setup = record { row_of = row_of; digest = digest; stack_of = stack_of; setup = setup }
 
 -- The journal is opened, the session's responses answer the input's messages by the setup and by one run of a desk from the
 -- log, and after such an end the reports are kept.
@@ -99,7 +102,7 @@ pub record ServesJournal (by : Service) (before after : Surroundings) (end : Ses
   pub served : DeskAt
   -- the session
   pub window : List ℕ
-  pub serves : Serves (Answers opening.basis after.disk.since) by.setup.rules
+  pub serves : Serves (Answers opening.basis after.disk.since) (ways by.setup.rules by.stack_of)
       (around before.streams opened before.outlook) (around after.streams served after.outlook) window end
   -- the keeping, after such an end and after no other
   pub where_ended : is_some (keep_reply keeping) ≡ keeps_reports end

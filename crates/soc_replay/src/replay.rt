@@ -5,7 +5,6 @@ ghost use Rattle.soc_edge.specs.Faults.{Rose};
 ghost use Rattle.soc_edge.specs.Told.{HasCause, OnlyWrites, WriteFailed};
 ghost use Rattle.soc_edge.specs.Tree.{TreeFailed};
 ghost use Rattle.soc_replay.specs.Ends.{status_of};
-ghost use Rattle.soc_replay.specs.Files.{files_say};
 ghost use Rattle.soc_edge.specs.World.{RunHasCause, RunsOn, StaysStill};
 ghost use Rattle.soc_replay.specs.Replay.{Replays, RunsBy};
 ghost use Rattle.soc_replay.specs.inner.Replay.{IsFilesFault};
@@ -13,8 +12,9 @@ ghost use Rattle.soc_replay.specs.inner.Refusals.{RefusesText};
 
 use crate::ending::RunEnd;
 use crate::refusal::{FileRefusal, FilesFault, Line, refuse};
-use crate::serving::serve;
+use crate::serving::{Purpose, serve};
 use crate::setup::set_up;
+use crate::stacks::KitStacks;
 use crate::texts::read_texts;
 use soc_edge::{Clock, Disk, Draws, Sink, Source, TellsAll, Tree, World};
 use soc_report::Kit;
@@ -52,13 +52,15 @@ fn run<T: Tree, X: Source + Sink, D: Disk, C: Clock, W: Draws, P: Maker>(
         IfOk result (RunsBy (told world.old) (told world.new)) }
     ensures fault { let told = ⟦<World<T, X, D, C, W, P> as TellsAll>⟧.told in
         IfErr result (λ fault. IfSome (told world.old).tree.files
-        (λ files. IsFilesFault (files_say files) fault)) }
+        (λ files. IsFilesFault files fault)) }
     ensures before { let told = ⟦<World<T, X, D, C, W, P> as TellsAll>⟧.told in
         OnErr result (StaysStill (told world.old).around (told world.new).around) }
     ensures runs_on { let told = ⟦<World<T, X, D, C, W, P> as TellsAll>⟧.told in
         RunsOn (told world.old) (told world.new) }
     ensures tree_cause { IsErrOf result FilesFault.Tree
         → TreeFailed (T.told world.old.tree) (T.told world.new.tree) }
+    ensures tree_first { IsErrOf result FilesFault.Tree
+        → P.faults world.new.maker ≡ P.faults world.old.maker }
     ensures maker_cause { IsErrOf result FilesFault.Maker
         → Rose (P.faults world.old.maker) (P.faults world.new.maker) }
     ensures cause { IfOk result (λ end. HasCause (status_of end ≡ 6) (status_of end ≡ 7)
@@ -69,10 +71,14 @@ fn run<T: Tree, X: Source + Sink, D: Disk, C: Clock, W: Draws, P: Maker>(
     let texts = read_texts(alloc, &mut world.tree)?;
     let setup = set_up(alloc, &texts)?;
     let kit = Kit::read(alloc, &texts.kit, &mut world.maker)?;
+    let purpose = Purpose {
+        setup: &setup,
+        reporter: &kit,
+        stacks: &KitStacks { kit: &kit },
+    };
     Ok(serve(
         alloc,
-        &setup,
-        &kit,
+        &purpose,
         &mut world.streams,
         &mut world.disk,
         &mut world.clock,

@@ -20,21 +20,30 @@ use soc_desk::{Refusal, Reply};
 use soc_edge::{Clock, Disk, Draws, Sink, Source};
 use soc_http::{Buffer, Routes};
 use soc_schema::Reporter;
-use soc_session::{SessionEnd, Setting, session};
+use soc_session::{SessionEnd, Setting, Stacks, session};
 use std::alloc::Global;
+
+/// By what a desk is served.
+#[derive(Drop)]
+pub(crate) struct Purpose<'s, R, S> {
+    pub(crate) setup: &'s Setup,
+    pub(crate) reporter: &'s R,
+    pub(crate) stacks: &'s S,
+}
 
 /// Opens the desk whose log the disk's journal keeps, answers the messages of the streams' source on their sink, and then
 /// keeps the reports that were made.
-pub(crate) fn serve<R: Reporter, X: Source + Sink, D: Disk, C: Clock, W: Draws>(
+pub(crate) fn serve<R: Reporter, S: Stacks, X: Source + Sink, D: Disk, C: Clock, W: Draws>(
     alloc: Global,
-    setup: &Setup,
-    reporter: &R,
+    purpose: &Purpose<'_, R, S>,
     streams: &mut X,
     disk: &mut D,
     clock: &mut C,
     draws: &mut W,
 ) -> RunEnd
-    ensures runs { RunsDesk (service (R.row_of reporter.now) (R.digest_of reporter.now) setup.now)
+    ensures runs { RunsDesk
+        (service (R.row_of purpose.now.reporter.now) (R.digest_of purpose.now.reporter.now)
+        (S.stack_of purpose.now.stacks.now) purpose.now.setup.now)
         (surroundings (X.told streams.old) (D.state disk.old) (outlook (C.told clock.old) (W.told draws.old)))
         (surroundings (X.told streams.new) (D.state disk.new) (outlook (C.told clock.new) (W.told draws.new)))
         result }
@@ -44,6 +53,8 @@ pub(crate) fn serve<R: Reporter, X: Source + Sink, D: Disk, C: Clock, W: Draws>(
         (X.told streams.new) }
     ensures disk_cause { status_of result ≡ 4 → DiskFailed (D.state disk.old) (D.state disk.new) }
 {
+    let reporter = purpose.reporter;
+    let setup = purpose.setup;
     let Ok(routes) = Routes::new(alloc) else {
         return RunEnd::NoMemory;
     };
@@ -59,8 +70,9 @@ pub(crate) fn serve<R: Reporter, X: Source + Sink, D: Disk, C: Clock, W: Draws>(
         alloc,
         rules: &setup.rules,
         routes: &routes,
+        stacks: purpose.stacks,
     };
-    let end = session(setting, &mut book, streams, &mut buffer, clock, draws);
+    let end = session(&setting, &mut book, streams, &mut buffer, clock, draws);
     let keeping = keep_after(end, &mut book);
     let _disk = book.into_disk();
     RunEnd::Served(end, keeping)

@@ -17,13 +17,13 @@ use Rattle.soc_desk.specs.Opens.{OpensWith, as_told, log_of}
 use Rattle.soc_desk.specs.Runs.{DeskAt}
 use Rattle.soc_desk.specs.State.{Allowed, entries_of, kept_of, settled}
 use Rattle.soc_book.specs.declared.book.Book.{Book}
-use Rattle.soc_book.specs.Books.{StandsFor, crashes_in, disk_of, limits_of, log_in, reporter_of}
+use Rattle.soc_book.specs.Books.{StandsFor, disk_of, limits_of, log_in, reporter_of}
 use Rattle.soc_book.specs.Openings.{IsBasisOf, OpensBook}
 use Rattle.soc_book.proofs.Kept.{kept_of-log, told_all}
 use Rattle.soc_service.specs.declared.change.Change.{Change as Turned}
 use Rattle.soc_service.specs.Turns.{Knows}
 use Rattle.soc_crew.specs.Gains.{Gains}
-use Rattle.soc_turns.specs.Changes.{body_at, changes_at}
+use Rattle.soc_turns.specs.Changes.{changes_at}
 use Rattle.soc_turns.specs.Grounds.{basis_of, desk_basis}
 use Rattle.soc_turns.specs.Runs.{HasRun, IsOver, RunsFrom}
 use Rattle.soc_turns.proofs.Sharing.{same_basis}
@@ -72,7 +72,7 @@ module _ {D R : Type 0} {d : disk.Ghosts D} {r : reporter.Ghosts R} (basis : Bas
 module _ {D R : Type 0} {d : disk.Ghosts D} {r : reporter.Ghosts R} (told : Bool) where
   -- what threads see of a book's log
   abbrev log_by : Book D R d r → List Turned
-  log_by book = changes_at (body_at told (disk_of book).content) (log_in book) (crashes_in book)
+  log_by book = changes_at told (disk_of book).content (log_in book)
 
   -- turns have led from the one book to the other
   pub record HasTurned (first second : Book D R d r) (kept : ℕ) : Type 0 where

@@ -9,6 +9,7 @@ use Rattle.soc_replay.specs.declared.ending.RunEnd.{RunEnd}
 use Rattle.soc_replay.specs.declared.ending.RunEnd.TheVariants as R
 use Rattle.soc_replay.specs.declared.setup.Setup.{Setup}
 use Rattle.soc_replay.specs.Serving.{Service, service}
+use Rattle.soc_replay.specs.Stacks.{stacks_by}
 use Rattle.soc_replay.specs.Ends as run
 use Rattle.soc_replay.specs.Opening.{OpensNot}
 use Rattle.soc_edge.specs.World.{Outside, StaysQuiet, Surroundings}
@@ -27,10 +28,10 @@ use Rattle.soc_serve.specs.inner.Serving.{ServesDesk}
 
 -- a kit is seen as its texts
 pub serves_with : (kit texts : KitTexts) (setup : Setup) (kept : ℕ) (before after : Surroundings) (end : HostEnd) → kit ≡ texts
-    → ServesDesk (service (rows_of kit) (digest_of kit) setup) kept before after end
-    → ServesDesk (service (rows_of texts) (digest_of texts) setup) kept before after end
+    → ServesDesk (service (rows_of kit) (digest_of kit) (stacks_by kit) setup) kept before after end
+    → ServesDesk (service (rows_of texts) (digest_of texts) (stacks_by texts) setup) kept before after end
 serves_with kit texts setup kept before after end same serves =
-    subst (λ k. ServesDesk (service (rows_of k) (digest_of k) setup) kept before after end) same serves
+    subst (λ k. ServesDesk (service (rows_of k) (digest_of k) (stacks_by k) setup) kept before after end) same serves
 
 early_of : (kept : ℕ) (before after : Outside) (end : RunEnd) → HostsFiles kept before after (H.Before end) → EndsEarly before after end
 early_of kept before after R.JournalRefused files = record { said = files.said; says = files.says; runs = files.serves.not }

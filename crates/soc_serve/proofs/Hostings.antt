@@ -3,6 +3,8 @@ use Rattle.std.proofs.Common.{◌≡◌, ℕ, Bool, IsTrue, List, [], ◌∷◌,
 use Rattle.std.specs.Prelude.{is_some}
 use Rattle.std.proofs.Math.Logic.{∥∥₁_elim, ∥∥₁_map}
 use Rattle.std.proofs.lemmas.List.{append_cancel_left, map-append}
+use Rattle.soc_raw.specs.Record.{Crash}
+use Rattle.soc_schema.specs.declared.permission.Permissions.{Permissions}
 use Rattle.soc_schema.specs.declared.reporter.Reporter as reporter
 use Rattle.soc_edge.specs.Disk.{DiskTold, IsDisk, GoesOn}
 use Rattle.soc_edge.specs.declared.disk.Disk as disk
@@ -83,7 +85,7 @@ same_kept basis log added seen kept is count =
     ap (λ l. kept_in l) (sym (events_are basis added))
     ∙ (ap (λ l. kept_in (events_in l)) (append_cancel_left (changes_of basis log) (changes_of basis added) seen (sym (map-append (change_of basis) log added) ∙ is)) ∙ count)
 
-module _ {D R : Type 0} {d : disk.Ghosts D} {r : reporter.Ghosts R} (told : Bool) (by : R) (setup : Setup) (kept : ℕ) (before after : Surroundings) (end : HostEnd)
+module _ {D R : Type 0} {d : disk.Ghosts D} {r : reporter.Ghosts R} (told : Bool) (by : R) (stack_of : Permissions → Crash → Option (List ℕ)) (setup : Setup) (kept : ℕ) (before after : Surroundings) (end : HostEnd)
     (steady : is_some before.disk.content ≡ told) (first second : Book D R d r) (reporter_is : reporter_of first ≡ by) (limits_are : limits_of first ≡ setup.limits)
     (to_opened : GoesOn before.disk (disk_of first))
     (opens : (basis : Basis) → IsBasisOf (r.row_of by) (r.digest_of by) setup.limits before.disk.content basis → OpensBook basis before.disk (disk_of first) (StandsFor basis first))
@@ -151,7 +153,7 @@ module _ {D R : Type 0} {d : disk.Ghosts D} {r : reporter.Ghosts R} (told : Bool
       now = over.1 (told_so refl);
     }
 
-    desk_of : HostsDesk (service (r.row_of by) (r.digest_of by) setup) kept before after end
+    desk_of : HostsDesk (service (r.row_of by) (r.digest_of by) stack_of setup) kept before after end
     desk_of = record {
       opening = record {
         basis = basis;
@@ -181,9 +183,9 @@ module _ {D R : Type 0} {d : disk.Ghosts D} {r : reporter.Ghosts R} (told : Bool
       survives = survives before.disk.content opened.stands (λ is. sym steady ∙ is);
     }
 
-  pub serves_desk : ∥ HasTurned told first second kept ∥₁ → ServesDesk (service (r.row_of by) (r.digest_of by) setup) kept before after end
+  pub serves_desk : ∥ HasTurned told first second kept ∥₁ → ServesDesk (service (r.row_of by) (r.digest_of by) stack_of setup) kept before after end
   serves_desk turned =
-      as_served (service (r.row_of by) (r.digest_of by) setup) kept before after end (∥∥₁_map turned (λ (t : HasTurned told first second kept). desk_of t))
+      as_served (service (r.row_of by) (r.digest_of by) stack_of setup) kept before after end (∥∥₁_map turned (λ (t : HasTurned told first second kept). desk_of t))
 
 -- nothing was swept
 pub unswept : (told : Told) (disk : DiskTold) (early late : Outlook) → IsDisk disk → (basis : Basis) (state : State)

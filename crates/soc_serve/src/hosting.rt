@@ -5,7 +5,6 @@ ghost use Rattle.soc_edge.specs.Faults.{Rose};
 ghost use Rattle.soc_edge.specs.Tree.{TreeFailed};
 ghost use Rattle.soc_edge.specs.World.{StaysStill};
 ghost use Rattle.soc_listen.specs.Told.{HasEnded};
-ghost use Rattle.soc_replay.specs.Files.{files_say};
 ghost use Rattle.soc_replay.specs.inner.Replay.{IsFilesFault};
 ghost use Rattle.soc_words.specs.Words.{words_of};
 ghost use Rattle.soc_serve.specs.Ends.{status_of};
@@ -23,7 +22,7 @@ use soc_crew::Crew;
 use soc_edge::{Clock, Draws, Sink, Telling, TellsAll, Tree, World};
 use soc_listen::Listener;
 use soc_pool::RingEnd;
-use soc_replay::{FilesFault, RunEnd, refuse_text, tell_usage};
+use soc_replay::{FilesFault, KitStacks, RunEnd, refuse_text, tell_usage};
 use soc_report::Kit;
 use soc_service::Gate;
 use soc_siglists::Maker;
@@ -66,7 +65,7 @@ pub fn run_hall<
     world: &mut World<T, K, D, C, W, P>,
     listener: L,
     gate: &G,
-    served: &mut Tally<L::Conn>,
+    served: &mut Tally<L::Link>,
 ) -> (u8, L, Option<RingEnd>)
     requires served { served.old ≡ nothing_served }
     ensures hosts { let told = ⟦<World<T, K, D, C, W, P> as TellsAll>⟧.told in
@@ -137,7 +136,7 @@ fn host<
     site: &Site<'_, R, G>,
     world: &mut World<T, K, D, C, W, P>,
     listener: L,
-    served: &mut Tally<L::Conn>,
+    served: &mut Tally<L::Link>,
 ) -> (HostEnd, L, Option<RingEnd>)
     requires crew { IsCrew site.now.crew }
     requires served { served.old ≡ nothing_served }
@@ -185,7 +184,7 @@ fn by_files<
     site: &Site<'_, R, G>,
     world: &mut World<T, K, D, C, W, P>,
     listener: L,
-    served: &mut Tally<L::Conn>,
+    served: &mut Tally<L::Link>,
 ) -> (Result<HostEnd, FilesFault>, L, Option<RingEnd>)
     requires crew { IsCrew site.now.crew }
     requires served { served.old ≡ nothing_served }
@@ -193,7 +192,7 @@ fn by_files<
         IfOk result.0 (HostsFiles served.new.kept (told world.old) (told world.new)) }
     ensures fault { IfErr result.0
         (λ fault. IfSome (T.told world.old.tree).files
-        (λ files. IsFilesFault (files_say files) fault)) }
+        (λ files. IsFilesFault files fault)) }
     ensures before { let told = ⟦<World<T, K, D, C, W, P> as TellsAll>⟧.told in
         OnErr result.0 (StaysStill (told world.old).around (told world.new).around) }
     ensures unserved { OnErr result.0 ((served.new ≡ nothing_served) × (result.1 ≡ listener)) }
@@ -205,6 +204,8 @@ fn by_files<
     ensures no_fewer { (L.told listener).faults ≤ (L.told result.1).faults }
     ensures tree_cause { IsErrOf result.0 FilesFault.Tree
         → TreeFailed (T.told world.old.tree) (T.told world.new.tree) }
+    ensures tree_first { IsErrOf result.0 FilesFault.Tree
+        → P.faults world.new.maker ≡ P.faults world.old.maker }
     ensures maker_cause { IsErrOf result.0 FilesFault.Maker
         → Rose (P.faults world.old.maker) (P.faults world.new.maker) }
     ensures cause { let told = ⟦<World<T, K, D, C, W, P> as TellsAll>⟧.told in
@@ -226,6 +227,7 @@ fn by_files<
         site,
         setup: &setup,
         reporter: &kit,
+        stacks: &KitStacks { kit: &kit },
     };
     let (end, listener, jobs) = serve(
         &purpose,

@@ -28,7 +28,7 @@ use soc_pool::RingEnd;
 use soc_replay::{RunEnd, Setup, open};
 use soc_schema::Reporter;
 use soc_service::Gate;
-use soc_session::Setting;
+use soc_session::{Setting, Stacks};
 use soc_turns::SharedBook;
 use std::alloc::Global;
 use std::snapshot::Snapshot;
@@ -46,10 +46,11 @@ pub(crate) struct Site<'s, R, G> {
 
 /// Who serves a listener, and by what.
 #[derive(Drop)]
-pub(crate) struct Purpose<'s, R, G, Q> {
+pub(crate) struct Purpose<'s, R, G, Q, S> {
     pub(crate) site: &'s Site<'s, R, G>,
     pub(crate) setup: &'s Setup,
     pub(crate) reporter: &'s Q,
+    pub(crate) stacks: &'s S,
 }
 
 /// Opens the desk whose log the disk's journal keeps, has a crew answer the messages of the listener's connections, and then
@@ -57,6 +58,7 @@ pub(crate) struct Purpose<'s, R, G, Q> {
 pub(crate) fn serve<
     R: Threads + Wait + Sync,
     Q: Reporter + Sync,
+    S: Stacks + Send + Sync,
     L: Listener,
     K: Sink,
     D: Telling + Send,
@@ -64,19 +66,19 @@ pub(crate) fn serve<
     W: Draws + Send,
     G: Gate + Sync,
 >(
-    purpose: &Purpose<'_, R, G, Q>,
+    purpose: &Purpose<'_, R, G, Q, S>,
     listener: L,
     output: &mut K,
     disk: &mut D,
     clock: &mut C,
     draws: &mut W,
-    served: &mut Tally<L::Conn>,
+    served: &mut Tally<L::Link>,
 ) -> (HostEnd, L, Option<RingEnd>)
     requires crew { IsCrew purpose.now.site.now.crew }
     requires served { served.old ≡ nothing_served }
     ensures serves { ServesDesk
         (service (Q.row_of purpose.now.reporter.now) (Q.digest_of purpose.now.reporter.now)
-        purpose.now.setup.now) served.new.kept
+        (S.stack_of purpose.now.stacks.now) purpose.now.setup.now) served.new.kept
         (surroundings (K.told output.old) (D.state disk.old)
         (outlook (C.told clock.old) (W.told draws.old)))
         (surroundings (K.told output.new) (D.state disk.new)
@@ -110,6 +112,7 @@ pub(crate) fn serve<
             alloc,
             rules: &setup.rules,
             routes: &routes,
+            stacks: purpose.stacks,
         },
         reporter,
         gate: purpose.site.gate,

@@ -23,7 +23,7 @@ use soc_listen::MemListener;
 use soc_made::made_crash;
 use soc_replay::Setup;
 use soc_report::Kit;
-use soc_schema::Reporter;
+use soc_schema::{Bare, Reporter};
 use soc_service::Gate;
 use soc_session::Setting;
 use soc_siglists::RegexMaker;
@@ -92,7 +92,7 @@ fn play<R: Threads + Wait + Sync, G: Gate + Sync>(
     play_by(rt, alloc, words, &setup, &kit, gate)
 }
 
-/// Plays a storm by a setup and a reporter.
+/// Plays a storm by a setup and a reporter. Nobody asks for a stack in it.
 fn play_by<'s, R: Threads + Wait + Sync, P: Reporter + Sync, G: Gate + Sync>(
     rt: &'s R,
     alloc: Global,
@@ -119,6 +119,7 @@ fn play_by<'s, R: Threads + Wait + Sync, P: Reporter + Sync, G: Gate + Sync>(
             alloc,
             rules: &setup.rules,
             routes: &routes,
+            stacks: &Bare,
         },
         reporter,
         gate,
@@ -129,7 +130,7 @@ fn play_by<'s, R: Threads + Wait + Sync, P: Reporter + Sync, G: Gate + Sync>(
 /// Plays a storm by a crew over a disk.
 fn play_on<'s, R: Threads + Wait + Sync, P: Reporter + Sync, G: Gate + Sync>(
     rt: &'s R,
-    setting: CrewSetting<'s, P, G>,
+    setting: CrewSetting<'s, Bare, P, G>,
     words: &Words,
     limits: Limits,
     disk: &'s mut MemDisk,

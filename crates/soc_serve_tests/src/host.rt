@@ -6,7 +6,7 @@ use crate::expect::{holds, same};
 use soc_base::{Blobs, Bytes, NoMemory, Text};
 use soc_collect::Tally;
 use soc_edge::{BytesList, Ids16, MemClock, MemDisk, MemDraws, MemSink, MemTree, Numbers, World};
-use soc_listen::{MemConn, MemListener};
+use soc_listen::{MemLink, MemListener};
 use soc_serve::run_hall;
 use soc_service::{Gate, OpenGate};
 use soc_siglists::RegexMaker;
@@ -47,7 +47,7 @@ struct Ran {
     status: u8,
     listener: MemListener,
     output: MemSink,
-    served: Tally<MemConn>,
+    served: Tally<MemLink>,
 }
 
 // The words of a run, as the program takes them.

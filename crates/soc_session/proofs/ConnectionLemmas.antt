@@ -24,7 +24,7 @@ use Rattle.soc_session.specs.declared.ending.SessionEnd.{SessionEnd}
 use Rattle.soc_session.specs.declared.ending.SessionEnd.TheVariants.{Ended, Closed, Stopped, Refused, ReadFault, WriteFault, TooLong, NoMemory}
 use Rattle.soc_session.specs.declared.rules.Rules.{Rules}
 use Rattle.soc_session.specs.inner.Arrivals.{Arrives, IsMessage, ReadsMessage}
-use Rattle.soc_session.specs.Desk.{Exchange, IsExchange, StepsDesk, says_stopped}
+use Rattle.soc_session.specs.Desk.{Exchange, IsExchange, StepsDesk, Ways, says_stopped}
 use Rattle.soc_session.specs.Messages.{RefusedAt}
 use Rattle.soc_session.specs.Plan.{Drawn}
 use Rattle.soc_session.specs.Replies.{closing}
@@ -43,10 +43,10 @@ pub no-response : (budget : ℕ) (P : ℕ → Type 0) → P 0 → EndsAtEdge bud
 no-response budget P p = record { goes_on = tt; within = λ before last is. absurd (no-last before last is); ends = p }
 
 -- the session ends at a message's edge
-pub Serves-edge : {K : Type 0} (asks : K → Command → Receipt → K → Type 0) (rules : Rules) (window behind : List ℕ) (budget : ℕ) (desk : K) (x : Outlook) (before after : Told) (end : SessionEnd) (given : List ℕ)
+pub Serves-edge : {K : Type 0} (asks : K → Command → Receipt → K → Type 0) (ways : Ways) (window behind : List ℕ) (budget : ℕ) (desk : K) (x : Outlook) (before after : Told) (end : SessionEnd) (given : List ℕ)
     → Gives before.left after.left given → Leaves end (window ++ given) behind after.left → WritesAll end before.held after.held [] → IsEnd end budget []
-    → ServesFrom asks rules window budget (around before desk x) (around after desk x) behind end
-Serves-edge {K} asks rules window behind budget desk x before after end given gives leaves writes ends = record {
+    → ServesFrom asks ways window budget (around before desk x) (around after desk x) behind end
+Serves-edge {K} asks ways window behind budget desk x before after end given gives leaves writes ends = record {
   responses = [];
   by_rules = tt;
   runs = refl;
@@ -60,25 +60,25 @@ Serves-edge {K} asks rules window behind budget desk x before after end given gi
   ends = ends;
 }
 
-serves-ended : {K : Type 0} (asks : K → Command → Receipt → K → Type 0) (rules : Rules) (window behind : List ℕ) (desk : K) (x : Outlook) (before after : Told) (given : List ℕ)
-    → Gives before.left after.left given → ReadsMessage rules (window ++ given) (Ok None) behind after.left → after.held ≡ before.held → (budget : ℕ) → 0 < budget
-    → ServesFrom asks rules window budget (around before desk x) (around after desk x) behind Ended
-serves-ended asks rules window behind desk x before after given gives reads stays budget some =
-    Serves-edge asks rules window behind budget desk x before after Ended given gives (reads.0, reads.2) (Takes-none before.held after.held stays)
+serves-ended : {K : Type 0} (asks : K → Command → Receipt → K → Type 0) (ways : Ways) (window behind : List ℕ) (desk : K) (x : Outlook) (before after : Told) (given : List ℕ)
+    → Gives before.left after.left given → ReadsMessage ways.rules (window ++ given) (Ok None) behind after.left → after.held ≡ before.held → (budget : ℕ) → 0 < budget
+    → ServesFrom asks ways window budget (around before desk x) (around after desk x) behind Ended
+serves-ended asks ways window behind desk x before after given gives reads stays budget some =
+    Serves-edge asks ways window behind budget desk x before after Ended given gives (reads.0, reads.2) (Takes-none before.held after.held stays)
     (no-response budget (λ bytes. bytes < budget) some)
 
-pub Serves-failed : {K : Type 0} (asks : K → Command → Receipt → K → Type 0) (rules : Rules) (window behind : List ℕ) (desk : K) (x : Outlook) (before after : Told) (given : List ℕ)
-    → Gives before.left after.left given → ReadsMessage rules (window ++ given) (Err H.ReadFault) behind after.left → after.held ≡ before.held → (budget : ℕ) → 0 < budget
-    → ServesFrom asks rules window budget (around before desk x) (around after desk x) behind ReadFault
-Serves-failed asks rules window behind desk x before after given gives reads stays budget some =
-    Serves-edge asks rules window behind budget desk x before after ReadFault given gives reads (Takes-none before.held after.held stays)
+pub Serves-failed : {K : Type 0} (asks : K → Command → Receipt → K → Type 0) (ways : Ways) (window behind : List ℕ) (desk : K) (x : Outlook) (before after : Told) (given : List ℕ)
+    → Gives before.left after.left given → ReadsMessage ways.rules (window ++ given) (Err H.ReadFault) behind after.left → after.held ≡ before.held → (budget : ℕ) → 0 < budget
+    → ServesFrom asks ways window budget (around before desk x) (around after desk x) behind ReadFault
+Serves-failed asks ways window behind desk x before after given gives reads stays budget some =
+    Serves-edge asks ways window behind budget desk x before after ReadFault given gives reads (Takes-none before.held after.held stays)
     (no-response budget (λ bytes. bytes < budget) some)
 
-pub Serves-wanting : {K : Type 0} (asks : K → Command → Receipt → K → Type 0) (rules : Rules) (window behind : List ℕ) (desk : K) (x : Outlook) (before after : Told) (given : List ℕ) (error : HeadError)
-    → Gives before.left after.left given → ReadsMessage rules (window ++ given) (Err error) behind after.left → after.held ≡ before.held → (budget : ℕ) → 0 < budget
-    → ServesFrom asks rules window budget (around before desk x) (around after desk x) behind NoMemory
-Serves-wanting asks rules window behind desk x before after given error gives reads stays budget some =
-    Serves-edge asks rules window behind budget desk x before after NoMemory given gives tt (Takes-none before.held after.held stays)
+pub Serves-wanting : {K : Type 0} (asks : K → Command → Receipt → K → Type 0) (ways : Ways) (window behind : List ℕ) (desk : K) (x : Outlook) (before after : Told) (given : List ℕ) (error : HeadError)
+    → Gives before.left after.left given → ReadsMessage ways.rules (window ++ given) (Err error) behind after.left → after.held ≡ before.held → (budget : ℕ) → 0 < budget
+    → ServesFrom asks ways window budget (around before desk x) (around after desk x) behind NoMemory
+Serves-wanting asks ways window behind desk x before after given error gives reads stays budget some =
+    Serves-edge asks ways window behind budget desk x before after NoMemory given gives tt (Takes-none before.held after.held stays)
     (no-response budget (λ bytes. bytes < budget) some)
 
 -- a budget that isn't used up
@@ -104,10 +104,10 @@ cuts held held' response front = record {
 behind-one : (budget : ℕ) (response : Response) (P : Response → Type 0) → 0 < budget → P response → EndsBehind budget (response ∷ []) P
 behind-one budget response P some p = record { before = []; last = response; responses_are = refl; goes_on = tt; within = some; ends = p }
 
-refused-response : {K : Type 0} (asks : K → Command → Receipt → K → Type 0) (rules : Rules) (window behind : List ℕ) (budget : ℕ) (desk : K) (x : Outlook) (before after : Told) (end : SessionEnd) (error : HeadError) (given : List ℕ)
+refused-response : {K : Type 0} (asks : K → Command → Receipt → K → Type 0) (ways : Ways) (window behind : List ℕ) (budget : ℕ) (desk : K) (x : Outlook) (before after : Told) (end : SessionEnd) (error : HeadError) (given : List ℕ)
     → Gives before.left after.left given → RefusedAt (window ++ given) after.left error → Leaves end (window ++ given) behind after.left → WritesAll end before.held after.held (refused error ∷ []) → IsEnd end budget (refused error ∷ [])
-    → ServesFrom asks rules window budget (around before desk x) (around after desk x) behind end
-refused-response {K} asks rules window behind budget desk x before after end error given gives refusal leaves writes ends = record {
+    → ServesFrom asks ways window budget (around before desk x) (around after desk x) behind end
+refused-response {K} asks ways window behind budget desk x before after end error given gives refusal leaves writes ends = record {
   responses = refused error ∷ [];
   by_rules = (tt, tt);
   runs = refl;
@@ -130,33 +130,33 @@ refused-at rules text rest left H.CutShort n m p = p
 refused-at rules text rest left H.ReadFault n m p = absurd (n refl)
 refused-at rules text rest left H.NoMemory n m p = absurd (m refl)
 
-pub Serves-refused : {K : Type 0} (asks : K → Command → Receipt → K → Type 0) (rules : Rules) (window behind : List ℕ) (desk : K) (x : Outlook) (before after : Told) (given : List ℕ) (error : HeadError) (end : SessionEnd)
-    → (error ≡ H.ReadFault → ⊥) → (error ≡ H.NoMemory → ⊥) → Gives before.left after.left given → ReadsMessage rules (window ++ given) (Err error) behind after.left → Refuses before.held after.held error end → (budget : ℕ) → 0 < budget
-    → ServesFrom asks rules window budget (around before desk x) (around after desk x) behind end
-Serves-refused asks rules window behind desk x before after given error Refused n m gives reads how budget some =
-    refused-response asks rules window behind budget desk x before after Refused error given gives (refused-at rules _ _ after.left error n m reads) tt
+pub Serves-refused : {K : Type 0} (asks : K → Command → Receipt → K → Type 0) (ways : Ways) (window behind : List ℕ) (desk : K) (x : Outlook) (before after : Told) (given : List ℕ) (error : HeadError) (end : SessionEnd)
+    → (error ≡ H.ReadFault → ⊥) → (error ≡ H.NoMemory → ⊥) → Gives before.left after.left given → ReadsMessage ways.rules (window ++ given) (Err error) behind after.left → Refuses before.held after.held error end → (budget : ℕ) → 0 < budget
+    → ServesFrom asks ways window budget (around before desk x) (around after desk x) behind end
+Serves-refused asks ways window behind desk x before after given error Refused n m gives reads how budget some =
+    refused-response asks ways window behind budget desk x before after Refused error given gives (refused-at ways.rules _ _ after.left error n m reads) tt
     (whole before.held after.held (refused error) how) (behind-one budget (refused error) _ some refl)
-Serves-refused asks rules window behind desk x before after given error WriteFault n m gives reads how budget some =
-    refused-response asks rules window behind budget desk x before after WriteFault error given gives (refused-at rules _ _ after.left error n m reads) tt
+Serves-refused asks ways window behind desk x before after given error WriteFault n m gives reads how budget some =
+    refused-response asks ways window behind budget desk x before after WriteFault error given gives (refused-at ways.rules _ _ after.left error n m reads) tt
     (cuts before.held after.held (refused error) how) (behind-one budget (refused error) _ some tt)
-Serves-refused asks rules window behind desk x before after given error NoMemory n m gives reads how budget some =
-    Serves-wanting asks rules window behind desk x before after given error gives reads how budget some
-Serves-refused asks rules window behind desk x before after given error Ended n m gives reads how budget some = absurd how
-Serves-refused asks rules window behind desk x before after given error Closed n m gives reads how budget some = absurd how
-Serves-refused asks rules window behind desk x before after given error Stopped n m gives reads how budget some = absurd how
-Serves-refused asks rules window behind desk x before after given error ReadFault n m gives reads how budget some = absurd how
-Serves-refused asks rules window behind desk x before after given error TooLong n m gives reads how budget some = absurd how
+Serves-refused asks ways window behind desk x before after given error NoMemory n m gives reads how budget some =
+    Serves-wanting asks ways window behind desk x before after given error gives reads how budget some
+Serves-refused asks ways window behind desk x before after given error Ended n m gives reads how budget some = absurd how
+Serves-refused asks ways window behind desk x before after given error Closed n m gives reads how budget some = absurd how
+Serves-refused asks ways window behind desk x before after given error Stopped n m gives reads how budget some = absurd how
+Serves-refused asks ways window behind desk x before after given error ReadFault n m gives reads how budget some = absurd how
+Serves-refused asks ways window behind desk x before after given error TooLong n m gives reads how budget some = absurd how
 
 -- ---- a message
 
 hands-one : (x y : Outlook) (exchange : Exchange) → HandsDrawn x y exchange.drawn → HandsResponses x y (met exchange ∷ [])
 hands-one x y exchange hands = subst (HandsDrawn x y) (sym (append-nil exchange.drawn)) hands
 
-met-response : {K : Type 0} (asks : K → Command → Receipt → K → Type 0) (rules : Rules) (window behind : List ℕ) (budget : ℕ) (desk desk' : K) (x y : Outlook) (before after : Told) (end : SessionEnd) (exchange : Exchange) (given : List ℕ)
-    → IsExchange rules exchange → StepsDesk asks desk exchange.asked desk' → Gives before.left after.left given → TakesMessage (window ++ given) exchange.message behind → HandsDrawn x y exchange.drawn
+met-response : {K : Type 0} (asks : K → Command → Receipt → K → Type 0) (ways : Ways) (window behind : List ℕ) (budget : ℕ) (desk desk' : K) (x y : Outlook) (before after : Told) (end : SessionEnd) (exchange : Exchange) (given : List ℕ)
+    → IsExchange ways exchange → StepsDesk asks desk exchange.asked desk' → Gives before.left after.left given → TakesMessage (window ++ given) exchange.message behind → HandsDrawn x y exchange.drawn
     → Leaves end behind behind after.left → WritesAll end before.held after.held (met exchange ∷ []) → IsEnd end budget (met exchange ∷ [])
-    → ServesFrom asks rules window budget (around before desk x) (around after desk' y) behind end
-met-response {K} asks rules window behind budget desk desk' x y before after end exchange given is steps gives takes hands leaves writes ends = record {
+    → ServesFrom asks ways window budget (around before desk x) (around after desk' y) behind end
+met-response {K} asks ways window behind budget desk desk' x y before after end exchange given is steps gives takes hands leaves writes ends = record {
   responses = met exchange ∷ [];
   by_rules = (is, tt);
   runs = (desk', steps, refl);
@@ -173,18 +173,18 @@ met-response {K} asks rules window behind budget desk desk' x y before after end
 closing_by : (stopped last : Bool) (end : SessionEnd) → Option SessionEnd
 closing_by stopped last end = if stopped then Some Stopped else (if last then Some Closed else None)
 
-next-on : {K : Type 0} (asks : K → Command → Receipt → K → Type 0) (rules : Rules) (window behind : List ℕ) (desk desk' : K) (x y : Outlook) (before after : Told) (exchange : Exchange) (given : List ℕ) (stopped last : Bool)
+next-on : {K : Type 0} (asks : K → Command → Receipt → K → Type 0) (ways : Ways) (window behind : List ℕ) (desk desk' : K) (x y : Outlook) (before after : Told) (exchange : Exchange) (given : List ℕ) (stopped last : Bool)
     → says_stopped exchange.asked ≡ stopped → exchange.message.head.last ≡ last
-    → IsExchange rules exchange → StepsDesk asks desk exchange.asked desk' → Gives before.left after.left given → TakesMessage (window ++ given) exchange.message behind → HandsDrawn x y exchange.drawn
+    → IsExchange ways exchange → StepsDesk asks desk exchange.asked desk' → Gives before.left after.left given → TakesMessage (window ++ given) exchange.message behind → HandsDrawn x y exchange.drawn
     → Takes before.held after.held (response_text (met exchange))
-    → StepsOn asks rules window (around before desk x) behind (around after desk' y) (next_of stopped last (response_bytes (met exchange)))
-next-on asks rules window behind desk desk' x y before after exchange given true last s l is steps gives takes hands wrote = λ budget some.
-    met-response asks rules window behind budget desk desk' x y before after Stopped exchange given is steps gives takes hands refl
+    → StepsOn asks ways window (around before desk x) behind (around after desk' y) (next_of stopped last (response_bytes (met exchange)))
+next-on asks ways window behind desk desk' x y before after exchange given true last s l is steps gives takes hands wrote = λ budget some.
+    met-response asks ways window behind budget desk desk' x y before after Stopped exchange given is steps gives takes hands refl
     (whole before.held after.held (met exchange) wrote) (behind-one budget (met exchange) _ some (rw s refl))
-next-on asks rules window behind desk desk' x y before after exchange given false true s l is steps gives takes hands wrote = λ budget some.
-    met-response asks rules window behind budget desk desk' x y before after Closed exchange given is steps gives takes hands refl
+next-on asks ways window behind desk desk' x y before after exchange given false true s l is steps gives takes hands wrote = λ budget some.
+    met-response asks ways window behind budget desk desk' x y before after Closed exchange given is steps gives takes hands refl
     (whole before.held after.held (met exchange) wrote) (behind-one budget (met exchange) _ some (rw (s, l) refl))
-next-on asks rules window behind desk desk' x y before after exchange given false false s l is steps gives takes hands wrote = record {
+next-on asks ways window behind desk desk' x y before after exchange given false false s l is steps gives takes hands wrote = record {
   exchange = exchange;
   is = is;
   steps = steps;
@@ -197,55 +197,55 @@ next-on asks rules window behind desk desk' x y before after exchange given fals
   bytes_are = refl;
 }
 
-written-on : {K : Type 0} (asks : K → Command → Receipt → K → Type 0) (rules : Rules) (window behind : List ℕ) (desk desk' : K) (x y : Outlook) (before after : Told) (exchange : Exchange) (given : List ℕ) (next : Next)
-    → IsExchange rules exchange → StepsDesk asks desk exchange.asked desk' → Gives before.left after.left given → TakesMessage (window ++ given) exchange.message behind → HandsDrawn x y exchange.drawn
+written-on : {K : Type 0} (asks : K → Command → Receipt → K → Type 0) (ways : Ways) (window behind : List ℕ) (desk desk' : K) (x y : Outlook) (before after : Told) (exchange : Exchange) (given : List ℕ) (next : Next)
+    → IsExchange ways exchange → StepsDesk asks desk exchange.asked desk' → Gives before.left after.left given → TakesMessage (window ++ given) exchange.message behind → HandsDrawn x y exchange.drawn
     → WritesNext before.held after.held exchange next
-    → StepsOn asks rules window (around before desk x) behind (around after desk' y) next
-written-on asks rules window behind desk desk' x y before after exchange given next is steps gives takes hands (inl (wrote, by)) =
-    subst (StepsOn asks rules window (around before desk x) behind (around after desk' y)) (sym by)
-    (next-on asks rules window behind desk desk' x y before after exchange given _ _ refl refl is steps gives takes hands wrote)
-written-on asks rules window behind desk desk' x y before after exchange given next is steps gives takes hands (inr (front, by)) =
-    subst (StepsOn asks rules window (around before desk x) behind (around after desk' y)) (sym by)
-    (λ budget some. met-response asks rules window behind budget desk desk' x y before after WriteFault exchange given is steps gives takes hands tt
+    → StepsOn asks ways window (around before desk x) behind (around after desk' y) next
+written-on asks ways window behind desk desk' x y before after exchange given next is steps gives takes hands (inl (wrote, by)) =
+    subst (StepsOn asks ways window (around before desk x) behind (around after desk' y)) (sym by)
+    (next-on asks ways window behind desk desk' x y before after exchange given _ _ refl refl is steps gives takes hands wrote)
+written-on asks ways window behind desk desk' x y before after exchange given next is steps gives takes hands (inr (front, by)) =
+    subst (StepsOn asks ways window (around before desk x) behind (around after desk' y)) (sym by)
+    (λ budget some. met-response asks ways window behind budget desk desk' x y before after WriteFault exchange given is steps gives takes hands tt
     (cuts before.held after.held (met exchange) front) (behind-one budget (met exchange) _ some tt))
 
 -- a message that came whole was answered
-pub Steps-on : {K : Type 0} (asks : K → Command → Receipt → K → Type 0) (rules : Rules) (window behind : List ℕ) (desk desk' : K) (x y : Outlook) (before middle after : Told) (incoming : Incoming) (next : Next)
-    → Arrives rules before middle window (Ok (Some incoming)) behind → OnlyWrites middle after → Responds asks rules incoming desk desk' x y middle.held after.held next
-    → StepsOn asks rules window (around before desk x) behind (around after desk' y) next
-Steps-on {K} asks rules window behind desk desk' x y before middle after incoming next p wrote_only responds =
+pub Steps-on : {K : Type 0} (asks : K → Command → Receipt → K → Type 0) (ways : Ways) (window behind : List ℕ) (desk desk' : K) (x y : Outlook) (before middle after : Told) (incoming : Incoming) (next : Next)
+    → Arrives ways.rules before middle window (Ok (Some incoming)) behind → OnlyWrites middle after → Responds asks ways incoming desk desk' x y middle.held after.held next
+    → StepsOn asks ways window (around before desk x) behind (around after desk' y) next
+Steps-on {K} asks ways window behind desk desk' x y before middle after incoming next p wrote_only responds =
     let message = p.reads.0 in
     let reply = responds.reply message p.reads.1 in
     let exchange = reply.0 in
     let gives : Gives before.left after.left p.given = subst (λ (l : Option (List ℕ)). Gives before.left l p.given) (sym wrote_only.left_stays) p.gives.gives in
     let takes : TakesMessage (window ++ p.given) exchange.message behind = subst (λ (m : Message). TakesMessage (window ++ p.given) m behind) (sym reply.1) p.reads.2 in
     let wrote : WritesNext before.held after.held exchange next = subst (λ (h : Option (List ℕ)). WritesNext h after.held exchange next) p.gives.only.held_stays reply.5 in
-    written-on asks rules window behind desk desk' x y before after exchange p.given next reply.2 reply.3 gives takes reply.4 wrote
+    written-on asks ways window behind desk desk' x y before after exchange p.given next reply.2 reply.3 gives takes reply.4 wrote
 
-pub Serves-ended : {K : Type 0} (asks : K → Command → Receipt → K → Type 0) (rules : Rules) (window behind : List ℕ) (desk : K) (x : Outlook) (before after : Told)
-    → Arrives rules before after window (Ok None) behind → (budget : ℕ) → 0 < budget → ServesFrom asks rules window budget (around before desk x) (around after desk x) behind Ended
-Serves-ended asks rules window behind desk x before after p budget some =
-    serves-ended asks rules window behind desk x before after p.given p.gives.gives p.reads p.gives.only.held_stays budget some
+pub Serves-ended : {K : Type 0} (asks : K → Command → Receipt → K → Type 0) (ways : Ways) (window behind : List ℕ) (desk : K) (x : Outlook) (before after : Told)
+    → Arrives ways.rules before after window (Ok None) behind → (budget : ℕ) → 0 < budget → ServesFrom asks ways window budget (around before desk x) (around after desk x) behind Ended
+Serves-ended asks ways window behind desk x before after p budget some =
+    serves-ended asks ways window behind desk x before after p.given p.gives.gives p.reads p.gives.only.held_stays budget some
 
-pub Serves-halted : {K : Type 0} (asks : K → Command → Receipt → K → Type 0) (rules : Rules) (window behind : List ℕ) (desk : K) (x : Outlook) (before middle after : Told) (error : HeadError) (end : SessionEnd)
-    → Arrives rules before middle window (Err error) behind → OnlyWrites middle after → Halts middle.held after.held error end → (budget : ℕ) → 0 < budget
-    → ServesFrom asks rules window budget (around before desk x) (around after desk x) behind end
-Serves-halted asks rules window behind desk x before middle after error end p only how budget some =
-    halted error end (subst (λ (l : Option (List ℕ)). Gives before.left l p.given) (sym only.left_stays) p.gives.gives) (subst (ReadsMessage rules (window ++ p.given) (Err error) behind) (sym only.left_stays) p.reads)
+pub Serves-halted : {K : Type 0} (asks : K → Command → Receipt → K → Type 0) (ways : Ways) (window behind : List ℕ) (desk : K) (x : Outlook) (before middle after : Told) (error : HeadError) (end : SessionEnd)
+    → Arrives ways.rules before middle window (Err error) behind → OnlyWrites middle after → Halts middle.held after.held error end → (budget : ℕ) → 0 < budget
+    → ServesFrom asks ways window budget (around before desk x) (around after desk x) behind end
+Serves-halted asks ways window behind desk x before middle after error end p only how budget some =
+    halted error end (subst (λ (l : Option (List ℕ)). Gives before.left l p.given) (sym only.left_stays) p.gives.gives) (subst (ReadsMessage ways.rules (window ++ p.given) (Err error) behind) (sym only.left_stays) p.reads)
     (subst (λ (h : Option (List ℕ)). Halts h after.held error end) p.gives.only.held_stays how)
   where
     given : List ℕ
     given = p.given
 
-    halted : (error : HeadError) (end : SessionEnd) → Gives before.left after.left given → ReadsMessage rules (window ++ given) (Err error) behind after.left → Halts before.held after.held error end
-        → ServesFrom asks rules window budget (around before desk x) (around after desk x) behind end
+    halted : (error : HeadError) (end : SessionEnd) → Gives before.left after.left given → ReadsMessage ways.rules (window ++ given) (Err error) behind after.left → Halts before.held after.held error end
+        → ServesFrom asks ways window budget (around before desk x) (around after desk x) behind end
     halted error end gives reads (inl (is, ends, stays)) =
-        subst (λ (e : SessionEnd). ServesFrom asks rules window budget (around before desk x) (around after desk x) behind e) (sym ends)
-        (Serves-failed asks rules window behind desk x before after given gives (subst (λ (e : HeadError). ReadsMessage rules (window ++ given) (Err e) behind after.left) is reads) stays budget some)
+        subst (λ (e : SessionEnd). ServesFrom asks ways window budget (around before desk x) (around after desk x) behind e) (sym ends)
+        (Serves-failed asks ways window behind desk x before after given gives (subst (λ (e : HeadError). ReadsMessage ways.rules (window ++ given) (Err e) behind after.left) is reads) stays budget some)
     halted error end gives reads (inr (inl (is, ends, stays))) =
-        subst (λ (e : SessionEnd). ServesFrom asks rules window budget (around before desk x) (around after desk x) behind e) (sym ends)
-        (Serves-wanting asks rules window behind desk x before after given error gives reads stays budget some)
-    halted error end gives reads (inr (inr (n, m, refuses))) = Serves-refused asks rules window behind desk x before after given error end n m gives reads refuses budget some
+        subst (λ (e : SessionEnd). ServesFrom asks ways window budget (around before desk x) (around after desk x) behind e) (sym ends)
+        (Serves-wanting asks ways window behind desk x before after given error gives reads stays budget some)
+    halted error end gives reads (inr (inr (n, m, refuses))) = Serves-refused asks ways window behind desk x before after given error end n m gives reads refuses budget some
 
 -- ---- one message, and then the rest
 
@@ -335,10 +335,10 @@ ends-cons Stopped budget response responses some on e = behind-cons budget respo
 ends-cons Refused budget response responses some on e = behind-cons budget response responses _ on e
 ends-cons WriteFault budget response responses some on e = behind-cons budget response responses _ on e
 
-pub Serves-cons : {K : Type 0} (asks : K → Command → Receipt → K → Type 0) (rules : Rules) (window behind held : List ℕ) (budget bytes over : ℕ) (before middle after : Around K) (end : SessionEnd)
-    → 0 < budget → Exchanges asks rules window before behind middle bytes → over ≡ budget - bytes → ServesFrom asks rules behind over middle after held end
-    → ServesFrom asks rules window budget before after held end
-Serves-cons {K} asks rules window behind held budget bytes over before middle after end some x is s =
+pub Serves-cons : {K : Type 0} (asks : K → Command → Receipt → K → Type 0) (ways : Ways) (window behind held : List ℕ) (budget bytes over : ℕ) (before middle after : Around K) (end : SessionEnd)
+    → 0 < budget → Exchanges asks ways window before behind middle bytes → over ≡ budget - bytes → ServesFrom asks ways behind over middle after held end
+    → ServesFrom asks ways window budget before after held end
+Serves-cons {K} asks ways window behind held budget bytes over before middle after end some x is s =
     let response : Response = met x.exchange in
     let ends : IsEnd end (budget - response_bytes response) s.responses = subst (λ b. IsEnd end b s.responses) (is ∙ ap (λ b. budget - b) x.bytes_are) s.ends in
     record {
@@ -356,8 +356,8 @@ Serves-cons {K} asks rules window behind held budget bytes over before middle af
     }
 
 -- each message has some bytes
-pub bytes-some : {K : Type 0} (asks : K → Command → Receipt → K → Type 0) (rules : Rules) (window behind : List ℕ) (before middle : Around K) (bytes : ℕ) → Exchanges asks rules window before behind middle bytes → 0 < bytes
-bytes-some {K} asks rules window behind before middle bytes x =
+pub bytes-some : {K : Type 0} (asks : K → Command → Receipt → K → Type 0) (ways : Ways) (window behind : List ℕ) (before middle : Around K) (bytes : ℕ) → Exchanges asks ways window before behind middle bytes → 0 < bytes
+bytes-some {K} asks ways window behind before middle bytes x =
     let head = x.takes.head in
     let size : x.exchange.message.head.bytes ≡ length head.block = ap (λ (h : Head). h.bytes) head.says.says in
     let ends = head.taken.shortest.ends in
@@ -365,9 +365,9 @@ bytes-some {K} asks rules window behind before middle bytes x =
     omega (arith, x.bytes_are)
 
 -- the whole session
-pub Serves-of : {K : Type 0} (asks : K → Command → Receipt → K → Type 0) (rules : Rules) (before after : Around K) (window : List ℕ) (end : SessionEnd) → ServesFrom asks rules [] rules.session_bytes before after window end
-    → Serves asks rules before after window end
-Serves-of {K} asks rules before after window end s = record {
+pub Serves-of : {K : Type 0} (asks : K → Command → Receipt → K → Type 0) (ways : Ways) (before after : Around K) (window : List ℕ) (end : SessionEnd) → ServesFrom asks ways [] ways.rules.session_bytes before after window end
+    → Serves asks ways before after window end
+Serves-of {K} asks ways before after window end s = record {
   responses = s.responses;
   by_rules = s.by_rules;
   runs = s.runs;
@@ -378,9 +378,9 @@ Serves-of {K} asks rules before after window end s = record {
 }
 
 -- memory wanted before the first message, or the budget is used up
-pub Serves-nothing : {K : Type 0} (asks : K → Command → Receipt → K → Type 0) (rules : Rules) (window held : List ℕ) (budget : ℕ) (here : Around K) (end : SessionEnd)
-    → Leaves end window held here.left → WritesAll end here.held here.held [] → IsEnd end budget [] → ServesFrom asks rules window budget here here held end
-Serves-nothing {K} asks rules window held budget here end leaves writes ends = record {
+pub Serves-nothing : {K : Type 0} (asks : K → Command → Receipt → K → Type 0) (ways : Ways) (window held : List ℕ) (budget : ℕ) (here : Around K) (end : SessionEnd)
+    → Leaves end window held here.left → WritesAll end here.held here.held [] → IsEnd end budget [] → ServesFrom asks ways window budget here here held end
+Serves-nothing {K} asks ways window held budget here end leaves writes ends = record {
   responses = [];
   by_rules = tt;
   runs = refl;
@@ -410,11 +410,11 @@ next-is exchange message incoming outcome next m h s is =
     is ∙ ap (λ b. next_of b incoming.head.last (incoming.head.bytes + incoming.head.length)) (sym s)
     ∙ ap (λ (h : Head). next_of (says_stopped exchange.asked) h.last (h.bytes + h.length)) head
 
-pub Responds-written : {K : Type 0} (asks : K → Command → Receipt → K → Type 0) (rules : Rules) (incoming : Incoming) (desk after : K) (x y : Outlook) (held held' : Option (List ℕ)) (outcome : Handled) (last : Bool) (next : Next)
-    → ((message : Message) → IsMessage rules incoming message → Answers asks rules message desk after x y outcome) → last ≡ (outcome.stopped || incoming.head.last)
+pub Responds-written : {K : Type 0} (asks : K → Command → Receipt → K → Type 0) (ways : Ways) (incoming : Incoming) (desk after : K) (x y : Outlook) (held held' : Option (List ℕ)) (outcome : Handled) (last : Bool) (next : Next)
+    → ((message : Message) → IsMessage ways.rules incoming message → Answers asks ways message desk after x y outcome) → last ≡ (outcome.stopped || incoming.head.last)
     → Takes held held' (reply_text (closing last (reply_of outcome.reply))) → IsNext outcome.stopped incoming.head.last (incoming.head.bytes + incoming.head.length) next
-    → Responds asks rules incoming desk after x y held held' next
-Responds-written {K} asks rules incoming desk after x y held held' outcome last next answers l wrote is = record {
+    → Responds asks ways incoming desk after x y held held' next
+Responds-written {K} asks ways incoming desk after x y held held' outcome last next answers l wrote is = record {
   reply = λ message came.
       let a = answers message came in (
         a.exchange,
@@ -429,10 +429,10 @@ Responds-written {K} asks rules incoming desk after x y held held' outcome last 
       );
 }
 
-pub Responds-cut : {K : Type 0} (asks : K → Command → Receipt → K → Type 0) (rules : Rules) (incoming : Incoming) (desk after : K) (x y : Outlook) (held held' : Option (List ℕ)) (outcome : Handled) (last : Bool)
-    → ((message : Message) → IsMessage rules incoming message → Answers asks rules message desk after x y outcome) → last ≡ (outcome.stopped || incoming.head.last)
-    → TakesFront held held' (reply_text (closing last (reply_of outcome.reply))) → Responds asks rules incoming desk after x y held held' (Ends WriteFault)
-Responds-cut {K} asks rules incoming desk after x y held held' outcome last answers l front = record {
+pub Responds-cut : {K : Type 0} (asks : K → Command → Receipt → K → Type 0) (ways : Ways) (incoming : Incoming) (desk after : K) (x y : Outlook) (held held' : Option (List ℕ)) (outcome : Handled) (last : Bool)
+    → ((message : Message) → IsMessage ways.rules incoming message → Answers asks ways message desk after x y outcome) → last ≡ (outcome.stopped || incoming.head.last)
+    → TakesFront held held' (reply_text (closing last (reply_of outcome.reply))) → Responds asks ways incoming desk after x y held held' (Ends WriteFault)
+Responds-cut {K} asks ways incoming desk after x y held held' outcome last answers l front = record {
   reply = λ message came.
       let a = answers message came in (
         a.exchange,

@@ -31,7 +31,7 @@ use Rattle.soc_http.specs.Lines.{encoding_of, lines_named}
 use Rattle.soc_http.specs.Query.{query_pairs}
 use Rattle.soc_http.specs.Request.{values_of}
 use Rattle.soc_http.specs.Route.{route_of}
-use Rattle.soc_desk.specs.Commands.{CommandText, to_submit, to_prioritise, to_reprocess, to_withdraw, to_show_raw, to_show_report, to_show_dump, to_search, to_show_tops, to_turn, to_drain, to_stop, to_count}
+use Rattle.soc_desk.specs.Commands.{CommandText, to_submit, to_prioritise, to_reprocess, to_withdraw, to_show_raw, to_show_report, to_show_dump, to_show_stack, to_search, to_show_tops, to_turn, to_drain, to_stop, to_count}
 use Rattle.soc_session.specs.declared.forms.ReplyForm.{ReplyForm}
 use Rattle.soc_session.specs.declared.forms.ReplyForm.TheVariants as form
 use Rattle.soc_session.specs.declared.rules.Rules.{Rules}
@@ -162,6 +162,7 @@ PlansRoute rules message drawn plan R.Submit caller = PlansSubmission rules mess
 PlansRoute rules message drawn plan R.RawCrash caller = Undrawn drawn plan (about (crash_asked message) (to_show_raw caller) form.Data)
 PlansRoute rules message drawn plan R.RawDump caller =
     Undrawn drawn plan (about (crash_asked message) (λ id. to_show_dump caller id (dump_named (query_in message))) form.Data)
+PlansRoute rules message drawn plan R.Stack caller = Undrawn drawn plan (about (crash_asked message) (to_show_stack caller) form.Data)
 PlansRoute rules message drawn plan R.ProcessedCrash caller = Undrawn drawn plan (about (crash_asked message) (to_show_report caller) form.Data)
 PlansRoute rules message drawn plan R.SuperSearch caller = Undrawn drawn plan (search_by (query_of caller (query_in message)) form.Data)
 PlansRoute rules message drawn plan R.SuperSearchFields caller = Undrawn drawn plan (says (good Json (fields_json caller)))

@@ -1,6 +1,8 @@
 -- What messages are answered: the table of replies, this project's profile. Each reply here goes on with the connection;
 -- `closing` makes it the last one.
 use Rattle.std.specs.Prelude.{ℕ, Bool, false, if◌then◌else◌, List, ◌++◌, codes, Option, None, Some, unwrap_or, ⊤}
+use Rattle.soc_raw.specs.RawCrash.{crash_of}
+use Rattle.soc_raw.specs.Record.{Crash}
 use Rattle.soc_schema.specs.declared.value.Cell.{Cell}
 use Rattle.soc_schema.specs.Permits.{permission_name}
 use Rattle.soc_schema.specs.RowJson.{row_json}
@@ -146,26 +148,31 @@ abbrev pub counts_reply : ReplyForm → Counts → Answered
 counts_reply form.Heartbeat counts = if counts.in_doubt then plain 503 (codes "store_fault") else alive
 counts_reply _ counts = good Json (counts_json counts)
 
--- what the desk's reply is answered as; no message asks for what the last four answer
-abbrev pub desk_reply : ReplyForm → Reply → Answered
-desk_reply written (D.Stored id due) = kept id
-desk_reply written (D.Repeated id) = kept id
-desk_reply written (D.Asked asked due) = good Json (asked_json asked)
-desk_reply written D.Withdrawn = good Json withdrawn_json
-desk_reply written (D.Raw annotations) = good Json (annotations_json annotations)
-desk_reply written (D.Row row) = row_reply written row
-desk_reply written (D.Dump bytes) = good Octets bytes
-desk_reply written (D.Found answer) = found_reply written answer
-desk_reply written (D.Tops tops) = tops_reply written tops
-desk_reply written (D.Turned processed) = good Json (turned_json processed)
-desk_reply written (D.Drained count) = good Json (drained_json count)
-desk_reply written D.Stopping = plain 200 (codes "stopping")
-desk_reply written (D.Refused refusal) = desk_refusal written refusal
-desk_reply written (D.Counted counts) = counts_reply written counts
-desk_reply written (D.Record raw) = no_memory
-desk_reply written (D.Kept count) = no_memory
-desk_reply written (D.Fetched raw) = no_memory
-desk_reply written (D.Finished changed) = no_memory
+-- the stack of a crash, where it has one
+abbrev pub stack_reply : Option (List ℕ) → Answered
+stack_reply (Some stack) = good Json stack
+stack_reply None = plain 404 (codes "no dump")
+
+-- what the desk's reply is answered as, and of a raw crash its stack; no message asks for what the last three answer
+abbrev pub desk_reply : ReplyForm → (Crash → Option (List ℕ)) → Reply → Answered
+desk_reply written stack (D.Stored id due) = kept id
+desk_reply written stack (D.Repeated id) = kept id
+desk_reply written stack (D.Asked asked due) = good Json (asked_json asked)
+desk_reply written stack D.Withdrawn = good Json withdrawn_json
+desk_reply written stack (D.Raw annotations) = good Json (annotations_json annotations)
+desk_reply written stack (D.Row row) = row_reply written row
+desk_reply written stack (D.Dump bytes) = good Octets bytes
+desk_reply written stack (D.Found answer) = found_reply written answer
+desk_reply written stack (D.Tops tops) = tops_reply written tops
+desk_reply written stack (D.Turned processed) = good Json (turned_json processed)
+desk_reply written stack (D.Drained count) = good Json (drained_json count)
+desk_reply written stack D.Stopping = plain 200 (codes "stopping")
+desk_reply written stack (D.Refused refusal) = desk_refusal written refusal
+desk_reply written stack (D.Counted counts) = counts_reply written counts
+desk_reply written stack (D.Record raw) = stack_reply (stack (crash_of raw))
+desk_reply written stack (D.Kept count) = no_memory
+desk_reply written stack (D.Fetched raw) = no_memory
+desk_reply written stack (D.Finished changed) = no_memory
 
 -- replies that a text is built of, for which memory may want. They answer reads, so nothing was changed.
 abbrev pub BuildsText : Reply → Type 0
@@ -174,4 +181,5 @@ BuildsText (D.Row row) = ⊤
 BuildsText (D.Found answer) = ⊤
 BuildsText (D.Tops tops) = ⊤
 BuildsText (D.Counted counts) = ⊤
+BuildsText (D.Record raw) = ⊤
 BuildsText _ = ⊥

@@ -9,10 +9,9 @@ use Rattle.soc_http.specs.Message.{TakesMessage}
 use Rattle.soc_http.specs.Reply.{reply_text}
 use Rattle.soc_desk.specs.declared.desk.Command.{Command}
 use Rattle.soc_desk.specs.declared.desk.Receipt.{Receipt}
-use Rattle.soc_session.specs.declared.rules.Rules.{Rules}
 use Rattle.soc_session.specs.declared.ending.SessionEnd.{SessionEnd}
 use Rattle.soc_session.specs.declared.ending.SessionEnd.TheVariants.{Ended, Closed, Stopped, Refused, ReadFault, WriteFault, TooLong, NoMemory}
-use Rattle.soc_session.specs.Desk.{Exchange, IsExchange, StepsDesk, says_stopped}
+use Rattle.soc_session.specs.Desk.{Exchange, IsExchange, StepsDesk, Ways, says_stopped}
 use Rattle.soc_session.specs.Messages.{IsUnfinished, RefusedAt}
 use Rattle.soc_session.specs.Plan.{Drawn}
 use Rattle.soc_session.specs.Replies.{closing, head_refusal}
@@ -72,9 +71,9 @@ pub record ReadsAll (end : SessionEnd) (before after : Option (List ℕ)) (windo
 
 -- ---- the rules, the desk, the clock and the draws
 
-abbrev pub IsResponse : Rules → Response → Type 0
-IsResponse rules (met exchange) = IsExchange rules exchange
-IsResponse rules (refused error) = ⊤
+abbrev pub IsResponse : Ways → Response → Type 0
+IsResponse ways (met exchange) = IsExchange ways exchange
+IsResponse ways (refused error) = ⊤
 
 -- a run of the desk along the responses
 abbrev pub RunsDesk : {K : Type 0} → (K → Command → Receipt → K → Type 0) → K → List Response → K → Type 0
@@ -170,11 +169,11 @@ around told desk outlook = record { left = told.left; held = told.held; desk = d
 -- The session's responses answer the messages that the link gave, each once and in order, by the rules and by one run of the
 -- desk; their replies were written, they took their draws, and the end is theirs. The buffer's window is empty before, and
 -- this after.
-pub record Serves {K : Type 0} (asks : K → Command → Receipt → K → Type 0) (rules : Rules) (before after : Around K) (window : List ℕ) (end : SessionEnd) : Type 0 where
+pub record Serves {K : Type 0} (asks : K → Command → Receipt → K → Type 0) (ways : Ways) (before after : Around K) (window : List ℕ) (end : SessionEnd) : Type 0 where
   pub responses : List Response
-  pub by_rules : AllByRecursion (IsResponse rules) responses
+  pub by_rules : AllByRecursion (IsResponse ways) responses
   pub runs : RunsDesk asks before.desk responses after.desk
   pub reads : ReadsAll end before.left after.left window responses
   pub writes : WritesAll end before.held after.held responses
   pub hands : HandsResponses before.outlook after.outlook responses
-  pub ends : IsEnd end rules.session_bytes responses
+  pub ends : IsEnd end ways.rules.session_bytes responses

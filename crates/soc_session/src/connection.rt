@@ -5,6 +5,7 @@ ghost use Rattle.soc_edge.specs.Told.{HasCause, NeverFall, OnlyWrites, WriteFail
 ghost use Rattle.soc_http.specs.Reply.{reply_text};
 ghost use Rattle.soc_session.specs.inner.Arrivals.{IsSized};
 ghost use Rattle.soc_session.specs.Replies.{closing, no_memory};
+ghost use Rattle.soc_session.specs.Desk.{ways};
 ghost use Rattle.soc_session.specs.Session.{Serves, around};
 ghost use Rattle.soc_session.specs.inner.Steps.{Halts, IsNext, Refuses, Responds, StepsOn};
 ghost use Rattle.soc_session.specs.inner.Plans.{reply_of};
@@ -14,6 +15,7 @@ use crate::arrivals::{Incoming, next_message};
 use crate::ending::SessionEnd;
 use crate::replies::Room;
 use crate::setting::Setting;
+use crate::stacks::Stacks;
 use soc_desk::Desk;
 use soc_edge::{Clock, Draws, Sink, Source};
 use soc_http::{Answered, Buffer, HeadError, WriteFault, write_reply};
@@ -30,8 +32,8 @@ pub(crate) enum Next {
 
 /// Answers the messages of a link in order, over whatever desk stands behind, until the input ends, a reply is the last
 /// one, or the messages answered hold `session_bytes` bytes or more. The buffer's window is empty at the call.
-pub fn session<K: Desk, X: Source + Sink, C: Clock, W: Draws>(
-    setting: Setting<'_>,
+pub fn session<K: Desk, S: Stacks, X: Source + Sink, C: Clock, W: Draws>(
+    setting: &Setting<'_, S>,
     desk: &mut K,
     link: &mut X,
     buffer: &mut Buffer,
@@ -39,7 +41,8 @@ pub fn session<K: Desk, X: Source + Sink, C: Clock, W: Draws>(
     draws: &mut W,
 ) -> SessionEnd
     requires { buffer.old ≡ [] }
-    ensures serves { Serves K.Asks setting.entry.rules.now
+    ensures serves { Serves K.Asks
+        (ways setting.now.rules.now (S.stack_of setting.now.stacks.now))
         (around (X.told link.old) desk.old (outlook (C.told clock.old) (W.told draws.old)))
         (around (X.told link.new) desk.new (outlook (C.told clock.new) (W.told draws.new)))
         buffer.new result }
@@ -65,8 +68,8 @@ pub fn session<K: Desk, X: Source + Sink, C: Clock, W: Draws>(
 }
 
 /// Answers the next message.
-fn answer_next<K: Desk, X: Source + Sink, C: Clock, W: Draws>(
-    setting: Setting<'_>,
+fn answer_next<K: Desk, S: Stacks, X: Source + Sink, C: Clock, W: Draws>(
+    setting: &Setting<'_, S>,
     desk: &mut K,
     link: &mut X,
     buffer: &mut Buffer,
@@ -75,7 +78,8 @@ fn answer_next<K: Desk, X: Source + Sink, C: Clock, W: Draws>(
     spare: &mut Answered,
 ) -> Next
     requires { closing false spare.old ≡ no_memory }
-    ensures steps { StepsOn K.Asks setting.entry.rules.now buffer.old
+    ensures steps { StepsOn K.Asks
+        (ways setting.now.rules.now (S.stack_of setting.now.stacks.now)) buffer.old
         (around (X.told link.old) desk.old (outlook (C.told clock.old) (W.told draws.old)))
         buffer.new
         (around (X.told link.new) desk.new (outlook (C.told clock.new) (W.told draws.new)))
@@ -127,8 +131,8 @@ fn refuse<X: Sink>(alloc: Global, link: &mut X, error: HeadError) -> SessionEnd
 }
 
 /// Answers a message that came whole.
-fn answer_message<K: Desk, X: Sink, C: Clock, W: Draws>(
-    setting: Setting<'_>,
+fn answer_message<K: Desk, S: Stacks, X: Sink, C: Clock, W: Draws>(
+    setting: &Setting<'_, S>,
     desk: &mut K,
     link: &mut X,
     incoming: Incoming,
@@ -138,7 +142,8 @@ fn answer_message<K: Desk, X: Sink, C: Clock, W: Draws>(
 ) -> Next
     requires sized { IsSized incoming }
     requires spare { closing false spare.old ≡ no_memory }
-    ensures responds { Responds K.Asks setting.entry.rules.now incoming desk.old desk.new
+    ensures responds { Responds K.Asks
+        (ways setting.now.rules.now (S.stack_of setting.now.stacks.now)) incoming desk.old desk.new
         (outlook (C.told clock.old) (W.told draws.old))
         (outlook (C.told clock.new) (W.told draws.new))
         (X.told link.old).held (X.told link.new).held result }
@@ -149,7 +154,7 @@ fn answer_message<K: Desk, X: Sink, C: Clock, W: Draws>(
     ensures only { OnlyWrites (X.told link.old) (X.told link.new) }
 {
     let Incoming { head, content } = incoming;
-    let outcome = answer(setting.alloc, desk, setting.rules, content, clock, draws);
+    let outcome = answer(setting, desk, content, clock, draws);
     let stopped = outcome.stopped;
     let last = is_last(stopped, head.last);
     match write_last(link, spare, outcome.reply, last) {

@@ -1,16 +1,13 @@
 //! What is answered as JSON (RFC 8259), compact, with names in byte order.
 ghost use Rattle.std.specs.Prelude.{◌≡◌, ◌++◌, filter, IfOk, OnOk};
-ghost use Rattle.serde_json.specs.Data.{string};
-ghost use Rattle.serde_json.specs.Written.{compact_text};
-ghost use Rattle.soc_schema.specs.Commas.{comma_after, joined};
+ghost use Rattle.soc_schema.specs.Commas.{joined};
 ghost use Rattle.soc_schema.specs.Fields.{field_entry, field_table};
 ghost use Rattle.soc_schema.specs.Permits.{holds};
 ghost use Rattle.soc_session.specs.Json.{annotation_json, annotations_json, count_json, counts_json, field_json, fields_json, kind_name};
 
-use serde_json::Value as Json;
 use soc_base::{Bytes, NoMemory, Texts};
 use soc_desk::Counts;
-use soc_schema::{Caller, Field, FieldKind, granted};
+use soc_schema::{Caller, Field, FieldKind, granted, put_comma, put_number, put_text};
 use std::alloc::Global;
 
 /// An object of the annotations' names and values.
@@ -121,32 +118,14 @@ fn put_counts(out: &mut Vec<u8>, counts: Counts) -> Result<(), NoMemory>
 fn put_count(out: &mut Vec<u8>, front: &str, count: u64) -> Result<(), NoMemory>
     ensures { OnOk result (out.new.items ≡ out.old.items ++ count_json front.now count) }
 {
-    let mut digits = itoa::Buffer::new();
     put(out, front)?;
-    put(out, digits.format(count))
+    put_number(out, count)
 }
 
 fn put_short_count(out: &mut Vec<u8>, front: &str, count: u32) -> Result<(), NoMemory>
     ensures { OnOk result (out.new.items ≡ out.old.items ++ count_json front.now count) }
 {
     put_count(out, front, u64::from(count))
-}
-
-/// A comma, unless nothing stands before.
-fn put_comma(out: &mut Vec<u8>, before: usize) -> Result<(), NoMemory>
-    ensures { OnOk result (out.new.items ≡ out.old.items ++ comma_after before) }
-{
-    if before > 0 {
-        put(out, ",")?;
-    }
-    Ok(())
-}
-
-fn put_text(alloc: Global, out: &mut Vec<u8>, text: &str) -> Result<(), NoMemory>
-    ensures { OnOk result (out.new.items ≡ out.old.items ++ compact_text (string text.now)) }
-{
-    let json = Json::String(String::from_str(alloc, text)?).to_string(alloc)?;
-    put(out, json.as_str())
 }
 
 fn put(out: &mut Vec<u8>, text: &str) -> Result<(), NoMemory>

@@ -19,9 +19,11 @@ mod replies;
 mod routes;
 mod rules;
 mod setting;
+mod stacks;
 
 pub use connection::session;
 pub use ending::SessionEnd;
 pub use laws::plan_is_one;
 pub use rules::Rules;
 pub use setting::Setting;
+pub use stacks::Stacks;

@@ -1,18 +1,20 @@
 //! What messages are answered.
 ghost use Rattle.std.specs.Prelude.{◌≡◌, ◌≢◌, ◌+◌, ◌<◌, ◌≤◌, ◌++◌, [], length, codes, vec_capacity, IfOk, OnErr};
+ghost use Rattle.soc_raw.specs.RawCrash.{crash_of};
 ghost use Rattle.soc_session.specs.Json.{asked_json, drained_json, turned_json};
-ghost use Rattle.soc_session.specs.Replies.{BuildsText, counts_reply, desk_refusal, desk_reply, found_reply, good, head_refusal, journal_full, kept, malformed, no_memory, plain, query_refusal, rejected, row_reply, tops_refusal, tops_reply, wrong_method};
+ghost use Rattle.soc_session.specs.Replies.{BuildsText, counts_reply, desk_refusal, desk_reply, found_reply, good, head_refusal, journal_full, kept, malformed, no_memory, plain, query_refusal, rejected, row_reply, stack_reply, tops_refusal, tops_reply, wrong_method};
 
 use crate::forms::ReplyForm;
 use crate::json::{annotations_json, counts_json};
+use crate::stacks::Stacks;
 use soc_base::{Bytes, NoMemory};
 use soc_desk::{Counts, Refusal, Reply};
 use soc_forms::Reason;
 use soc_http::{Answered, HeadError, Kind, Verb};
 use soc_pages::{report_page, search_page, tops_page};
 use soc_query::{Answer, QueryError};
-use soc_raw::CrashId;
-use soc_schema::{Permission, Row, row_json};
+use soc_raw::{CrashId, RawCrash};
+use soc_schema::{Permission, Permissions, Row, row_json};
 use soc_tops::{Tops, TopsError};
 use std::alloc::Global;
 
@@ -197,14 +199,35 @@ impl Room {
         }
     }
 
-    /// What the desk's reply is answered as. Memory is taken only for a text that is built of the reply.
-    pub(crate) fn desk_reply(
+    /// The stack of a raw crash, where it has one.
+    fn stack_reply<S: Stacks>(
+        self,
+        alloc: Global,
+        stacks: &S,
+        shown: Permissions,
+        raw: &RawCrash,
+    ) -> Result<Answered, NoMemory>
+        ensures { IfOk result (λ answered. answered
+            ≡ stack_reply (S.stack_of stacks.now shown (crash_of raw.now))) }
+    {
+        match stacks.stack(alloc, shown, raw)? {
+            Some(stack) => Ok(good(Kind::Json, stack)),
+            None => Ok(self.line(404, "no dump")),
+        }
+    }
+
+    /// What the desk's reply is answered as, and of a raw crash its stack, with what is shown under these permissions. Memory
+    /// is taken only for a text that is built of the reply.
+    pub(crate) fn desk_reply<S: Stacks>(
         self,
         alloc: Global,
         form: ReplyForm,
+        stacks: &S,
+        shown: Permissions,
         reply: Reply,
     ) -> Result<Answered, NoMemory>
-        ensures ok { IfOk result (λ answered. answered ≡ desk_reply form reply) }
+        ensures ok { IfOk result (λ answered. answered
+            ≡ desk_reply form (S.stack_of stacks.now shown) reply) }
         ensures err { OnErr result (BuildsText reply) }
     {
         match reply {
@@ -222,9 +245,8 @@ impl Room {
             Reply::Stopping => Ok(self.line(200, "stopping")),
             Reply::Refused(refusal) => Ok(self.desk_refusal(form, refusal)),
             Reply::Counted(counts) => self.counts_reply(alloc, form, counts),
-            Reply::Record(_) | Reply::Kept(_) | Reply::Fetched(_) | Reply::Finished { .. } => {
-                Ok(self.no_memory())
-            }
+            Reply::Record(raw) => self.stack_reply(alloc, stacks, shown, &raw),
+            Reply::Kept(_) | Reply::Fetched(_) | Reply::Finished { .. } => Ok(self.no_memory()),
         }
     }
 }

@@ -83,6 +83,7 @@ fn look_at_route(
         Route::Submit => submit::intake(alloc, head),
         Route::RawCrash => passing(crashes::annotations(alloc, head, caller)),
         Route::RawDump => passing(crashes::dump(alloc, head, caller)),
+        Route::Stack => passing(crashes::stack(alloc, head, caller)),
         Route::ProcessedCrash => passing(crashes::report(alloc, head, caller)),
         Route::SuperSearch => passing(search::reports(alloc, head, caller, ReplyForm::Data)),
         Route::SuperSearchFields => passing(search::fields(alloc, &caller)),

@@ -4,10 +4,12 @@ use soc_http::Routes;
 use std::alloc::Global;
 
 /// What each message of a session is answered by.
-#[derive(Clone, Copy)]
-pub struct Setting<'s> {
+#[derive(Drop)]
+pub struct Setting<'s, S> {
     pub alloc: Global,
     pub rules: &'s Rules,
     /// Where the literal paths lead.
     pub routes: &'s Routes,
+    /// What makes the stacks of crashes.
+    pub stacks: &'s S,
 }

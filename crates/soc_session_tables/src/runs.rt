@@ -1,5 +1,5 @@
 //! Runs of sessions over a sample desk.
-use crate::sample::{Choice, Sample};
+use crate::sample::{Choice, Sample, SampleStacks};
 use crate::texts::text_of;
 use soc_base::Bytes;
 use soc_edge::{
@@ -47,8 +47,9 @@ pub fn served_with<X: Source + Sink, C: Clock, W: Draws>(
         alloc,
         rules,
         routes: &routes,
+        stacks: &SampleStacks,
     };
-    Ok(session(setting, &mut desk, link, &mut buffer, clock, draws))
+    Ok(session(&setting, &mut desk, link, &mut buffer, clock, draws))
 }
 
 /// How a session ends, with these rules and a clock that stands still and equal draws.

@@ -7,8 +7,9 @@ ghost use Rattle.soc_desk.specs.Kinds.{IsReplyTo};
 use soc_base::{Bytes, NoMemory, Text, Texts};
 use soc_desk::{Command, Counts, Desk, Receipt, Refusal, Reply};
 use soc_query::{Answer, Facets, Fields, Hits, Query};
-use soc_raw::{CrashId, Digit, RawCrash};
-use soc_schema::{Caller, Field, Permission, Row, Value};
+use soc_raw::{CrashId, Digit, RawCrash, RecordError};
+use soc_schema::{Caller, Field, Permission, Permissions, Row, Value};
+use soc_session::Stacks;
 use soc_tops::{Top, TopList, Tops, TopsQuery};
 use std::alloc::Global;
 
@@ -83,7 +84,7 @@ fn reply_to(alloc: Global, choice: Choice, command: Command) -> Reply
         Command::Raw { caller, id } => annotations(alloc, choice, caller, id),
         Command::Processed { caller, id } => row(alloc, choice, caller, id),
         Command::Dump { caller, id, name } => dump(alloc, choice, caller, id, name),
-        Command::Stack { caller, id } => record(choice, caller, id),
+        Command::Stack { caller, id } => record(alloc, choice, caller, id),
         Command::Search { query } => found(alloc, query),
         Command::Tops { query } => tops(alloc, query),
         Command::Turn { caller } => turned(choice, caller),
@@ -241,11 +242,42 @@ fn dump(alloc: Global, choice: Choice, caller: Caller, id: CrashId, name: Text) 
     }
 }
 
-/// No raw crash is given.
-fn record(choice: Choice, caller: Caller, id: CrashId) -> Reply
+/// The record of a crash of `de1bb258-cbbf-4589-a673-34f800160918` with this draw, and without annotations and dumps.
+fn record_of(alloc: Global, draw: u64) -> Result<Vec<u8>, NoMemory> {
+    let mut record = Vec::new(alloc);
+    record.extend_from_slice(b"de1bb258-cbbf-4589-a673-34f800160918")?;
+    record.extend_from_slice(&1_474_156_800_u64.to_le_bytes())?;
+    record.extend_from_slice(&draw.to_le_bytes())?;
+    record.extend_from_slice(b"\x01\0\0\0r\0\0\0\0\0\0\0\0")?;
+    Ok(record)
+}
+
+fn raw_of(alloc: Global, draw: u64) -> Result<RawCrash, RecordError> {
+    RawCrash::decode(alloc, record_of(alloc, draw)?.as_slice())
+}
+
+fn given(raw: Result<RawCrash, RecordError>, caller: Caller, id: CrashId) -> Reply
+    ensures { IsReplyTo (Command.Stack caller id) result }
+{
+    match raw {
+        Ok(raw) => {
+            if raw.id == id {
+                Reply::Record(raw)
+            } else {
+                Reply::Refused(Refusal::NoCrash)
+            }
+        }
+        Err(_) => Reply::Refused(Refusal::NoMemory),
+    }
+}
+
+/// A raw crash of draw 1, or another of draw 0.
+fn record(alloc: Global, choice: Choice, caller: Caller, id: CrashId) -> Reply
     ensures { IsReplyTo (Command.Stack caller id) result }
 {
     match choice {
+        Choice::Own => given(raw_of(alloc, 1), caller, id),
+        Choice::Other => given(raw_of(alloc, 0), caller, id),
         Choice::StoreFault => Reply::Refused(Refusal::StoreFault),
         Choice::NoCrash => Reply::Refused(Refusal::NoCrash),
         Choice::Altered => Reply::Refused(Refusal::Altered { id }),
@@ -357,4 +389,33 @@ fn fetched(id: CrashId) -> Reply
     ensures { IsReplyTo (Command.Fetch id) result }
 {
     Reply::Refused(Refusal::NoCrash)
+}
+
+/// The stacks of raw crashes by their draws: of draw 0 none.
+#[derive(Drop)]
+pub(crate) struct SampleStacks;
+
+impl Stacks for SampleStacks {
+    ghost use Rattle.std.specs.Prelude.{None, Some, codes, ◌==◌, if◌then◌else◌};
+
+    ghost stack_of = { λ _ shown crash. if crash.draw == 0 then None
+        else if shown.protected_data then Some (codes "{\"address\":\"0x10\"}")
+        else Some (codes "{\"address\":null}") };
+
+    fn stack(
+        &self,
+        alloc: Global,
+        shown: Permissions,
+        raw: &RawCrash,
+    ) -> Result<Option<Bytes>, NoMemory> {
+        if raw.draw == 0 {
+            return Ok(None);
+        }
+        let stack: &[u8] = if shown.protected_data {
+            b"{\"address\":\"0x10\"}"
+        } else {
+            b"{\"address\":null}"
+        };
+        Ok(Some(Bytes::of(alloc, stack)?))
+    }
 }

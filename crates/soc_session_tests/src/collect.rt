@@ -9,8 +9,8 @@ use soc_base::Bytes;
 use soc_collect::*;
 use soc_edge::{BytesList, Ids16, MemClock, MemDraws, Numbers};
 use soc_http::{Buffer, Routes};
-use soc_listen::{Listener, MemConn, MemListener};
-use soc_schema::{Products, Tokens};
+use soc_listen::{Listener, MemLink, MemListener};
+use soc_schema::{Bare, Products, Tokens};
 use soc_session::{Rules, SessionEnd, Setting};
 use soc_throttle::RuleSet;
 use std::alloc::Global;
@@ -63,7 +63,7 @@ fn listener(
 #[derive(Drop)]
 struct Served {
     listener: MemListener,
-    served: Tally<MemConn>,
+    served: Tally<MemLink>,
     ends: Vec<Option<SessionEnd>>,
 }
 
@@ -103,7 +103,7 @@ fn serve_next(
     alloc: Global,
     listener: &mut MemListener,
     desk: &mut Booth,
-    served: &mut Tally<MemConn>,
+    served: &mut Tally<MemLink>,
     around: &mut Around,
 ) -> Result<Option<SessionEnd>, Fail> {
     if served.connections() >= 10 || served.kept() >= 1_000 {
@@ -116,9 +116,10 @@ fn serve_next(
         alloc,
         rules: &around.rules,
         routes: &around.routes,
+        stacks: &Bare,
     };
     let shut = serve_one(
-        setting,
+        &setting,
         desk,
         served,
         conn,
@@ -147,7 +148,7 @@ fn serve_all(alloc: Global, scripts: &[&[u8]], room: usize) -> Result<Served, Fa
 }
 
 // Expects so many connections and commands, and whether the desk was stopped.
-fn expect_served(rt: &impl Abort, served: &Tally<MemConn>, want: (u64, u64, bool)) {
+fn expect_served(rt: &impl Abort, served: &Tally<MemLink>, want: (u64, u64, bool)) {
     same(rt, served.connections(), want.0);
     same(rt, served.kept(), want.1);
     same(rt, served.stopped(), want.2);
@@ -196,7 +197,7 @@ fn a_stop_whose_reply_is_not_written_counts(rt: HostRuntime) -> Result<(), Fail>
 }
 
 // The counts of two collectors, put together.
-fn together(alloc: Global) -> Result<Tally<MemConn>, Fail> {
+fn together(alloc: Global) -> Result<Tally<MemLink>, Fail> {
     let first = serve_all(alloc, &[NO_ROUTE, NO_ROUTE], 4_096)?;
     let second = serve_all(alloc, &[STOP], 4_096)?;
     let mut all = first.served;
@@ -218,7 +219,7 @@ fn counts_are_put_together(rt: HostRuntime) -> Result<(), Fail> {
 // What one collector served, and whether the listener failed.
 #[derive(Drop)]
 struct Collected {
-    served: Tally<MemConn>,
+    served: Tally<MemLink>,
     failed: bool,
 }
 
@@ -253,12 +254,13 @@ fn collect_alone<N: Ledger, M: Ledger, J: Naming, R: Wait>(
         alloc,
         rules: &rules,
         routes: &routes,
+        stacks: &Bare,
     };
     let mut desk = Booth::new();
     let mut served = Tally::new();
     collect(
         rt,
-        setting,
+        &setting,
         &mut desk,
         &mut served,
         &mut ticket,

@@ -10,7 +10,7 @@ use soc_desk::Limits;
 use soc_edge::{BytesList, Disk, Ids16, MemClock, MemDisk, MemDraws, Numbers};
 use soc_hall::Logged;
 use soc_http::Routes;
-use soc_listen::{MemConn, MemListener};
+use soc_listen::{MemLink, MemListener};
 use soc_schema::{Bare, Products, Tokens};
 use soc_service::OpenGate;
 use soc_session::{Rules, Setting};
@@ -101,14 +101,18 @@ fn disk_of(alloc: Global, journal: &[u8]) -> Result<MemDisk, Fail> {
 // What a crew has served, whether its listener failed, and the length of the log that it left.
 #[derive(Drop)]
 struct Served {
-    served: Tally<MemConn>,
+    served: Tally<MemLink>,
     listener: MemListener,
     failed: bool,
     front: u64,
 }
 
 // What such a crew goes by.
-fn setting_of<'s>(alloc: Global, crew: Crew, around: &'s Around) -> CrewSetting<'s, Bare, OpenGate>
+fn setting_of<'s>(
+    alloc: Global,
+    crew: Crew,
+    around: &'s Around,
+) -> CrewSetting<'s, Bare, Bare, OpenGate>
     ensures { result.crew ≡ crew }
 {
     CrewSetting {
@@ -117,6 +121,7 @@ fn setting_of<'s>(alloc: Global, crew: Crew, around: &'s Around) -> CrewSetting<
             alloc,
             rules: &around.rules,
             routes: &around.routes,
+            stacks: &Bare,
         },
         reporter: &Bare,
         gate: &OpenGate,
@@ -162,7 +167,7 @@ fn served_by<R: Threads + Wait + Sync>(
 }
 
 // Expects so many connections and commands, and whether the desk was stopped.
-fn expect_served(rt: &impl Abort, served: &Tally<MemConn>, want: (u64, u64, bool)) {
+fn expect_served(rt: &impl Abort, served: &Tally<MemLink>, want: (u64, u64, bool)) {
     same(rt, served.connections(), want.0);
     same(rt, served.kept(), want.1);
     same(rt, served.stopped(), want.2);

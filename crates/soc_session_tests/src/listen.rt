@@ -4,7 +4,7 @@ ghost use Rattle.std.specs.Prelude.{◌≡◌, IfOk};
 use crate::expect::{holds, same};
 use soc_base::{Bytes, NoMemory};
 use soc_edge::{BytesList, Failed, Numbers, Sink, Source};
-use soc_listen::{Conn, Listener, MemListener};
+use soc_listen::{Listener, MemListener, Waker};
 use std::alloc::Global;
 use std::test::Fail;
 use std::thread;
@@ -21,7 +21,7 @@ fn two(alloc: Global, fails: &[u64]) -> Result<MemListener, NoMemory> {
 // How a call of `accept` went: the bytes that the connection begins with, as many as there is room for.
 fn begins<L: Listener>(listener: &mut L, into: &mut [u8]) -> Result<Option<usize>, Failed> {
     match listener.accept()? {
-        Some(mut conn) => Ok(Some(conn.read(into)?)),
+        Some(mut conn) => Ok(Some(conn.link.read(into)?)),
         None => Ok(None),
     }
 }
@@ -58,9 +58,9 @@ fn what_was_written_is_read_back(rt: HostRuntime) -> Result<(), Fail> {
     let Ok(Some(mut first)) = listener.accept() else {
         return Err(Fail::from("no connection"));
     };
-    same(&rt, first.write(b"abcdef"), Ok(4));
-    same(&rt, first.write(b"ef"), Err(Failed));
-    first.poke();
+    same(&rt, first.link.write(b"abcdef"), Ok(4));
+    same(&rt, first.link.write(b"ef"), Err(Failed));
+    first.waker.wake();
     holds(&rt, listener.written(0).is_none());
     thread::join(&rt, move || drop(first), || {});
     same(&rt, listener.written(0), Some(b"abcd".as_slice()));

@@ -13,8 +13,7 @@ use Rattle.soc_session.specs.declared.answers.Handled.{Handled}
 use Rattle.soc_session.specs.declared.drawing.Drawing.{Drawing}
 use Rattle.soc_session.specs.declared.plans.Plan.{Plan as Planned}
 use Rattle.soc_session.specs.declared.plans.Plan.TheVariants.{Says, Asks}
-use Rattle.soc_session.specs.declared.rules.Rules.{Rules}
-use Rattle.soc_session.specs.Desk.{Asking, Exchange, IsExchange, StepsDesk, says_stopped}
+use Rattle.soc_session.specs.Desk.{Asking, Exchange, IsExchange, StepsDesk, Ways, says_stopped, shown_to}
 use Rattle.soc_session.specs.Plan.{Drawn, Plan, says, asks, MayDrawFor}
 use Rattle.soc_session.specs.Replies.{BuildsText, desk_reply, no_memory}
 
@@ -42,22 +41,22 @@ pub record Draws (P : List Drawn → Plan → Type 0) (before after : Outlook) (
 -- ---- the desk
 
 -- what a plan is answered: None stands for want of memory
-abbrev pub AnswersWith : Plan → Option Asking → Option Answered → Type 0
-AnswersWith (says said) None (Some reply) = reply ≡ said
-AnswersWith (says said) None None = ⊥
-AnswersWith (says said) (Some asking) reply = ⊥
-AnswersWith (asks command form) None None = ⊤
-AnswersWith (asks command form) None (Some reply) = ⊥
-AnswersWith (asks command form) (Some asking) (Some reply) =
-    (command_text asking.command ≡ command) × IsReplyTo asking.command asking.receipt.reply × (reply ≡ desk_reply form asking.receipt.reply)
-AnswersWith (asks command form) (Some asking) None =
+abbrev pub AnswersWith : Ways → Plan → Option Asking → Option Answered → Type 0
+AnswersWith ways (says said) None (Some reply) = reply ≡ said
+AnswersWith ways (says said) None None = ⊥
+AnswersWith ways (says said) (Some asking) reply = ⊥
+AnswersWith ways (asks command form) None None = ⊤
+AnswersWith ways (asks command form) None (Some reply) = ⊥
+AnswersWith ways (asks command form) (Some asking) (Some reply) =
+    (command_text asking.command ≡ command) × IsReplyTo asking.command asking.receipt.reply × (reply ≡ desk_reply form (ways.stack_of (shown_to asking.command)) asking.receipt.reply)
+AnswersWith ways (asks command form) (Some asking) None =
     (command_text asking.command ≡ command) × IsReplyTo asking.command asking.receipt.reply × BuildsText asking.receipt.reply
 
 -- a plan is carried out
-pub record Carries {K : Type 0} (step : K → Command → Receipt → K → Type 0) (plan : Plan) (before after : K) (outcome : Handled) : Type 0 where
+pub record Carries {K : Type 0} (step : K → Command → Receipt → K → Type 0) (ways : Ways) (plan : Plan) (before after : K) (outcome : Handled) : Type 0 where
   pub asked : Option Asking
   pub steps : StepsDesk step before asked after
-  pub answers : AnswersWith plan asked outcome.reply
+  pub answers : AnswersWith ways plan asked outcome.reply
   pub stopped : says_stopped asked ≡ outcome.stopped
 
 -- the reply of an outcome
@@ -66,9 +65,9 @@ reply_of None = no_memory
 reply_of (Some reply) = reply
 
 -- a message is answered
-pub record Answers {K : Type 0} (step : K → Command → Receipt → K → Type 0) (rules : Rules) (message : Message) (before after : K) (ahead behind : Outlook) (outcome : Handled) : Type 0 where
+pub record Answers {K : Type 0} (step : K → Command → Receipt → K → Type 0) (ways : Ways) (message : Message) (before after : K) (ahead behind : Outlook) (outcome : Handled) : Type 0 where
   pub exchange : Exchange
-  pub is : IsExchange rules exchange
+  pub is : IsExchange ways exchange
   pub message_is : exchange.message ≡ message
   pub reply_is : exchange.reply ≡ reply_of outcome.reply
   pub stopped_is : says_stopped exchange.asked ≡ outcome.stopped

@@ -12,18 +12,17 @@ use Rattle.soc_session.specs.declared.ending.SessionEnd.{SessionEnd}
 use Rattle.soc_session.specs.declared.ending.SessionEnd.TheVariants.{Ended, Closed, Stopped, Refused, ReadFault, WriteFault, TooLong, NoMemory}
 use Rattle.soc_session.specs.declared.arrivals.Incoming.{Incoming}
 use Rattle.soc_session.specs.inner.Arrivals.{IsMessage}
-use Rattle.soc_session.specs.declared.rules.Rules.{Rules}
 use Rattle.soc_session.specs.declared.connection.Next.{Next}
 use Rattle.soc_session.specs.declared.connection.Next.TheVariants.{GoesOn as Goes, Ends}
-use Rattle.soc_session.specs.Desk.{Exchange, IsExchange, StepsDesk, says_stopped}
+use Rattle.soc_session.specs.Desk.{Exchange, IsExchange, StepsDesk, Ways, says_stopped}
 use Rattle.soc_session.specs.Session.{Around, HandsResponses, HoldsResponses, IsEnd, IsResponse, Leaves, RunsDesk, Response, WritesAll, met, refused, response_bytes, response_text, closing_of}
 use Rattle.soc_session.specs.inner.Plans.{HandsDrawn}
 
 -- what is left of a session: bytes that stand unread in the window come before those that the link gives, and these are in
 -- the window at the end
-pub record ServesFrom {K : Type 0} (asks : K → Command → Receipt → K → Type 0) (rules : Rules) (window : List ℕ) (budget : ℕ) (before after : Around K) (behind : List ℕ) (end : SessionEnd) : Type 0 where
+pub record ServesFrom {K : Type 0} (asks : K → Command → Receipt → K → Type 0) (ways : Ways) (window : List ℕ) (budget : ℕ) (before after : Around K) (behind : List ℕ) (end : SessionEnd) : Type 0 where
   pub responses : List Response
-  pub by_rules : AllByRecursion (IsResponse rules) responses
+  pub by_rules : AllByRecursion (IsResponse ways) responses
   pub runs : RunsDesk asks before.desk responses after.desk
   pub given : List ℕ
   pub gives : Gives before.left after.left given
@@ -35,9 +34,9 @@ pub record ServesFrom {K : Type 0} (asks : K → Command → Receipt → K → T
   pub ends : IsEnd end budget responses
 
 -- one message was answered, and the session goes on
-pub record Exchanges {K : Type 0} (asks : K → Command → Receipt → K → Type 0) (rules : Rules) (window : List ℕ) (before : Around K) (behind : List ℕ) (after : Around K) (bytes : ℕ) : Type 0 where
+pub record Exchanges {K : Type 0} (asks : K → Command → Receipt → K → Type 0) (ways : Ways) (window : List ℕ) (before : Around K) (behind : List ℕ) (after : Around K) (bytes : ℕ) : Type 0 where
   pub exchange : Exchange
-  pub is : IsExchange rules exchange
+  pub is : IsExchange ways exchange
   pub steps : StepsDesk asks before.desk exchange.asked after.desk
   pub given : List ℕ
   pub gives : Gives before.left after.left given
@@ -48,9 +47,9 @@ pub record Exchanges {K : Type 0} (asks : K → Command → Receipt → K → Ty
   pub bytes_are : bytes ≡ response_bytes (met exchange)
 
 -- what came of one response of the loop, whatever is left of the budget
-abbrev pub StepsOn : {K : Type 0} → (K → Command → Receipt → K → Type 0) → Rules → List ℕ → Around K → List ℕ → Around K → Next → Type 0
-StepsOn asks rules window before behind after (Goes bytes) = Exchanges asks rules window before behind after bytes
-StepsOn asks rules window before behind after (Ends end) = (budget : ℕ) → 0 < budget → ServesFrom asks rules window budget before after behind end
+abbrev pub StepsOn : {K : Type 0} → (K → Command → Receipt → K → Type 0) → Ways → List ℕ → Around K → List ℕ → Around K → Next → Type 0
+StepsOn asks ways window before behind after (Goes bytes) = Exchanges asks ways window before behind after bytes
+StepsOn asks ways window before behind after (Ends end) = (budget : ℕ) → 0 < budget → ServesFrom asks ways window budget before after behind end
 
 -- ---- one message
 
@@ -86,7 +85,7 @@ WritesNext before after exchange next =
     ⊎ (TakesFront before after (response_text (met exchange)) × (next ≡ Ends WriteFault))
 
 -- a message that came is answered
-pub record Responds {K : Type 0} (asks : K → Command → Receipt → K → Type 0) (rules : Rules) (incoming : Incoming) (desk after : K) (ahead behind : Outlook)
+pub record Responds {K : Type 0} (asks : K → Command → Receipt → K → Type 0) (ways : Ways) (incoming : Incoming) (desk after : K) (ahead behind : Outlook)
     (held held' : Option (List ℕ)) (next : Next) : Type 0 where
-  pub reply : (message : Message) → IsMessage rules incoming message → (exchange : Exchange) × (exchange.message ≡ message) × IsExchange rules exchange
+  pub reply : (message : Message) → IsMessage ways.rules incoming message → (exchange : Exchange) × (exchange.message ≡ message) × IsExchange ways exchange
       × StepsDesk asks desk exchange.asked after × HandsDrawn ahead behind exchange.drawn × WritesNext held held' exchange next

@@ -1,7 +1,7 @@
 //! What is asked of the crash that a query names.
 ghost use Rattle.std.specs.Prelude.{◌≡◌, IfOk, codes};
 ghost use Rattle.soc_http.specs.Query.{query_pairs};
-ghost use Rattle.soc_desk.specs.Commands.{to_show_raw, to_show_report, to_show_dump};
+ghost use Rattle.soc_desk.specs.Commands.{to_show_raw, to_show_report, to_show_dump, to_show_stack};
 ghost use Rattle.soc_session.specs.Parameters.{crash_named, dump_named};
 ghost use Rattle.soc_session.specs.Plan.{about};
 ghost use Rattle.soc_session.specs.inner.Plans.{plan_text};
@@ -39,6 +39,18 @@ pub(super) fn dump(alloc: Global, head: &Head, caller: Caller) -> Result<Plan, N
     };
     let name = Text::of(alloc, dump_named(&pairs))?;
     Ok(Plan::asking(Command::Dump { caller, id, name }, ReplyForm::Data))
+}
+
+/// `/api/Stack/`: the stack of a crash.
+pub(super) fn stack(alloc: Global, head: &Head, caller: Caller) -> Result<Plan, NoMemory>
+    ensures { IfOk result (λ plan. plan_text plan ≡
+        about (crash_named (codes "crash_id") (query_pairs head.now.query)) (to_show_stack caller) ReplyForm.Data) }
+{
+    let pairs = query_in(alloc, head)?;
+    let Some(id) = crash_named("crash_id", &pairs) else {
+        return Plan::not_found(alloc);
+    };
+    Ok(Plan::asking(Command::Stack { caller, id }, ReplyForm::Data))
 }
 
 /// `/api/ProcessedCrash/`: the report of a crash.

@@ -14,13 +14,13 @@ returns-in_default-clause-kept g c = (c.loop.invariant.kept, short _ _ c.loop.in
 
 pub returns-then-stopped-clause-asks : goal.returns-then-stopped-clause-asks
 returns-then-stopped-clause-asks g c =
-    some_append g.K.Desk.Asks _ _ _ c.loop.invariant.asks (by_serving g.K.Desk.Asks c.args.setting.rules.now _ _ _ _ c.serve_one.ensures.serves.0 c.serve_one.ensures.serves.1)
+    some_append g.K.Desk.Asks _ _ _ c.loop.invariant.asks (by_serving g.K.Desk.Asks _ _ _ _ _ c.serve_one.ensures.serves.0 c.serve_one.ensures.serves.1)
 
 pub returns-then-stopped-clause-kept : goal.returns-then-stopped-clause-kept
 returns-then-stopped-clause-kept g c =
     let serves = c.serve_one.ensures.serves in
     let kept = counts_all _ _ _ _ c.loop.invariant.kept serves.2.kept in
-    let one = by_serving g.K.Desk.Asks c.args.setting.rules.now _ _ _ _ serves.0 serves.1 in
+    let one = by_serving g.K.Desk.Asks _ _ _ _ _ serves.0 serves.1 in
     let small = stays_below g.K.Desk.Asks g.K.KeepingDesk.added (2 ^ 60) g.met.K.KeepingDesk.added_grows _ _ c.loop.invariant.small one in
     (kept, short _ _ kept small)
 
@@ -28,7 +28,7 @@ pub loop-preserved : goal.loop-preserved
 loop-preserved g c =
     let serves = c.serve_one.ensures.serves in
     let kept = counts_all _ _ _ _ c.loop.invariant.kept serves.2.kept in
-    let one = by_serving g.K.Desk.Asks c.args.setting.rules.now _ _ _ _ serves.0 serves.1 in
+    let one = by_serving g.K.Desk.Asks _ _ _ _ _ serves.0 serves.1 in
     record {
       ahead = (tt, tt);
       asks = some_append g.K.Desk.Asks _ _ _ c.loop.invariant.asks one;

@@ -25,7 +25,7 @@ returns-clause-serves g c =
       goes_on = (
         unsaid,
         serves _ g.K.Desk.Asks (λ v. v.desk.ghost_name) (λ v. v.desk.now) (λ v. v.stopped) (λ v command receipt w asked. asked)
-            c.args.setting.rules.now _ _ c.session-end.new.buffer c.session-end.result session,
+            _ _ _ c.session-end.new.buffer c.session-end.result session,
         ran.2 ∙ ap (λ s. s || any_stopped session.responses) (both_false _ _ _ looked.1.2 c.requires.unstopped unsaid),
       );
     }

@@ -8,6 +8,10 @@ pub returns-in_err-kit-clause-tree_cause : goal.returns-in_err-kit-clause-tree_c
 returns-in_err-kit-clause-tree_cause g c =
     λ is. absurd (kit_not_tree _ c.in_ok-texts.texts.kit c.in_err-kit.field-0.0 c.from_residual-in_err-kit.ensures.1 c.in_err-kit.ensures.reads is)
 
+pub returns-in_err-kit-clause-tree_first : goal.returns-in_err-kit-clause-tree_first
+returns-in_err-kit-clause-tree_first g c =
+    λ is. absurd (kit_not_tree _ c.in_ok-texts.texts.kit c.in_err-kit.field-0.0 c.from_residual-in_err-kit.ensures.1 c.in_err-kit.ensures.reads is)
+
 pub returns-in_err-kit-clause-fault : goal.returns-in_err-kit-clause-fault
 returns-in_err-kit-clause-fault g c =
     kit_fault _ c.in_ok-texts.texts c.in_ok-setup.setup c.in_err-kit.field-0.0 c.from_residual-in_err-kit.result c.in_ok-texts.ensures.told c.in_ok-setup.ensures

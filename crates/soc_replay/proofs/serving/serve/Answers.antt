@@ -22,11 +22,11 @@ returns-clause-runs g c =
     let lent = sym c.over-book.ensures.same_disk ∙ (sym kept ∙ (sym c.keep_after-keeping.ensures.same_disk ∙ sym c.into_disk-disk.ensures.same_disk)) in
     served_on g.D.Disk.state _ c.keep_after-keeping.new.book.vault.disk.now (c.disk-1.given.1 lent ∙ c.into_disk-disk.ensures.disk) _ _ (g.X.Tells.told c.session-end.new.link) _ _ _
     (serves_journal _ (λ book. g.D.Disk.state book.vault.disk.now) (λ book. g.met.D.Disk.sound book.vault.disk.now)
-    (g.R.Reporter.row_of c.args.reporter.now) (g.R.Reporter.digest_of c.args.reporter.now)
-    (λ book. book.reporter.now ≡ c.args.reporter.now)
+    (g.R.Reporter.row_of c.args.purpose.now.reporter.now) (g.R.Reporter.digest_of c.args.purpose.now.reporter.now)
+    (λ book. book.reporter.now ≡ c.args.purpose.now.reporter.now)
     (λ book basis state. StandsFor basis book state)
     (λ desk desk' command receipt asked same. (asked.0.reporter ∙ same, λ basis state rows stands. asked.1 basis state (rows ∙ sym (ap g.R.Reporter.row_of same)) stands))
-    c.args.setup.now
+    c.args.purpose.now.setup.now (g.S.Stacks.stack_of c.args.purpose.now.stacks.now)
     (surroundings (g.X.Tells.told c.args.streams.now) (g.D.Disk.state c.args.disk.now) (outlook (g.C.Clock.told c.args.clock.now) (g.W.Draws.told c.args.draws.now)))
     (surroundings (g.X.Tells.told c.session-end.new.link) (g.D.Disk.state c.keep_after-keeping.new.book.vault.disk.now) (outlook (g.C.Clock.told c.session-end.new.clock) (g.W.Draws.told c.session-end.new.draws)))
     c.over-book.result c.session-end.new.desk c.session-end.result c.keep_after-keeping.result _

@@ -2,11 +2,12 @@ use denote.Param.Send.{sendable}
 use Rattle.std.proofs.Crossing.{crosses}
 use Rattle.std.proofs.MapsCrossing as maps
 use Rattle.std.proofs.Common.{Err}
-use Rattle.soc_replay.proofs.FileLemmas.{kit_not_tree, says_said}
+use Rattle.soc_replay.proofs.FileLemmas.{kit_fault, kit_not_tree, says_said}
 use Rattle.soc_symfile.proofs.symfile.SymFile.TheSendSync as symfile
 use Rattle.soc_report.proofs.texts.KitText.TheSendSync as kit_text
 use Rattle.soc_report.proofs.index.Index.TheSendSync as index
 use Rattle.soc_siglists.proofs.Crossing.{lists}
+use Rattle.soc_serve.specs.declared.ending.HostEnd.{HostEnd}
 use Rattle.soc_serve.proofs.Hosted.{blames_neither, serves_with}
 use Rattle.soc_serve.proofs.hosting.by_files.Goals as goal
 
@@ -14,9 +15,26 @@ pub returns-in-Err-read-clause-tree_cause : goal.returns-in-Err-read-clause-tree
 returns-in-Err-read-clause-tree_cause g c is =
     absurd (kit_not_tree (Err c.from.result) c.in-Ok.files.0.kit c.in-Err-read.error c.from.ensures c.in-Err-read.ensures.reads is)
 
+pub returns-in-Err-read-clause-tree_first : goal.returns-in-Err-read-clause-tree_first
+returns-in-Err-read-clause-tree_first g c is =
+    absurd (kit_not_tree (Err c.from.result) c.in-Ok.files.0.kit c.in-Err-read.error c.from.ensures c.in-Err-read.ensures.reads is)
+
+pub returns-in-Err-read-clause-fault : goal.returns-in-Err-read-clause-fault
+returns-in-Err-read-clause-fault g c =
+    kit_fault {A = HostEnd} _ c.in-Ok.files.0 c.in-Ok.files.1 c.in-Err-read.error (Err c.from.result) c.in-Ok.ensures.told c.in-Ok.ensures.says
+    c.in-Err-read.ensures.reads c.from.ensures
+
 pub serve-end-requires-sync-Q : goal.serve-end-requires-sync-Q
 serve-end-requires-sync-Q g c κs within =
     let l = lists in search (sendable, crosses, maps.crosses, symfile.the_sync, kit_text.the_sync, index.the_field_sync) depth 20 fits 4000
+
+pub serve-end-requires-send-S : goal.serve-end-requires-send-S
+serve-end-requires-send-S g c κs within =
+    let l = lists in search (sendable, crosses, maps.crosses, symfile.the_sync, kit_text.the_sync, index.the_field_sync) depth 24 fits 4000
+
+pub serve-end-requires-sync-S : goal.serve-end-requires-sync-S
+serve-end-requires-sync-S g c κs within =
+    let l = lists in search (sendable, crosses, maps.crosses, symfile.the_sync, kit_text.the_sync, index.the_field_sync) depth 24 fits 4000
 
 pub returns-clause-hosts : goal.returns-clause-hosts
 returns-clause-hosts g c =

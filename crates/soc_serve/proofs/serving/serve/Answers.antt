@@ -64,7 +64,7 @@ returns-clause-serves g c =
     ∥∥₁_elim together (Coded-set coded_ℕ _ _) (λ t. ap (λ basis. basis.lent) t.same_basis) in
     let lent = sym e.same_disk ∙ (sym kept ∙ (sym (ap (λ book. book.vault.disk.ghost_name) c.into_book-book.ensures) ∙ (sym c.close-end.ensures.same_disk ∙ sym c.into_disk-disk.ensures.same_disk))) in
     served_on g.D.Disk.state _ c.close-end.new.book.vault.disk.now (c.disk-1.given.1 lent ∙ c.into_disk-disk.ensures.disk) _ _ _ (g.K.Tells.told c.close-end.new.output) after _
-    (serves_desk g.D.Telling.tells c.args.purpose.now.reporter.now c.args.purpose.now.setup.now c.serve_together-book.result.served.kept
+    (serves_desk g.D.Telling.tells c.args.purpose.now.reporter.now (g.S.Stacks.stack_of c.args.purpose.now.stacks.now) c.args.purpose.now.setup.now c.serve_together-book.result.served.kept
     (surroundings (g.K.Tells.told c.args.output.now) (g.D.Disk.state c.args.disk.now) before)
     (surroundings (g.K.Tells.told c.close-end.new.output) (g.D.Disk.state c.close-end.new.book.vault.disk.now) after)
     end ((g.met.D.Telling g.world.𝓛 g.world.𝓜 g.world.𝓡 ((λ s x. x), (λ x. x), (λ x. x), λ x. x)).steady c.args.disk.now)

@@ -17,6 +17,10 @@ pub returns-in-RawDump : goal.returns-in-RawDump
 returns-in-RawDump c =
     Awaits-passing c.args.rules.now c.args.route R.RawDump c.args.caller c.args.head.now c.dump.result c.passing-in-RawDump.result _ c.in-RawDump.is c.dump.ensures (λ body. (refl, refl)) c.passing-in-RawDump.ensures
 
+pub returns-in-Stack : goal.returns-in-Stack
+returns-in-Stack c =
+    Awaits-passing c.args.rules.now c.args.route R.Stack c.args.caller c.args.head.now c.stack.result c.passing-in-Stack.result _ c.in-Stack.is c.stack.ensures (λ body. (refl, refl)) c.passing-in-Stack.ensures
+
 pub returns-in-ProcessedCrash : goal.returns-in-ProcessedCrash
 returns-in-ProcessedCrash c =
     Awaits-passing c.args.rules.now c.args.route R.ProcessedCrash c.args.caller c.args.head.now c.report.result c.passing-in-ProcessedCrash.result _ c.in-ProcessedCrash.is c.report.ensures (λ body. (refl, refl)) c.passing-in-ProcessedCrash.ensures
