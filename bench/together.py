@@ -4,6 +4,7 @@ writes and two syncs for each (two_syncs.c). Of each the least of three runs cou
 usage: bench/together.py [FOLDER [COUNT]]     (the program must be built: `cd crates/soc_bench && rt run`)
 Syncs cost nothing in a FOLDER in memory, as /dev/shm. Deleted files slow a disk down, so the files in FOLDER are emptied."""
 import os
+import re
 import subprocess
 import sys
 import tempfile
@@ -25,7 +26,7 @@ def together(folder, count, batch):
     done = subprocess.run(words, capture_output=True, text=True, check=True)
     if done.stdout != "together: %d stored, %d at once\n" % (count, batch):
         sys.exit("the program wrote %r" % done.stdout)
-    return int(done.stderr.split()[1]) / 1000
+    return int(re.search(r"together: (\d+) ns", done.stderr)[1]) / 1000
 
 
 def two_syncs(program, folder, count):

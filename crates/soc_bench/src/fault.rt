@@ -17,7 +17,7 @@ impl Fault {
     pub fn as_str(&self) -> &str {
         match self {
             Fault::Words => {
-                "usage: soc_bench bodies MEGABYTES | symbols MEGABYTES | dump KIND | walk DUMP [SYMBOLS..] | report [DUMP [SYMBOLS..]] | signature | search ROWS | hall THREADS TURNS | ring JOBS | together FILE COUNT BATCH"
+                "usage: soc_bench bodies MEGABYTES | symbols MEGABYTES | dump KIND | walk DUMP [SYMBOLS..] | report [DUMP [SYMBOLS..]] | signature | search ROWS [FRONT] | hall THREADS TURNS | ring JOBS | together FILE COUNT BATCH"
             }
             Fault::Failed(error) => error.as_str(),
         }

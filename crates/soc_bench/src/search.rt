@@ -4,7 +4,7 @@ ghost use Rattle.std.specs.Prelude.{◌≡◌, ◌<◌, ◌≤◌};
 use crate::fault::Fault;
 use crate::harness::{Work, time};
 use crate::numbers::number_up_to;
-use crate::rows::{alike_row, made_row};
+use crate::rows::Rows;
 use soc_base::{Pairs, Text};
 use soc_edge::Steps;
 use soc_query::Query;
@@ -21,6 +21,9 @@ const MOST_ROWS: u64 = 1_048_576;
 
 /// How many rows are made at once, and then put.
 const ROWS_AT_ONCE: u64 = 1024;
+
+/// The most bytes that come before most texts of a row.
+const MOST_FRONT: u64 = 1_000;
 
 /// As many pairs as a query may have.
 const MOST_PAIRS: u64 = 128;
@@ -100,18 +103,44 @@ impl Work for Answers<'_> {
     }
 }
 
-/// Puts so many made rows into a store, and answers each query.
+/// Puts so many made rows into a store, most of whose texts begin with so many bytes that are the same, and answers each
+/// query.
 pub fn run<R: CpuClock + Print + Eprint + AllocGlobal>(
     rt: &R,
     words: &[String],
 ) -> Result<(), Fault> {
-    let [count] = words else {
-        return Err(Fault::Words);
+    let (count, front) = match words {
+        [count] => (count, 0),
+        [count, front] => (count, number_up_to(front, MOST_FRONT)?),
+        _ => return Err(Fault::Words),
     };
-    let count = number_up_to(count, MOST_ROWS)?;
+    let front = front_of(rt.alloc(), front)?;
+    search(rt, number_up_to(count, MOST_ROWS)?, front.as_str())
+}
+
+/// What texts begin with.
+fn front_of(alloc: Global, length: u64) -> Result<String, Fault> {
+    let mut front = String::new(alloc);
+    for _ in 0..length {
+        front.push('x')?;
+    }
+    Ok(front)
+}
+
+fn search<R: CpuClock + Print + Eprint + AllocGlobal>(
+    rt: &R,
+    count: u64,
+    front: &str,
+) -> Result<(), Fault>
+    requires { count ≤ 1048576 }
+{
     let alloc = rt.alloc();
     let mut store = Store::new(alloc);
-    fill(rt, &mut store, count, false)?;
+    let rows = Rows {
+        alike: false,
+        front,
+    };
+    fill(rt, &mut store, count, rows)?;
     for asked in &QUERIES {
         let query = query_of(alloc, asked.pairs)?;
         time_query(rt, &store, asked.name, &query)?;
@@ -121,7 +150,7 @@ pub fn run<R: CpuClock + Print + Eprint + AllocGlobal>(
     let sorts = each_field(alloc, "_sort")?;
     time_query(rt, &store, "28 sorts", &sorts)?;
     let mut alike = Store::new(alloc);
-    fill(rt, &mut alike, count, true)?;
+    fill(rt, &mut alike, count, Rows { alike: true, front })?;
     time_query(rt, &alike, "28 sorts, rows alike", &sorts)
 }
 
@@ -147,12 +176,12 @@ fn each_field(alloc: Global, name: &str) -> Result<Query, Fault> {
     Ok(Query::read(alloc, &pairs, anybody())?)
 }
 
-/// Puts rows, which are alike but for their ids or not, and says how long that took.
+/// Puts so many rows, and says how long that took.
 fn fill<R: CpuClock + Print + Eprint + AllocGlobal>(
     rt: &R,
     store: &mut Store,
     count: u64,
-    alike: bool,
+    rows: Rows<'_>,
 ) -> Result<(), Fault>
     requires { count ≤ 1048576 }
 {
@@ -160,7 +189,7 @@ fn fill<R: CpuClock + Print + Eprint + AllocGlobal>(
     for part in 0..count / ROWS_AT_ONCE + 1 {
         let first = part * ROWS_AT_ONCE;
         let end = count.min(first + ROWS_AT_ONCE);
-        took = took.saturating_add(put_rows(rt, store, first, end, alike)?);
+        took = took.saturating_add(put_rows(rt, store, first, end, rows)?);
     }
     let each = took.as_nanos() / u128::from(count.max(1));
     println!(rt; "search: {count} rows")?;
@@ -174,18 +203,14 @@ fn put_rows(
     store: &mut Store,
     first: u64,
     end: u64,
-    alike: bool,
+    kind: Rows<'_>,
 ) -> Result<Duration, Fault>
     requires { first ≤ 1048576 }
 {
     let alloc = rt.alloc();
     let mut rows: Vec<Row> = Vec::new(alloc);
     for number in first..end {
-        rows.push(if alike {
-            alike_row(alloc, number)?
-        } else {
-            made_row(alloc, number)?
-        })?;
+        rows.push(kind.row(alloc, number)?)?;
     }
     let start = rt.process_cpu_time()?;
     let mut place = first as u32;
