@@ -1,11 +1,15 @@
 -- What a put and a take say: of the lists of jobs put and taken, which only grow, and of which what was taken is a front of what was put. And what all passes say when the ring ends.
-use Rattle.std.specs.Prelude.{◌⊎◌, ◌≡◌, ℕ, ◌==◌, cond, List, [], ◌∷◌, ◌++◌, length, All}
+use Rattle.std.specs.Prelude.{◌⊎◌, ◌≡◌, ℕ, ◌==◌, cond, List, [], ◌∷◌, ◌++◌, length, All, refl}
 use mathlib.Core.Option.{some}
 use mathlib.Core.List.{IsPrefix}
 use lib.ListN.{get_elem?}
 use Rattle.soc_pool.specs.declared.jobs.Job.{Job}
+use Rattle.soc_pool.specs.declared.jobs.TheConstants.{PLACES}
 use Rattle.soc_pool.specs.declared.rule.Entry.{Entry}
 use Rattle.soc_pool.specs.declared.rule.Seen.{Seen}
+
+pub places_are : PLACES ≡ 1_024
+places_are = refl
 
 abbrev pub entry : ℕ → Job → Entry
 entry n job = record { by = n; job = job }
