@@ -1,6 +1,6 @@
 -- How the reports of a run are kept for later runs: the doubt is settled, and then each crash that has a report, isn't due
 -- and has no report of the run's digest behind its last acceptance or asking gets one appended. This project's profile.
-use Rattle.std.specs.Prelude.{◌≡◌, ◌≢◌, ◌⊎◌, ℕ, Bool, not, nat_lt, ◌&&◌, ◌||◌, if◌then◌else◌, List, [], ◌∷◌, ◌++◌, length, filter, Option, is_some, map, true, ⊤}
+use Rattle.std.specs.Prelude.{◌≡◌, ◌≢◌, ◌⊎◌, ℕ, Bool, not, nat_lt, ◌&&◌, ◌||◌, if◌then◌else◌, List, [], ◌∷◌, ◌++◌, length, filter, Option, is_some, map, IsTrue, true, ⊤}
 use Rattle.std.specs.Option.{option_map, option_map_or, option_and_then}
 use Rattle.soc_journal.specs.Entries.{max_body}
 use Rattle.soc_ledger.specs.declared.event.Event.{Event}
@@ -15,7 +15,7 @@ use Rattle.soc_desk.specs.Basis.{Basis}
 use Rattle.soc_desk.specs.Desk.{FailsMend}
 use Rattle.soc_desk.specs.Grows.{BehindDoubt, StaysInDoubt}
 use Rattle.soc_desk.specs.Log.{Kept, KeptReport, report, Change, keep, events, row_in}
-use Rattle.soc_desk.specs.State.{State, settled, Settles, body_of, has_room, kept_of, StandsFor, Allowed}
+use Rattle.soc_desk.specs.State.{State, settled, Settles, body_of, doubted, has_room, IsLegalState, kept_of, StandsFor, Allowed}
 
 abbrev pub is_to_keep : List Event → List ℕ → Bool
 is_to_keep log id = has_report log id && (not (is_due log id) && not (is_kept log id))
@@ -111,3 +111,13 @@ abbrev pub KeepGrows : Basis → Reply → List Event → List Event → List Ev
 KeepGrows basis (R.Refused F.StoreFault) log doubt piece after =
     ((doubt ≢ []) × StaysInDoubt doubt piece after) ⊎ BehindDoubt log doubt piece (Reports basis (R.Refused F.StoreFault) after)
 KeepGrows basis reply log doubt piece after = BehindDoubt log doubt piece (Reports basis reply after)
+
+-- Reports are kept for later runs, with this answer: always by the log's events, and where the disk tells its content by its
+-- changes.
+pub record KeepsWith (basis : Basis) (before : State) (reply : Reply) (after : State) : Type 0 where
+  pub piece : List Change
+  pub behind : after.log ≡ before.log ++ piece
+  pub grows : KeepGrows basis reply (events basis before.log) (doubted basis before) (events basis piece)
+      (doubted basis after)
+  pub legal : IsLegalState basis after
+  pub step : IsTrue basis.is_told → StepKeep basis before reply after

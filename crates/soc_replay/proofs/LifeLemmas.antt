@@ -59,7 +59,7 @@ keeps_behind basis last faults faults' Left None kept is_told same leaves = reco
 }
 keeps_behind basis last faults faults' Left (Some said) kept is_told keeps leaves =
     let once : Transition = record { action = keeping said; after = kept } in
-    let is : IsTransition basis last once = (keeps.step is_told, keeps.legal) in
+    let is : IsTransition basis last once = (keeps.0.step is_told, keeps.0.legal) in
     record {
       later = once ∷ [];
       actions_are = refl;

@@ -77,14 +77,8 @@ opened_allows basis entries log opens told image text =
 keeps_by : (basis : Basis) (last : State) (disk disk' : DiskTold) (said : Option Reply) (kept : State) → KeepsDisk basis last disk said kept disk'
     → KeepsBy basis last disk.faults disk'.faults said kept
 keeps_by basis last disk disk' None kept is = is.0
-keeps_by basis last disk disk' (Some reply) kept is = record {
-  piece = is.piece;
-  behind = is.behind;
-  grows = is.grows;
-  legal = is.legal;
-  fault = is.fault;
-  step = is.step;
-}
+keeps_by basis last disk disk' (Some reply) kept is =
+    (record { piece = is.piece; behind = is.behind; grows = is.grows; legal = is.legal; step = is.step }, is.fault)
 
 keep_goes_on : (basis : Basis) (last : State) (disk disk' : DiskTold) (said : Option Reply) (kept : State) → KeepsDisk basis last disk said kept disk' → GoesOn disk disk'
 keep_goes_on basis last disk disk' None kept is = is.1.goes_on
@@ -312,7 +306,7 @@ keep_cause by before after end (K.Done count) serves is = absurd (never_four end
 keep_cause by before after end K.NoMemory serves is = absurd (omega (arith, is))
 keep_cause by before after end K.Fault serves is =
     rose_from before.disk.faults serves.opened.faults serves.served.faults after.disk.faults serves.no_fewer
-    (rose_on serves.opened.faults serves.served.faults (store_faults serves.serves.responses) serves.blames) (serves.keeps.fault tt)
+    (rose_on serves.opened.faults serves.served.faults (store_faults serves.serves.responses) serves.blames) (serves.keeps.1 tt)
 
 -- ---- a book that was made of what was opened
 

@@ -1,6 +1,6 @@
 -- A session over a desk whose log a journal keeps: from the opening of the journal until the reports are kept. This project's
 -- profile.
-use Rattle.std.specs.Prelude.{◌≡◌, ◌⊎◌, ℕ, ◌≤◌, Bool, true, false, is_some, IfSome, IsTrue, List, ◌++◌, Option, None, Some}
+use Rattle.std.specs.Prelude.{◌≡◌, ◌⊎◌, ℕ, ◌≤◌, Bool, true, false, is_some, IfSome, List, ◌++◌, Option, None, Some}
 use Rattle.soc_raw.specs.Record.{Crash}
 use Rattle.soc_schema.specs.declared.permission.Permissions.{Permissions}
 use Rattle.soc_schema.specs.declared.value.Cell.{Cell}
@@ -12,9 +12,8 @@ use Rattle.soc_desk.specs.declared.desk.Reply.TheVariants as reply
 use Rattle.soc_desk.specs.declared.desk.Refusal.TheVariants as refusal
 use Rattle.soc_desk.specs.Asks.{IsStoreFault}
 use Rattle.soc_desk.specs.Basis.{Basis}
-use Rattle.soc_desk.specs.Keeps.{KeepAllows, KeepGrows, StepKeep}
-use Rattle.soc_desk.specs.Log.{Change, events}
-use Rattle.soc_desk.specs.State.{State, doubted, Allowed, IsLegalState, settled}
+use Rattle.soc_desk.specs.Keeps.{KeepAllows, KeepsWith}
+use Rattle.soc_desk.specs.State.{State, Allowed, settled}
 use Rattle.soc_session.specs.declared.ending.SessionEnd.{SessionEnd}
 use Rattle.soc_session.specs.declared.ending.SessionEnd.TheVariants.{Ended, Closed, Stopped, Refused, ReadFault, WriteFault, TooLong, NoMemory}
 use Rattle.soc_desk.specs.Runs.{Answers, DeskAt}
@@ -47,20 +46,11 @@ keep_reply (K.Done count) = Some (reply.Kept count)
 keep_reply K.Fault = Some (reply.Refused refusal.StoreFault)
 keep_reply K.NoMemory = Some (reply.Refused refusal.NoMemory)
 
--- Reports were kept under this reply: always what the reply and the log tell, and where the disk tells its content a step.
--- The disk's count of faults was this before.
-pub record KeepsUnder (basis : Basis) (last : State) (faults faults' : ℕ) (said : Reply) (kept : State) : Type 0 where
-  pub piece : List Change
-  pub behind : kept.log ≡ last.log ++ piece
-  pub grows : KeepGrows basis said (events basis last.log) (doubted basis last) (events basis piece) (doubted basis kept)
-  pub legal : IsLegalState basis kept
-  pub fault : IsStoreFault said → Rose faults faults'
-  pub step : IsTrue basis.is_told → StepKeep basis last said kept
-
--- without a reply nothing is done
+-- what keeping under this reply does, without a reply nothing; a store fault only where the disk's count of faults rose
 abbrev pub KeepsBy : Basis → State → ℕ → ℕ → Option Reply → State → Type 0
 KeepsBy basis last faults faults' None kept = kept ≡ last
-KeepsBy basis last faults faults' (Some said) kept = KeepsUnder basis last faults faults' said kept
+KeepsBy basis last faults faults' (Some said) kept =
+    KeepsWith basis last said kept × (IsStoreFault said → Rose faults faults')
 
 -- ---- stops
 

@@ -23,7 +23,7 @@ use Rattle.soc_desk.specs.Basis.{Basis}
 use Rattle.soc_desk.specs.Decisions.{Decision, answers, appends, decide, lacked}
 use Rattle.soc_desk.specs.Desk.{Decides, FailsMend, FailsRead, IfElse, Refuses, SettlesAndDecides, Step, StepWriting}
 use Rattle.soc_desk.specs.Grows.{StaysInDoubt}
-use Rattle.soc_desk.specs.Keeps.{KeepAllows, StandsBetween, kept_with_doubt}
+use Rattle.soc_desk.specs.Keeps.{KeepAllows, KeepsWith, StandsBetween, kept_with_doubt}
 use Rattle.soc_desk.specs.Log.{Change, Kept, IsLegal, event_of, events, keep}
 use Rattle.soc_desk.specs.Opens.{log_of}
 use Rattle.soc_desk.specs.Runs.{Answers, DeskAt}
@@ -38,7 +38,7 @@ use Rattle.soc_serve.specs.declared.ending.HostEnd.TheVariants as H
 use Rattle.soc_serve.specs.declared.sweep.SweepFault.{SweepFault}
 use Rattle.soc_serve.specs.Hosts.{Closes, HostsDesk}
 use Rattle.soc_serve.specs.Lives.{IsOfSweep}
-use Rattle.soc_serve.specs.Sweep.{FailsAt, IsBehind, KeepsTwice, KeepsWith, ProcessesWith, Sweeps}
+use Rattle.soc_serve.specs.Sweep.{FailsAt, IsBehind, KeepsTwice, ProcessesWith, Sweeps}
 use Rattle.soc_serve.specs.inner.Sweeping.{SameJournal}
 use Rattle.soc_serve.proofs.Stops.{drained_same, longer, nothing_in_doubt}
 use Rattle.soc_serve.proofs.Sweeps.{behind_again, operator, still}

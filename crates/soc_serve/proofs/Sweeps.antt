@@ -15,7 +15,7 @@ use Rattle.soc_desk.specs.declared.desk.Refusal.{Refusal}
 use Rattle.soc_desk.specs.declared.desk.Refusal.TheVariants as F
 use Rattle.soc_desk.specs.Basis.{Basis}
 use Rattle.soc_desk.specs.Grows.{BehindDoubt}
-use Rattle.soc_desk.specs.Keeps.{Reports}
+use Rattle.soc_desk.specs.Keeps.{KeepsWith, Reports}
 use Rattle.soc_desk.specs.Log.{Change, done, event_of, events}
 use Rattle.soc_desk.specs.State.{State, IsLegalState}
 use Rattle.soc_desk.proofs.Drained.{drains_all}
@@ -23,7 +23,7 @@ use Rattle.soc_book.specs.Keeping.{KeepsReports}
 use Rattle.soc_book.specs.inner.Does.{Does}
 use Rattle.soc_serve.specs.declared.sweep.SweepFault.{SweepFault}
 use Rattle.soc_serve.specs.declared.sweep.SweepFault.TheVariants as S
-use Rattle.soc_serve.specs.Sweep.{EndsSweep, FailsBoth, FailsBy, FailsSweep, IsBehind, IsFault, KeepsAll, KeepsTwice, KeepsWith, Processes, ProcessesAndKeeps, ProcessesWith}
+use Rattle.soc_serve.specs.Sweep.{EndsSweep, FailsBoth, FailsBy, FailsSweep, IsBehind, IsFault, KeepsAll, KeepsTwice, Processes, ProcessesAndKeeps, ProcessesWith}
 use Rattle.soc_serve.specs.inner.Sweeping.{EndsBoth, EndsDrain, EndsKeep, FailsStep, drained, kept}
 
 -- a caller who may have crashes processed

@@ -11,9 +11,9 @@ use Rattle.soc_desk.specs.declared.desk.Reply.TheVariants as R
 use Rattle.soc_desk.specs.Basis.{Basis}
 use Rattle.soc_desk.specs.Desk.{DrainsAll}
 use Rattle.soc_desk.specs.Grows.{Drains}
-use Rattle.soc_desk.specs.Keeps.{KeepGrows, StepKeep}
+use Rattle.soc_desk.specs.Keeps.{KeepsWith}
 use Rattle.soc_desk.specs.Log.{Change, events}
-use Rattle.soc_desk.specs.State.{State, doubted, IsLegalState}
+use Rattle.soc_desk.specs.State.{State, IsLegalState}
 use Rattle.soc_serve.specs.declared.sweep.SweepFault.{SweepFault}
 use Rattle.soc_serve.specs.declared.sweep.SweepFault.TheVariants as F
 
@@ -29,14 +29,6 @@ pub record ProcessesWith (basis : Basis) (before : State) (reply : Reply) (after
 -- all of it was processed, and it was so many
 abbrev pub Processes : Basis → State → ℕ → State → Type 0
 Processes basis before count after = ProcessesWith basis before (R.Drained count) after
-
--- reports are kept for later runs, with this answer
-pub record KeepsWith (basis : Basis) (before : State) (reply : Reply) (after : State) : Type 0 where
-  pub piece : List Change
-  pub behind : after.log ≡ before.log ++ piece
-  pub grows : KeepGrows basis reply (events basis before.log) (doubted basis before) (events basis piece) (doubted basis after)
-  pub legal : IsLegalState basis after
-  pub step : IsTrue basis.is_told → StepKeep basis before reply after
 
 -- so many reports were kept
 abbrev pub KeepsAll : Basis → State → ℕ → State → Type 0

@@ -2,7 +2,7 @@
 use Rattle.std.specs.Prelude.{◌≡◌, ◌⊎◌, ℕ, false, IsTrue, Result, Ok, Err}
 use Rattle.soc_edge.specs.Disk.{DiskTold, DiskFailed, GoesOn, LeavesOnly}
 use Rattle.soc_desk.specs.Basis.{Basis}
-use Rattle.soc_desk.specs.Keeps.{KeepAllows}
+use Rattle.soc_desk.specs.Keeps.{KeepAllows, KeepsWith}
 use Rattle.soc_desk.specs.State.{State, Allowed, kept_of}
 use Rattle.soc_desk.specs.declared.desk.Reply.{Reply}
 use Rattle.soc_desk.specs.declared.desk.Reply.TheVariants as R
@@ -10,7 +10,7 @@ use Rattle.soc_desk.specs.declared.desk.Refusal.{Refusal}
 use Rattle.soc_desk.specs.declared.desk.Refusal.TheVariants as F
 use Rattle.soc_serve.specs.declared.sweep.SweepFault.{SweepFault}
 use Rattle.soc_serve.specs.declared.sweep.SweepFault.TheVariants as S
-use Rattle.soc_serve.specs.Sweep.{FailsBoth, IsBehind, IsFault, KeepsAll, KeepsWith, Processes, ProcessesAndKeeps, ProcessesWith}
+use Rattle.soc_serve.specs.Sweep.{FailsBoth, IsBehind, IsFault, KeepsAll, Processes, ProcessesAndKeeps, ProcessesWith}
 
 -- what the answer to a drain, and to the keeping of reports, says of the sweep
 abbrev pub drained : Reply → Result (Unit {0}) SweepFault
