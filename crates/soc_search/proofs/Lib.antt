@@ -9,6 +9,7 @@ pub mod GroupLemmas
 pub mod HitLemmas
 pub mod LeaderLemmas
 pub mod ListedLemmas
+pub mod OnceLemmas
 pub mod OrderLemmas
 pub mod RankLemmas
 pub mod RowLemmas

@@ -190,7 +190,7 @@ not_chosen test w (v ∷ vs) out =
     ] refl in
     rw (here, not_chosen test w vs out) refl
 
-list_any_at : {X : Type 0} (t : X → Bool) (xs : List X) (k : ℕ) (d : X) → k < length xs → t (get_or xs k d) ≡ true → list_any t xs ≡ true
+pub list_any_at : {X : Type 0} (t : X → Bool) (xs : List X) (k : ℕ) (d : X) → k < length xs → t (get_or xs k d) ≡ true → list_any t xs ≡ true
 list_any_at t [] k d within takes = absurd (omega arith)
 list_any_at t (x ∷ xs) zero d within takes = or_left (t x) (list_any t xs) takes
 list_any_at t (x ∷ xs) (suc k) d within takes = or_second (t x) (list_any t xs) (list_any_at t xs k d (omega arith) takes)

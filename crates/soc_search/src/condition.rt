@@ -1,5 +1,5 @@
 //! Which values meet a condition.
-ghost use Rattle.std.specs.Prelude.{◌≡◌, None, map, nat_eq};
+ghost use Rattle.std.specs.Prelude.{◌≡◌, ◌↔◌, IsTrue, Contains, None, map, nat_eq};
 ghost use Rattle.std.specs.List.{ends_with, list_any, starts_with};
 ghost use Rattle.std.specs.Option.{option_copied};
 ghost use Rattle.soc_schema.specs.Values.{text_in};
@@ -60,6 +60,40 @@ pub(crate) fn exact_value(condition: &Condition) -> Option<&Value>
         Test::Compares(Comparison::Equals, value) => Some(value),
         _ => None,
     }
+}
+
+/// Whether two tests are the same.
+fn is_same_test(test: &Test, other: &Test) -> bool
+    ensures { IsTrue result ↔ (test.now ≡ other.now) }
+{
+    match (test, other) {
+        (Test::Absent, Test::Absent) => true,
+        (Test::Compares(how, operand), Test::Compares(other_how, other_operand)) => {
+            how == other_how && compare_values(operand, other_operand) == Ordering::Equal
+        }
+        _ => false,
+    }
+}
+
+/// Whether two conditions are the same.
+fn is_same(condition: &Condition, other: &Condition) -> bool
+    ensures { IsTrue result ↔ (condition.now ≡ other.now) }
+{
+    condition.field.place() == other.field.place()
+        && condition.negated == other.negated
+        && is_same_test(&condition.test, &other.test)
+}
+
+/// Whether the condition is one of these.
+pub(crate) fn is_among(asked: &[&Condition], condition: &Condition) -> bool
+    ensures { IsTrue result ↔ Contains (map (λ c. c.now) asked.now) condition.now }
+{
+    for other in asked {
+        if is_same(other, condition) {
+            return true;
+        }
+    }
+    false
 }
 
 /// Whether a row that has this value of its field, or none, meets a condition.

@@ -11,9 +11,9 @@ ghost use Rattle.soc_schema.specs.Values.{is_value, product_of, sees};
 ghost use Rattle.soc_store.specs.Stored.{PlacesRise, value_at};
 ghost use Rattle.soc_query.specs.Answers.{is_exact, meets};
 ghost use Rattle.soc_search.specs.inner.Places.{has};
-ghost use Rattle.soc_search.specs.inner.Selections.{AreListed, Finds, Selects, are_met, asked_of, hit_places, is_turn, meets_where, selected, stands_out};
+ghost use Rattle.soc_search.specs.inner.Selections.{AreListed, AreOnce, Finds, Selects, are_met, asked_of, hit_places, is_turn, meets_where, selected, stands_out};
 
-use crate::condition::{are_met, exact_value, some_exact, stands_out};
+use crate::condition::{are_met, exact_value, is_among, some_exact, stands_out};
 use crate::places::PlaceSet;
 use crate::runs::asked_run;
 use soc_base::{NoMemory, TextList};
@@ -103,17 +103,18 @@ fn is_turn(asked: &[&Condition], exact: bool) -> bool
     }
 }
 
-/// The conditions on a field.
+/// The conditions on a field, each once.
 fn asked_of<'a>(
     alloc: Global,
     conditions: &'a [Condition],
     field: Field,
 ) -> Result<Vec<&'a Condition>, NoMemory>
-    ensures { IfOk result (λ asked. map (λ c. c.now) asked.items ≡ asked_of field conditions.now) }
+    ensures { IfOk result (λ asked. AreOnce (map (λ c. c.now) asked.items)
+        (asked_of field conditions.now)) }
 {
     let mut asked = Vec::new(alloc);
     for condition in conditions {
-        if condition.field.place() == field.place() {
+        if condition.field.place() == field.place() && !is_among(asked.as_slice(), condition) {
             asked.push(condition)?;
         }
     }

@@ -1,5 +1,5 @@
 -- Which places a set selects, and which values a condition asks about.
-use Rattle.std.specs.Prelude.{◌≡◌, ◌==◌, ◌&&◌, not, if◌then◌else◌, ℕ, Bool, true, List, [], Option, None, Some, map, filter, ⊤}
+use Rattle.std.specs.Prelude.{◌≡◌, ◌≢◌, ◌==◌, ◌&&◌, not, if◌then◌else◌, ℕ, Bool, true, List, [], ◌∷◌, Option, None, Some, map, filter, ⊤}
 use Rattle.std.specs.List.{AllByRecursion, list_all, list_any}
 use Rattle.std.specs.Option.{option_map, option_map_or}
 use Rattle.soc_store.specs.Stored.{places_of, row_at}
@@ -54,6 +54,16 @@ hit_places asked f rows c = option_map_or (λ v. if are_met asked (Some v) then 
 -- the conditions on a field
 abbrev pub asked_of : ℕ → List Condition → List Condition
 asked_of f conditions = filter (λ c. c.field == f) conditions
+
+-- no condition stands twice
+abbrev pub AreDistinct : List Condition → Type 0
+AreDistinct [] = ⊤
+AreDistinct (c ∷ cs) = AllByRecursion (λ d. d ≢ c) cs × AreDistinct cs
+
+-- these conditions, each once
+pub record AreOnce (once conditions : List Condition) : Type 0 where
+  pub same : (test : Condition → Bool) → list_any test once ≡ list_any test conditions
+  pub distinct : AreDistinct once
 
 -- a value of the field is asked for, or none is
 abbrev pub is_turn : Bool → ℕ → List Condition → Bool
