@@ -1,11 +1,11 @@
 -- Bits of words that meet.
-use Rattle.std.proofs.Common.{◌++◌, ◌∷◌, take, replicate, ◌*◌, ◌≡◌, ◌≢◌, set, subst, ℕ, zero, suc, ◌+◌, ◌-◌, ◌<◌, ◌≤◌, ◌/◌, ◌%◌, ◌^◌, min, max, eqb, Bool, true, false, List, [], length, get_or, ap, sym, ◌∙◌, refl, arith, ⊎_elim}
+use Rattle.std.proofs.Common.{◌++◌, ◌∷◌, take, replicate, ◌*◌, ◌≡◌, ◌≢◌, set, subst, ℕ, zero, suc, ◌+◌, ◌-◌, ◌<◌, ◌≤◌, ◌/◌, ◌%◌, ◌^◌, min, eqb, Bool, true, false, List, [], length, get_or, ap, sym, ◌∙◌, refl, arith, ⊎_elim}
 use Rattle.std.specs.Prelude.{◌&&◌, ◌||◌, not, bit_and, bit_or}
 use Rattle.std.specs.Int.{w64, bit_at, bit_not}
 use Rattle.std.proofs.lemmas.Bool.{cases_lt, cases_eq, eq-eqb, ne_eqb}
 use Rattle.std.specs.List.{list_any}
 use Rattle.std.proofs.lemmas.List.Folds.{list_any_more}
-use Rattle.std.proofs.lemmas.Nat.Bits.{bit_at_and, bit_at_or, bit_at_not, bit_at-lt, bit_at-zero, bit_at_set_same, bit_at_set_other}
+use Rattle.std.proofs.lemmas.Nat.Bits.{bit_at_and, bit_at_not, bit_at-lt, bit_at-zero, bit_at_set_same, bit_at_set_other}
 use Rattle.std.proofs.lemmas.List.{get_or_past, get_or_default, get_or-set_same, get_or-set_other}
 use Rattle.soc_base.proofs.Folk.{or_true, or_false, or_assoc}
 use Rattle.soc_search.specs.declared.places.Meeting.{Meeting}

@@ -1,5 +1,5 @@
 -- Rows of which as many have each value have the same distinct values.
-use Rattle.std.proofs.Common.{◌≡◌, ℕ, suc, ◌<◌, ltb, Bool, true, false, cond, List, [], ◌∷◌, None, Some, length, filter, refl, sym, ap, ◌∙◌, arith, subst}
+use Rattle.std.proofs.Common.{◌≡◌, ℕ, suc, ltb, Bool, true, false, cond, List, [], ◌∷◌, None, Some, length, filter, refl, sym, ap, ◌∙◌, arith, subst}
 use Rattle.std.specs.Prelude.{◌||◌}
 use Rattle.std.proofs.lemmas.Bool.{lt-ltb}
 use Rattle.std.specs.List.{AllByRecursion, list_any}

@@ -1,12 +1,11 @@
 -- Counting a posting against the selected places is counting the selected rows.
-use Rattle.std.proofs.Common.{◌≡◌, ◌≤◌, ltb, get_or, take, ◌++◌, ℕ, ◌+◌, ◌<◌, Bool, true, false, cond, List, [], ◌∷◌, Option, None, Some, suc, length, map, count_by, ap, sym, ◌∙◌, refl, arith, subst}
+use Rattle.std.proofs.Common.{◌≡◌, ◌≤◌, ltb, get_or, take, ◌++◌, ℕ, ◌+◌, ◌<◌, Bool, true, false, cond, List, [], ◌∷◌, Option, None, Some, suc, length, map, count_by, ap, sym, ◌∙◌, refl, subst}
 use Rattle.std.specs.List.{filter, AllByRecursion}
-use Rattle.std.specs.Prelude.{◌||◌, slice_get, is_none, IfSome}
+use Rattle.std.specs.Prelude.{slice_get, is_none, IfSome}
 use Rattle.std.proofs.lemmas.List.Sums.{length-filter}
 use Rattle.std.proofs.lemmas.Option.{slice_get_within, slice_get-get_or}
 use Rattle.std.proofs.lemmas.List.{map-append, take_all, take_more, get_or-map, length-map}
 use Rattle.std.proofs.lemmas.List.Elements.{filter_more}
-use Rattle.std.proofs.lemmas.Bool.{lt-ltb}
 use Rattle.std.specs.Cmp.{IsTotalOrder}
 use Rattle.std.specs.Ordering.{nat_cmp}
 use Rattle.std.proofs.lemmas.Cmp.{on_total, back_total, nat_cmp_total}

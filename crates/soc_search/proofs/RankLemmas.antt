@@ -1,23 +1,22 @@
 -- Signatures that are ranked by index, and by value.
 use Rattle.std.proofs.Common.{◌≡◌, ◌≢◌, ℕ, zero, suc, ◌+◌, ◌<◌, ◌≤◌, eqb, ltb, Bool, true, false, cond, List, [], ◌∷◌, ◌++◌, Option, None, Some, length, map, filter, take, drop, get_or, set, refl, sym, ap, ◌∙◌, arith, subst, add-one, append_assoc, append-nil, replicate, ⊎_elim}
-use Rattle.std.specs.Prelude.{◌||◌, slice_get}
+use Rattle.std.specs.Prelude.{slice_get}
 use Rattle.std.proofs.lemmas.Option.{slice_get_within, slice_get-get_or}
 use Rattle.std.proofs.lemmas.Bool.{lt-ltb, le-ltb, eq-eqb, ne_eqb, cases_eq}
 use Rattle.std.proofs.lemmas.List.{map-append, take_more, get_or-map, get_or-set_same, get_or-set_other, get_or_default}
 use Rattle.std.proofs.lemmas.List.Elements.{filter_agree}
 use Rattle.std.specs.List.{AllByRecursion, enumerate_from}
 use Rattle.std.specs.Cmp.{IsTotalOrder}
-use Rattle.std.specs.Ordering.{nat_cmp, is_eq, is_gt}
+use Rattle.std.specs.Ordering.{nat_cmp, is_eq}
 use Rattle.std.specs.declared.cmp.Ordering.{Ordering}
 use Rattle.std.proofs.lemmas.Cmp.{on_total, back_total, nat_cmp_total}
 use Rattle.soc_base.proofs.Folk.{drop_past}
 use Rattle.soc_schema.specs.declared.value.Value.{Value}
 use Rattle.soc_schema.specs.declared.value.Value.TheVariants.{Text}
 use Rattle.soc_schema.specs.declared.value.Cell.{Cell}
-use Rattle.soc_schema.specs.Rows.{value_of}
-use Rattle.soc_schema.specs.Orders.{value_cmp, in_order, put_in_order}
+use Rattle.soc_schema.specs.Orders.{value_cmp, in_order}
 use Rattle.soc_schema.specs.Tables.{Rising}
-use Rattle.soc_schema.specs.Values.{is_value, rows_with, values_of, text_in}
+use Rattle.soc_schema.specs.Values.{rows_with, values_of, text_in}
 use Rattle.soc_store.specs.Stored.{some_has}
 use Rattle.soc_search.specs.declared.ranking.Ranked.{Ranked}
 use Rattle.soc_tops.specs.declared.tops.Top.{Top}

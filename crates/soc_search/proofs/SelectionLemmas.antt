@@ -29,7 +29,6 @@ use Rattle.std.proofs.lemmas.List.Elements.{filter_more}
 use Rattle.std.proofs.lemmas.List.Sums.{length-filter}
 use Rattle.std.specs.List.{AllByRecursion, list_any}
 use Rattle.soc_schema.specs.declared.value.Cell.{Cell}
-use Rattle.std.specs.Prelude.{if◌then◌else◌}
 use Rattle.soc_search.specs.declared.selection.Selection.{Selection}
 use Rattle.soc_search.specs.inner.Selections.{AreListed, Finds, Selects, selected}
 use Rattle.soc_search.proofs.AnswerLemmas.{selected_rows}

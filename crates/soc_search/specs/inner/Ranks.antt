@@ -1,10 +1,8 @@
 -- Signatures by their index among those of a store.
-use Rattle.std.specs.Prelude.{ℕ, ◌+◌, ◌<◌, ◌==◌, nat_lt, slice_index_or, if◌then◌else◌, List, [], ◌∷◌, Option, None, Some, option_map}
+use Rattle.std.specs.Prelude.{ℕ, ◌+◌, ◌<◌, ◌==◌, nat_lt, slice_index_or, if◌then◌else◌, List, [], ◌∷◌, Option, None, Some}
 use Rattle.std.specs.List.{AllByRecursion}
 use Rattle.soc_schema.specs.declared.value.Value.{Value}
 use Rattle.soc_schema.specs.declared.value.Value.TheVariants.{Text}
-use Rattle.soc_schema.specs.declared.value.Cell.{Cell}
-use Rattle.soc_store.specs.Stored.{row_at}
 use Rattle.soc_search.specs.declared.ranking.Ranked.{Ranked}
 use Rattle.soc_tops.specs.declared.tops.Top.{Top}
 use Rattle.soc_tops.specs.Tops.{Counted}

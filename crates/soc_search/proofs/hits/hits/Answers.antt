@@ -1,4 +1,4 @@
-use Rattle.std.proofs.Common.{◌≡◌, ◌∙◌, ap, sym, arith, map, take, filter, length, ◌+◌, ◌-◌, List, IfOk, subst}
+use Rattle.std.proofs.Common.{◌≡◌, ◌∙◌, ap, sym, arith, map, take, filter, length, ◌+◌, List, IfOk, subst}
 use Rattle.std.proofs.lemmas.List.{length-map}
 use denote.Ref.{Bor}
 use Rattle.soc_schema.specs.declared.value.Cell.{Cell}

@@ -1,4 +1,4 @@
-use Rattle.std.proofs.Common.{◌≡◌, ◌∙◌, sym, arith}
+use Rattle.std.proofs.Common.{◌∙◌, sym, arith}
 use Rattle.soc_schema.specs.Values.{values_of}
 use Rattle.soc_search.proofs.RunLemmas.{out_before, out_behind}
 use Rattle.soc_search.proofs.runs.asked_run.Goals as goal

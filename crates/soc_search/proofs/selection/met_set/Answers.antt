@@ -1,4 +1,4 @@
-use Rattle.std.proofs.Common.{◌≡◌, ◌∙◌, ap, sym, map, refl, false, List, Bool}
+use Rattle.std.proofs.Common.{◌∙◌, ap, sym, map, refl, false, List, Bool}
 use denote.Ref.{Bor}
 use Rattle.std.specs.Prelude.{◌&&◌, not}
 use Rattle.std.specs.Option.{option_map_or}

@@ -1,4 +1,4 @@
-use Rattle.std.proofs.Common.{◌≡◌, ◌∙◌, ap, sym, arith, map, ◌%◌, ◌≤◌}
+use Rattle.std.proofs.Common.{◌∙◌, ap, sym, arith, map, ◌%◌, ◌≤◌}
 use denote.Ref.{Bor}
 use Rattle.soc_schema.specs.Values.{values_of}
 use Rattle.soc_query.specs.declared.condition.Condition.{Condition}

@@ -1,4 +1,4 @@
-use Rattle.std.proofs.Common.{◌∙◌, ℕ, List, ap, arith, length, ◌≤◌, ◌%◌}
+use Rattle.std.proofs.Common.{◌∙◌, ap, arith, length, ◌≤◌, ◌%◌}
 use Rattle.soc_schema.specs.declared.value.Value.TheVariants.{Text}
 use Rattle.soc_schema.specs.Fields.{product_field}
 use Rattle.soc_store.specs.Stored.{places_of}
