@@ -1,38 +1,13 @@
 -- What asks and withdrawals decide over a settled log.
 use Rattle.std.proofs.Common.{◌≡◌, ℕ, Bool, true, false, not, ◌||◌, IsTrue, List, [], ◌∷◌, ◌++◌, Option, Some, None, Err, sym, ap, subst, ◌∙◌, refl}
-use Rattle.std.specs.Prelude.{if◌then◌else◌}
-use Rattle.soc_schema.specs.declared.caller.Caller.{Caller}
-use Rattle.soc_schema.specs.declared.value.Cell.{Cell}
-use Rattle.soc_schema.specs.Permits.{shows}
-use Rattle.soc_edge.specs.Disk.{DiskTold, IsDisk}
-use Rattle.soc_edge.proofs.Disks.{Looks-none}
-use Rattle.soc_journal.specs.States.{JournalState}
-use Rattle.soc_ledger.specs.declared.event.Event.{Event}
-use Rattle.soc_ledger.specs.Due.{is_due}
-use Rattle.soc_ledger.specs.Events.{is_held}
-use Rattle.soc_ledger.specs.Reported.{has_report}
-use Rattle.soc_ledger.specs.State.{LedgerState, id_of}
-use Rattle.soc_desk.specs.declared.desk.Command.{Command}
+use Rattle.soc_book.proofs.Words.{if◌then◌else◌, is_some, Caller, Cell, shows, DiskTold, IsDisk, Looks-none, JournalState, Event, is_due, is_held, has_report, LedgerState, id_of, Command, Limits, Reply, Refusal, Basis, Decision, answers, appends, decide, decide_priority, if_seen, lacked, IsGone, IsReplyTo, Change, ask, withdraw, keep, events, IsLegal, State, settled, Allowed, Pending, Adds, IsDecided, IsHeldAs, IsWritten, product_at, Sees, Stands}
 use Rattle.soc_desk.specs.declared.desk.Command.TheVariants as C
-use Rattle.soc_desk.specs.declared.desk.Limits.{Limits}
-use Rattle.soc_desk.specs.declared.desk.Reply.{Reply}
 use Rattle.soc_desk.specs.declared.desk.Reply.TheVariants as R
-use Rattle.soc_desk.specs.declared.desk.Refusal.{Refusal}
 use Rattle.soc_desk.specs.declared.desk.Refusal.TheVariants as F
-use Rattle.soc_desk.specs.Basis.{Basis}
-use Rattle.soc_desk.specs.Decisions.{Decision, answers, appends, decide, decide_priority, if_seen, lacked}
-use Rattle.soc_desk.specs.Grows.{IsGone}
-use Rattle.soc_desk.specs.Kinds.{IsReplyTo}
-use Rattle.soc_desk.specs.Log.{Change, ask, withdraw, keep, events, IsLegal}
-use Rattle.soc_desk.specs.State.{State, settled, Allowed}
-use Rattle.soc_book.specs.declared.book.Change.{Change as Pending}
-use Rattle.soc_book.specs.inner.Does.{Adds, IsDecided}
-use Rattle.soc_book.specs.inner.Pieces.{IsHeldAs, IsWritten, product_at, Sees}
-use Rattle.soc_book.specs.inner.Stands.{Stands}
 use Rattle.soc_book.proofs.Changes.{legal-next}
-use Rattle.soc_book.proofs.Deciding.{answered, decided_as, written_decides}
+use Rattle.soc_book.proofs.Deciding.{says, written_decides}
 use Rattle.soc_book.proofs.Readings.{unseen_gone}
-use Rattle.soc_book.proofs.Sights.{held_now, seen_in, unseen_in}
+use Rattle.soc_book.proofs.Lookups.{held_is, shown_in, unseen_view}
 use Rattle.soc_book.proofs.Standing.{allowed_in}
 
 module _ {basis : Basis} {limits : Limits} {ledger : LedgerState} {rows : List (ℕ × List Cell)} {pending : Option Pending} {journal : JournalState} {disk : DiskTold} {log : List Change}
@@ -44,7 +19,7 @@ module _ {basis : Basis} {limits : Limits} {ledger : LedgerState} {rows : List (
   allowed is_told image left = allowed_in stands is_told image left
 
   pub held_log : (id : List ℕ) (number : ℕ) → IsHeldAs ledger id number → is_held now id ≡ true
-  held_log id number held = held_now basis log ledger rows stands.legal.log stands.holds id true held.held
+  held_log id number held = held_is stands id true held.held
 
   -- an ask or a withdrawal of a held crash may follow
   pub ask_legal : (id : List ℕ) (number : ℕ) → IsHeldAs ledger id number → IsLegal basis (log ++ keep (ask id) ∷ [])
@@ -61,19 +36,19 @@ module _ {basis : Basis} {limits : Limits} {ledger : LedgerState} {rows : List (
   -- the decision by what the caller sees
   seen_decides : (decision : Decision) (number : ℕ) → IsHeldAs ledger id number → shows caller.products (product_at ledger number) ≡ true → IsTrue basis.is_told → if_seen basis log caller id decision ≡ decision
   seen_decides decision number held shown_it is_told =
-      ap (λ b. if b then decision else answers (R.Refused F.NoCrash)) (seen_in basis log ledger rows stands.legal.log stands.holds is_told caller id number held shown_it)
+      ap (λ b. if b then decision else answers (R.Refused F.NoCrash)) (shown_in stands caller id is_told number (held, shown_it))
 
   unseen_decides : (decision : Decision) → Sees ledger caller id (Err F.NoCrash) → IsTrue basis.is_told → if_seen basis log caller id decision ≡ answers (R.Refused F.NoCrash)
   unseen_decides decision unseen is_told =
-      ap (λ b. if b then decision else answers (R.Refused F.NoCrash)) (unseen_in basis log ledger rows stands.legal.log stands.holds is_told caller id unseen)
+      ap (λ b. if b then decision else answers (R.Refused F.NoCrash)) (ap is_some (unseen_view stands caller id is_told unseen))
 
   -- ---- crashes that aren't seen
 
   module _ (sound : IsDisk disk) (command : Command) (decision : Decision) (is : decide basis log command ≡ Some (if_seen basis log caller id decision)) (kind : IsReplyTo command (R.Refused F.NoCrash))
       (adds : IsGone caller id before → Adds basis command (R.Refused F.NoCrash) [] before []) where
     not_seen : Sees ledger caller id (Err F.NoCrash) → IsDecided basis log disk command (R.Refused F.NoCrash) (settled log) disk
-    not_seen unseen = answered basis log disk disk command (R.Refused F.NoCrash) (Looks-none disk sound) (allowed stands) kind tt (λ never. absurd never) (adds (subst (IsGone caller id) stands.holds.events_are (unseen_gone ledger caller id unseen)))
-        (λ is_told. decided_as basis log disk disk command (answers (R.Refused F.NoCrash)) (R.Refused F.NoCrash) (settled log) (is ∙ ap (λ (d : Decision). Some d) (unseen_decides decision unseen is_told)) (refl, refl))
+    not_seen unseen = says basis log disk disk command (R.Refused F.NoCrash) (Looks-none disk sound) (allowed stands) kind tt (λ never. never) (adds (subst (IsGone caller id) stands.holds.events_are (unseen_gone ledger caller id unseen)))
+        (λ is_told. is ∙ ap (λ (d : Decision). Some d) (unseen_decides decision unseen is_told))
 
     pub refuses : (refusal : Refusal) → Sees ledger caller id (Err refusal)
         → (after : State) × Stands basis limits ledger rows pending journal disk after × IsDecided basis log disk command (R.Refused refusal) after disk
@@ -108,9 +83,8 @@ module _ {basis : Basis} {limits : Limits} {ledger : LedgerState} {rows : List (
     pub priority_passes : IsDisk disk → true ≡ (is_due ledger.log (id_of ledger number) || has_report ledger.log (id_of ledger number)) → IsDecided basis log disk (C.Priority caller id) (R.Asked false false) (settled log) disk
     priority_passes sound done =
         let was : (is_due before id || has_report before id) ≡ true = ap (λ b. b || has_report before id) due_now ∙ (ap (λ b. is_due ledger.log id || b) reported_now ∙ tested true done) in
-        answered basis log disk disk (C.Priority caller id) (R.Asked false false) (Looks-none disk sound) (allowed stands) (refl, refl) tt (λ never. absurd never) (held_log stands id number held, was, refl, refl)
-        (λ is_told. decided_as basis log disk disk (C.Priority caller id) (answers (R.Asked false false)) (R.Asked false false) (settled log)
-        (ap (λ (d : Decision). Some d) (seen_decides (decide_priority basis log id) number held shown_it is_told ∙ ap (λ b. if b then answers (R.Asked false false) else appends (ask id) (R.Asked true true)) was)) (refl, refl))
+        says basis log disk disk (C.Priority caller id) (R.Asked false false) (Looks-none disk sound) (allowed stands) (refl, refl) tt (λ never. never) (held_log stands id number held, was, refl, refl)
+        (λ is_told. ap (λ (d : Decision). Some d) (seen_decides (decide_priority basis log id) number held shown_it is_told ∙ ap (λ b. if b then answers (R.Asked false false) else appends (ask id) (R.Asked true true)) was))
 
     -- it is asked for
     pub priority_asks : (disk' : DiskTold) (reply : Reply) (after : State) → false ≡ (is_due ledger.log (id_of ledger number) || has_report ledger.log (id_of ledger number)) → IsWritten basis log disk (ask id) (R.Asked true true) reply after disk'

@@ -1,20 +1,8 @@
 -- One more change that may follow a legal log, and what legal logs tell of their crashes.
 use Rattle.std.proofs.Common.{◌≡◌, inl, inr, ℕ, IsTrue, List, [], ◌∷◌, ◌++◌, map, reverse, IfSome, IsSome, sym, ap, subst, ◌∙◌, refl}
-use Rattle.std.specs.List.{AllByRecursion}
-use Rattle.std.proofs.lemmas.List.Elements.{filter_map-append}
-use Rattle.std.proofs.lemmas.List.{append-nil, append_assoc, map-append}
-use Rattle.soc_raw.specs.CrashId.{IsId}
-use Rattle.soc_raw.specs.Record.{IsCrash}
-use Rattle.soc_ledger.specs.declared.event.Event.{Event}
-use Rattle.soc_ledger.specs.Events.{accepted_ids}
-use Rattle.soc_ledger.specs.Legal.{IsLegalBack, IsLegalNext, IsLegal as AreLegal}
-use Rattle.soc_ledger.proofs.Lists.{all-more}
-use Rattle.soc_ledger.proofs.Logs.{legal-more}
-use Rattle.soc_desk.specs.Basis.{Basis}
-use Rattle.soc_desk.specs.Log.{Change, Kept, Accepted, accept, ask, withdraw, report, keep, done, stop, accepted_in, accepted_of, event_of, events, IsSound, AreSoundBack, IsLegal}
-use Rattle.soc_desk.specs.State.{IsLegalState, Allowed, StandsFor, settled, entry_of, entries_of, kept_in, kept_of}
-use Rattle.soc_desk.proofs.Logs.{events-more, reverse-cons, reverse-more, reverse-twice}
-use Rattle.soc_desk.proofs.Found.{AreTold}
+use Rattle.soc_book.proofs.Words.{AllByRecursion, filter_map-append, append-nil, map-append, IsId, IsCrash, Event, accepted_ids, IsLegalBack, IsLegalNext, AreLegal, all-more, legal-more, Basis, Change, Kept, Accepted, accept, keep, accepted_in, accepted_of, event_of, events, IsSound, AreSoundBack, IsLegal, IsLegalState, Allowed, settled, entry_of, entries_of, kept_in, kept_of, events-more, reverse-cons, reverse-more, reverse-twice, AreTold}
+use Rattle.std.proofs.lemmas.List.{append_assoc}
+use Rattle.soc_desk.specs.State.{StandsFor}
 
 pub accepted-more : (log : List Change) (change : Change) → accepted_of (log ++ change ∷ []) ≡ accepted_of log ++ accepted_of (change ∷ [])
 accepted-more log change = filter_map-append accepted_in log (change ∷ [])
@@ -54,32 +42,46 @@ module _ (basis : Basis) (log : List Change) (change : Change) where
     told = λ is_told. subst AreTold (sym (accepted-more log change)) (all-more (λ (crash : Accepted). IsSome crash.raw) (accepted_of log) (accepted_of (change ∷ [])) (legal.told is_told) (told is_told));
   }
 
--- a front of a legal log is legal
-front_all : {X : Type 0} (P : X → Type 0) (xs ys : List X) → AllByRecursion P (xs ++ ys) → AllByRecursion P xs
-front_all P [] ys all = tt
-front_all P (x ∷ xs) ys all = (all.0, front_all P xs ys all.1)
+pub all_front : {X : Type 0} (P : X → Type 0) (xs ys : List X) → AllByRecursion P (xs ++ ys) → AllByRecursion P xs
+all_front P [] ys all = tt
+all_front P (x ∷ xs) ys all = (all.0, all_front P xs ys all.1)
 
-pub legal-before : (basis : Basis) (log : List Change) (change : Change) → IsLegal basis (log ++ change ∷ []) → IsLegal basis log
-legal-before basis log change legal =
-    let back : IsLegalBack (event_of basis change ∷ reverse (events basis log)) =
+all_back : {X : Type 0} (P : X → Type 0) (xs ys : List X) → AllByRecursion P (xs ++ ys) → AllByRecursion P ys
+all_back P [] ys all = all
+all_back P (x ∷ xs) ys all = all_back P xs ys all.1
+
+-- what is known of the last change of a legal log
+pub record IsLast (basis : Basis) (log : List Change) (change : Change) : Type 0 where
+  pub legal : IsLegal basis log
+  pub next : IsLegalNext (events basis log) (event_of basis change)
+  pub sound : IsSound log change
+  pub told : IsTrue basis.is_told → AreTold (accepted_of (change ∷ []))
+
+pub last_of_legal : (basis : Basis) (log : List Change) (change : Change) → IsLegal basis (log ++ change ∷ []) → IsLast basis log change
+last_of_legal basis log change legal =
+    let all : IsLegalBack (event_of basis change ∷ reverse (events basis log)) =
     subst IsLegalBack (ap reverse (events-more basis log change) ∙ reverse-more (events basis log) (event_of basis change)) legal.events_legal in
     let sound : AreSoundBack (change ∷ reverse log) = subst AreSoundBack (reverse-more log change) legal.sound in
+    let crashes : IsTrue basis.is_told → AreTold (accepted_of log ++ accepted_of (change ∷ [])) = λ is_told. subst AreTold (accepted-more log change) (legal.told is_told) in
     record {
-      events_legal = back.1;
-      sound = sound.1;
-      told = λ is_told. front_all (λ (crash : Accepted). IsSome crash.raw) (accepted_of log) (accepted_of (change ∷ [])) (subst AreTold (accepted-more log change) (legal.told is_told));
+      legal = record {
+        events_legal = all.1;
+        sound = sound.1;
+        told = λ is_told. all_front (λ (crash : Accepted). IsSome crash.raw) (accepted_of log) (accepted_of (change ∷ [])) (crashes is_told);
+      };
+      next = subst (λ (es : List Event). IsLegalNext es (event_of basis change)) (reverse-twice (events basis log)) all.0;
+      sound = subst (λ (older : List Change). IsSound older change) (reverse-twice log) sound.0;
+      told = λ is_told. all_back (λ (crash : Accepted). IsSome crash.raw) (accepted_of log) (accepted_of (change ∷ [])) (crashes is_told);
     }
 
+-- a front of a legal log is legal
 pub legal-front : (basis : Basis) (log more : List Change) → IsLegal basis (log ++ more) → IsLegal basis log
 legal-front basis log [] legal = subst (IsLegal basis) (append-nil log) legal
 legal-front basis log (change ∷ more) legal =
-    legal-before basis log change (legal-front basis (log ++ change ∷ []) more (subst (IsLegal basis) (sym (append_assoc log (change ∷ []) more)) legal))
+    (last_of_legal basis log change (legal-front basis (log ++ change ∷ []) more (subst (IsLegal basis) (sym (append_assoc log (change ∷ []) more)) legal))).legal
 
 pub settled-legal : (basis : Basis) (log : List Change) → IsLegal basis log → IsLegalState basis (settled log)
 settled-legal basis log legal = record { log = legal; doubt = subst (IsLegal basis) (sym (append-nil log)) legal }
-
-pub doubt-legal : (basis : Basis) (log : List Change) (changes : List Kept) → IsLegal basis log → IsLegal basis (log ++ map keep changes) → IsLegalState basis (record { log = log; doubt = changes })
-doubt-legal basis log changes legal next = record { log = legal; doubt = next }
 
 -- ---- the accepted crashes
 
@@ -87,11 +89,7 @@ doubt-legal basis log changes legal next = record { log = legal; doubt = next }
 pub ids_of-log : (basis : Basis) (log : List Change) → accepted_ids (events basis log) ≡ map (λ (crash : Accepted). crash.id) (accepted_of log)
 ids_of-log basis [] = refl
 ids_of-log basis (keep (accept crash) ∷ log) = ap (λ ids. crash.id ∷ ids) (ids_of-log basis log)
-ids_of-log basis (keep (ask other) ∷ log) = ids_of-log basis log
-ids_of-log basis (keep (withdraw other) ∷ log) = ids_of-log basis log
-ids_of-log basis (keep (report made) ∷ log) = ids_of-log basis log
-ids_of-log basis (done other ∷ log) = ids_of-log basis log
-ids_of-log basis (stop ∷ log) = ids_of-log basis log
+ids_of-log basis (_ ∷ log) = ids_of-log basis log
 
 -- a crash that is told is one, with the id under which it was accepted
 abbrev pub IsSoundCrash : Accepted → Type 0
@@ -99,11 +97,7 @@ IsSoundCrash crash = IsId crash.id × IfSome crash.raw (λ raw. (raw.id ≡ cras
 
 sound_here : (older : List Change) (change : Change) → IsSound older change → AllByRecursion IsSoundCrash (accepted_of (change ∷ []))
 sound_here older (keep (accept crash)) sound = (sound, tt)
-sound_here older (keep (ask id)) sound = tt
-sound_here older (keep (withdraw id)) sound = tt
-sound_here older (keep (report made)) sound = tt
-sound_here older (done id) sound = tt
-sound_here older stop sound = tt
+sound_here older _ sound = tt
 
 sound_back : (back : List Change) → AreSoundBack back → AllByRecursion IsSoundCrash (accepted_of (reverse back))
 sound_back [] sound = tt

@@ -1,34 +1,14 @@
 -- What a book counts of its log.
 use Rattle.std.proofs.Common.{◌≡◌, ℕ, suc, Bool, true, IsTrue, List, [], ◌∷◌, length, map, Option, Some, None, refl, sym, ap, ◌∙◌, arith}
-use Rattle.std.proofs.lemmas.Bool.Decides.{nat_tests}
-use Rattle.std.specs.Prelude.{nat_lt, is_some, IsSomeAnd}
-use Rattle.soc_schema.specs.declared.caller.Caller.{Caller}
-use Rattle.soc_schema.specs.declared.permission.Permission.TheVariants.{Operate}
-use Rattle.soc_schema.specs.declared.value.Cell.{Cell}
-use Rattle.soc_edge.specs.Disk.{DiskTold, Looks}
-use Rattle.soc_journal.specs.Entries.{Entry, place_behind}
-use Rattle.soc_journal.specs.States.{JournalState}
-use Rattle.soc_vault.specs.Vaults.{Means}
-use Rattle.soc_ledger.specs.declared.event.Event.{Event}
-use Rattle.soc_ledger.specs.Due.{due_ids}
-use Rattle.soc_ledger.specs.Events.{ask_count, held_ids, withdrawal_count}
-use Rattle.soc_ledger.specs.Reported.{report_count}
-use Rattle.soc_ledger.specs.State.{LedgerState}
+use Rattle.soc_book.proofs.Words.{nat_tests, nat_lt, is_some, Caller, Operate, Cell, DiskTold, Looks, Entry, place_behind, JournalState, Means, Event, due_ids, ask_count, held_ids, withdrawal_count, report_count, LedgerState, Limits, Basis, without, Change, Kept, events, State, doubted, entries_of, kept_of, Pending, Does, ArePending, Stands}
+use Rattle.std.specs.Prelude.{IsSomeAnd}
 use Rattle.soc_desk.specs.declared.desk.Command.TheVariants as C
 use Rattle.soc_desk.specs.declared.desk.Counts.{Counts}
-use Rattle.soc_desk.specs.declared.desk.Limits.{Limits}
 use Rattle.soc_desk.specs.declared.desk.Refusal.TheVariants as F
 use Rattle.soc_desk.specs.declared.desk.Reply.TheVariants as R
-use Rattle.soc_desk.specs.Basis.{Basis}
 use Rattle.soc_desk.specs.Counts.{counts_with, journal_size}
-use Rattle.soc_desk.specs.Decisions.{without}
-use Rattle.soc_desk.specs.Log.{Change, Kept, events}
-use Rattle.soc_desk.specs.State.{State, doubted, entries_of, kept_of}
-use Rattle.soc_book.specs.declared.book.Change.{Change as Pending}
-use Rattle.soc_book.specs.declared.book.Change.TheVariants as P
-use Rattle.soc_book.specs.inner.Does.{Does}
-use Rattle.soc_book.specs.inner.Stands.{ArePending, Stands}
 use Rattle.soc_book.proofs.Readings.{forbidden, permitted, stays}
+use Rattle.soc_book.proofs.Standing.{none_pending_of}
 
 -- ---- the doubt, and the journal's size
 
@@ -41,11 +21,7 @@ pub waits_in_doubt : (basis : Basis) (log : List Change) (ledger : LedgerState) 
 waits_in_doubt basis log ledger None [] f are = refl
 waits_in_doubt basis log ledger None (first ∷ more) f are = absurd are
 waits_in_doubt basis log ledger (Some pending) (first ∷ more) f are = sym (some_waits (length (map f more)))
-waits_in_doubt basis log ledger (Some (P.Accept new)) [] f are = absurd are
-waits_in_doubt basis log ledger (Some (P.Accepts news)) [] f are = absurd are
-waits_in_doubt basis log ledger (Some (P.Ask number)) [] f are = absurd are
-waits_in_doubt basis log ledger (Some (P.Withdraw number)) [] f are = absurd are
-waits_in_doubt basis log ledger (Some (P.Reports numbers)) [] f are = absurd are
+waits_in_doubt basis log ledger (Some pending) [] f are = absurd (none_pending_of basis log ledger pending are)
 
 some_gives : {A Q : Type 0} {P : A → Type 0} (o : Option A) → ((x : A) → P x → Q) → IsSomeAnd o P → Q
 some_gives None f has = absurd has

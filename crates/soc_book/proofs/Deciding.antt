@@ -1,36 +1,12 @@
 -- What a command that writes does, from what it settles, decides and appends.
 use Rattle.std.proofs.Common.{◌≡◌, ◌≢◌, ◌⊎◌, inl, inr, ℕ, ◌<◌, ◌≤◌, Bool, true, false, IsTrue, List, [], ◌∷◌, ◌++◌, map, Option, Some, None, IsSomeAnd, MatchOption, Result, Ok, Err, sym, ap, subst, ◌∙◌, refl, arith, append_assoc}
-use Rattle.std.proofs.lemmas.List.{append-nil, map-append}
-use Rattle.soc_raw.specs.declared.raw_crash.RawCrash.{RawCrash}
-use Rattle.soc_schema.specs.declared.value.Cell.{Cell}
-use Rattle.soc_schema.specs.declared.caller.Caller.{Caller}
-use Rattle.soc_schema.specs.declared.permission.Permission.{Permission}
-use Rattle.soc_edge.specs.Disk.{DiskTold, GoesOn, Looks, DiskFailed}
-use Rattle.soc_edge.proofs.Disks.{GoesOn-append, LeavesOnly-append, LeavesOnly-weaker}
-use Rattle.soc_journal.specs.States.{JournalState}
-use Rattle.soc_ledger.specs.declared.event.Event.{Event}
-use Rattle.soc_ledger.specs.State.{LedgerState}
-use Rattle.soc_desk.specs.declared.desk.Command.{Command}
+use Rattle.soc_book.proofs.Words.{append-nil, map-append, RawCrash, Cell, Caller, Permission, DiskTold, GoesOn, Looks, DiskFailed, GoesOn-append, LeavesOnly-append, LeavesOnly-weaker, JournalState, Event, LedgerState, Command, Limits, Reply, Refusal, Gains, IsStoreFault, IsAltered, Basis, Decision, appends, decide, lacked, answers, IfElse, Refuses, Appends, Decides, FailsRead, FailsMend, SettlesAndDecides, StepWriting, Step, BehindDoubt, Writes, Grows, IsOwnReply, IsReplyTo, Change, Kept, keep, event_of, events, State, doubted, settled, Settles, kept_of, has_room, Allowed, Survives, Pending, Adds, Does, IsDecided, IsSettledReply, AreAppended, IsWritten, RepliesAs, Stays, Stands}
 use Rattle.soc_desk.specs.declared.desk.Command.TheVariants as C
-use Rattle.soc_desk.specs.declared.desk.Limits.{Limits}
-use Rattle.soc_desk.specs.declared.desk.Reply.{Reply}
 use Rattle.soc_desk.specs.declared.desk.Reply.TheVariants as R
-use Rattle.soc_desk.specs.declared.desk.Refusal.{Refusal}
 use Rattle.soc_desk.specs.declared.desk.Refusal.TheVariants as F
-use Rattle.soc_desk.specs.Asks.{Gains, IsStoreFault, IsAltered}
-use Rattle.soc_desk.specs.Basis.{Basis}
-use Rattle.soc_desk.specs.Decisions.{Decision, appends, decide, lacked}
-use Rattle.soc_desk.specs.Desk.{IfElse, Refuses, Appends, Decides, FailsRead, FailsMend, SettlesAndDecides, StepWriting, Step}
-use Rattle.soc_desk.specs.Grows.{BehindDoubt, Writes, Grows}
-use Rattle.soc_desk.specs.Kinds.{IsOwnReply, IsReplyTo}
-use Rattle.soc_desk.specs.Log.{Change, Kept, keep, event_of, events}
-use Rattle.soc_desk.specs.State.{State, doubted, settled, Settles, kept_of, has_room, StandsFor, Allowed, Survives}
-use Rattle.soc_book.specs.declared.book.Change.{Change as Pending}
-use Rattle.soc_book.specs.inner.Does.{Adds, Does, IsDecided, IsSettledReply}
-use Rattle.soc_book.specs.inner.Pieces.{IsAppended, IsWritten, RepliesAs, Stays}
-use Rattle.soc_book.specs.inner.Stands.{Stands}
+use Rattle.soc_desk.specs.State.{StandsFor}
 use Rattle.soc_book.proofs.Changes.{allowed-plain, events-all, kept-all}
-use Rattle.soc_book.proofs.Standing.{allowed_in}
+use Rattle.soc_book.proofs.Standing.{allowed_in, no_room_one, room_one}
 
 -- ---- the commands that write
 
@@ -231,6 +207,12 @@ module _ (basis : Basis) (log : List Change) (disk disk' : DiskTold) (command : 
       let P : Option Decision → Type 0 = λ o. IsSomeAnd o (λ d. Decides basis log d reply after) in
       inl (subst P (sym is) decides)
 
+  -- a reply that the settled log gives, without a change
+  pub says : (said : Reply) → Looks disk disk' → (IsTrue basis.is_told → (image : List ℕ) → disk.images image → Allowed (settled log) image) → IsReplyTo command said → IsSettledReply said → (IsStoreFault said → ⊥) → Adds basis command said [] (events basis log) []
+      → (IsTrue basis.is_told → decide basis log command ≡ Some (answers said)) → IsDecided basis log disk command said (settled log) disk'
+  says said looks allowed kind plain no_fault adds is =
+      answered said looks allowed kind plain (λ fault. absurd (no_fault fault)) adds (λ is_told. decided_as (answers said) said (settled log) (is is_told) (refl, refl))
+
   -- a change that may be appended with this reply
   pub record MayAppend (change : Kept) (written : Reply) : Type 0 where
     pub kind : IsReplyTo command written
@@ -252,7 +234,7 @@ module _ (basis : Basis) (log : List Change) (disk disk' : DiskTold) (command : 
         let here : Appends basis log change written reply after = subst P (sym room) ends in
         decided_as (appends told written) reply after (is is_told) (subst (λ (k : Kept). Appends basis log k written reply after) (same is_told) here)
 
-    appended : (result : Result (Unit {0}) Refusal) (reply : Reply) (after : State) → IsAppended basis log disk change result after disk' → RepliesAs result written reply → IsDecided basis log disk command reply after disk'
+    appended : (result : Result (Unit {0}) Refusal) (reply : Reply) (after : State) → AreAppended basis log disk (change ∷ []) result after disk' → RepliesAs result written reply → IsDecided basis log disk command reply after disk'
     appended (Ok done) reply after did said = record {
       kind = subst (λ (r : Reply). IsReplyTo command r) (sym said) may.kind;
       plain = subst IsSettledReply (sym said) may.plain;
@@ -262,7 +244,7 @@ module _ (basis : Basis) (log : List Change) (disk disk' : DiskTold) (command : 
           (subst (λ (r : Reply). Adds basis command r [] (events basis log) (event_of basis (keep change) ∷ [])) (sym said) may.adds);
       goes_on = did.goes_on;
       fault = λ fault. absurd (may.no_fault (subst IsStoreFault said fault));
-      decides = λ is_told. decides_to true reply after is_told (did.ends.1 is_told) (inl (said, did.ends.0));
+      decides = λ is_told. decides_to true reply after is_told (room_one basis log change (did.ends.1 is_told)) (inl (said, did.ends.0));
       survives = did.survives;
     }
     appended (Err F.StoreFault) reply after did said = record {
@@ -274,7 +256,7 @@ module _ (basis : Basis) (log : List Change) (disk disk' : DiskTold) (command : 
           (subst (λ (r : Reply). Adds basis command r (event_of basis (keep change) ∷ []) (events basis log) []) (sym said) may.fault_adds);
       goes_on = did.goes_on;
       fault = λ fault. did.ends.1;
-      decides = λ is_told. decides_to true reply after is_told (did.ends.2 is_told) (inr (said, did.ends.0));
+      decides = λ is_told. decides_to true reply after is_told (room_one basis log change (did.ends.2 is_told)) (inr (said, did.ends.0));
       survives = did.survives;
     }
     appended (Err F.JournalFull) reply after did said = record {
@@ -286,7 +268,7 @@ module _ (basis : Basis) (log : List Change) (disk disk' : DiskTold) (command : 
           (subst (λ (r : Reply). Adds basis command r [] (events basis log) []) (sym said) may.full_adds);
       goes_on = did.goes_on;
       fault = λ fault. absurd (subst IsStoreFault said fault);
-      decides = λ is_told. decides_to false reply after is_told (did.ends.1 is_told) (said, did.ends.0);
+      decides = λ is_told. decides_to false reply after is_told (no_room_one basis log change (did.ends.1 is_told)) (said, did.ends.0);
       survives = did.survives;
     }
     appended (Err _) reply after did said = absurd did.ends

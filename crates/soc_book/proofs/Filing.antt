@@ -1,21 +1,6 @@
 -- What is kept of each accepted crash at its number.
-use Rattle.std.proofs.Common.{◌≡◌, ℕ, zero, suc, ◌<◌, true, false, cond, ◌||◌, List, [], ◌∷◌, ◌++◌, length, map, Option, Some, None, IfSome, IsSome, sym, ap, subst, ◌∙◌, refl, append_assoc, arith}
-use Rattle.std.specs.Prelude.{bytes_eq, slice_get}
-use Rattle.std.specs.List.{AllByRecursion, find}
-use Rattle.std.specs.Option.{option_map_or, option_and_then}
-use Rattle.std.proofs.lemmas.Option.{IfSome_then}
-use Rattle.soc_base.proofs.Folk.{or_true, none_is_not_some}
-use Rattle.soc_raw.specs.Record.{Crash, IsCrash}
-use Rattle.soc_journal.specs.Entries.{Entry}
-use Rattle.soc_ledger.specs.declared.crash.Filed.{Filed}
-use Rattle.soc_ledger.specs.State.{LedgerState, id_of}
-use Rattle.soc_ledger.specs.Events.{is_among}
-use Rattle.soc_ledger.proofs.Lists.{AreDistinct, true_is_not_false, turned, itself}
-use Rattle.soc_vault.specs.Vaults.{IsAt}
-use Rattle.soc_desk.specs.Log.{Change, Accepted, accepted_of, raw_of}
-use Rattle.soc_desk.proofs.Logs.{has_id, IsApart}
-use Rattle.soc_desk.proofs.Found.{AreTold}
-use Rattle.soc_book.specs.inner.Stands.{IsFiledOf, IsFiled, AreFiled}
+use Rattle.std.proofs.Common.{◌≡◌, ℕ, zero, suc, ◌<◌, true, false, cond, ◌||◌, List, [], ◌∷◌, ◌++◌, length, map, Option, Some, None, IfSome, IsSome, sym, ap, subst, ◌∙◌, refl, append_assoc, arith, IsSomeAnd}
+use Rattle.soc_book.proofs.Words.{bytes_eq, slice_get, AllByRecursion, find, option_map_or, option_and_then, option_map, IfSome_then, or_true, none_is_not_some, Crash, IsCrash, Entry, Filed, LedgerState, id_of, is_among, AreDistinct, true_is_not_false, turned, itself, IsAt, Change, Accepted, accepted_of, raw_of, has_id, IsApart, AreTold, IsFiledOf, IsFiled, AreFiled, Cell, Text, TellsCrash, product_of, IsRowFor}
 use Rattle.soc_book.proofs.Changes.{IsSoundCrash}
 
 -- ---- more entries, more crashes
@@ -36,32 +21,28 @@ filed-more entries more crash filed is = record {
 
 pub AreFiled-more : (entries more : List Entry) (crashes : List Accepted) (filed : List Filed) → AreFiled entries crashes filed → AreFiled (entries ++ more) crashes filed
 AreFiled-more entries more [] [] are = tt
-AreFiled-more entries more [] (f ∷ fs) are = absurd are
-AreFiled-more entries more (c ∷ cs) [] are = absurd are
 AreFiled-more entries more (c ∷ cs) (f ∷ fs) are = (filed-more entries more c f are.0, AreFiled-more entries more cs fs are.1)
+AreFiled-more entries more _ _ are = absurd are
 
 pub AreFiled-push : (entries : List Entry) (crashes : List Accepted) (filed : List Filed) (crash : Accepted) (f : Filed) → AreFiled entries crashes filed → IsFiled entries crash f
     → AreFiled entries (crashes ++ crash ∷ []) (filed ++ f ∷ [])
 AreFiled-push entries [] [] crash f are is = (is, tt)
-AreFiled-push entries [] (g ∷ gs) crash f are is = absurd are
-AreFiled-push entries (c ∷ cs) [] crash f are is = absurd are
 AreFiled-push entries (c ∷ cs) (g ∷ gs) crash f are is = (are.0, AreFiled-push entries cs gs crash f are.1 is)
+AreFiled-push entries _ _ crash f are is = absurd are
 
 pub filed_ids : (entries : List Entry) (crashes : List Accepted) (filed : List Filed) → AreFiled entries crashes filed → map (λ (f : Filed). f.id) filed ≡ map (λ (c : Accepted). c.id) crashes
 filed_ids entries [] [] are = refl
-filed_ids entries [] (g ∷ gs) are = absurd are
-filed_ids entries (c ∷ cs) [] are = absurd are
 filed_ids entries (c ∷ cs) (g ∷ gs) are = ap (λ x. x ∷ map (λ (f : Filed). f.id) gs) are.0.id ∙ ap (λ xs. c.id ∷ xs) (filed_ids entries cs gs are.1)
+filed_ids entries _ _ are = absurd are
 
 -- ---- the crash of a number
 
 pub filed_at : (entries : List Entry) (crashes : List Accepted) (filed : List Filed) (number : ℕ) (f : Filed) → AreFiled entries crashes filed → slice_get filed number ≡ Some f
     → (crash : Accepted) × (slice_get crashes number ≡ Some crash) × IsFiled entries crash f
 filed_at entries [] [] number f are is = absurd (none_is_not_some is)
-filed_at entries [] (g ∷ gs) number f are is = absurd are
-filed_at entries (c ∷ cs) [] number f are is = absurd are
 filed_at entries (c ∷ cs) (g ∷ gs) zero f are is = let same : g ≡ f = cc in (c, refl, subst (λ (x : Filed). IsFiled entries c x) same are.0)
 filed_at entries (c ∷ cs) (g ∷ gs) (suc number) f are is = filed_at entries cs gs number f are.1 is
+filed_at entries _ _ number f are is = absurd are
 
 pub all_got : {A : Type 0} (P : A → Type 0) (xs : List A) (i : ℕ) (x : A) → AllByRecursion P xs → slice_get xs i ≡ Some x → P x
 all_got P [] i x all is = absurd (none_is_not_some is)
@@ -106,6 +87,16 @@ known entries log filed number f are apart sound told is =
     let here = filed_at entries (accepted_of log) filed number f are is in
     known_raw entries log f here.0 (here.0).raw refl (found_at (accepted_of log) number here.0 apart here.1) here.2
     (all_got IsSoundCrash (accepted_of log) number here.0 sound here.1) (all_got (λ (c : Accepted). IsSome c.raw) (accepted_of log) number here.0 told here.1)
+
+-- a row that tells of an id and a product tells of the crash that has them, and the other way round
+module _ (product : Option (List ℕ)) (id : List ℕ) where
+  pub row_tells_crash : (raw : Option Crash) (other : List ℕ) → id ≡ other → IfSome raw (λ x. (x.id ≡ other) × IsCrash x) → IfSome raw (λ x. product ≡ product_of x) → (row : List Cell) → IsRowFor id product row → IfSome raw (λ x. TellsCrash x row)
+  row_tells_crash None other same sound is row of = tt
+  row_tells_crash (Some x) other same sound is row of = record { id = of.id ∙ ap (λ y. Some (Text y)) (same ∙ sym sound.0); product = of.product ∙ ap (λ (o : Option (List ℕ)). option_map Text o) is }
+
+  pub crash_tells_row : (raw : Option Crash) (other : List ℕ) → id ≡ other → IfSome raw (λ x. (x.id ≡ other) × IsCrash x) → IfSome raw (λ x. product ≡ product_of x) → (row : List Cell) → IsSomeAnd raw (λ x. TellsCrash x row) → IsRowFor id product row
+  crash_tells_row None other same sound is row tells = absurd tells
+  crash_tells_row (Some x) other same sound is row tells = record { id = tells.id ∙ ap (λ y. Some (Text y)) (sound.0 ∙ sym same); product = tells.product ∙ ap (λ (o : Option (List ℕ)). option_map Text o) (sym is) }
 
 -- ---- the ids of numbers
 

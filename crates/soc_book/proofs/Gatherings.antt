@@ -1,58 +1,27 @@
 -- What is gathered of reports that are to be written together, number by number.
-use Rattle.std.proofs.Common.{◌≡◌, ◌≢◌, ℕ, ◌+◌, ◌<◌, ◌≤◌, Bool, true, false, not, IsTrue, List, [], ◌∷◌, ◌++◌, length, map, Option, Some, None, Result, Ok, Err, OnOk, OnErr, inl, refl, sym, ◌∙◌, ap, subst, arith, append_assoc, length-append}
-use Rattle.std.specs.Prelude.{slice_get, if◌then◌else◌}
-use Rattle.std.specs.Option.{option_and_then, option_map, option_map_or}
-use Rattle.std.proofs.lemmas.List.{append-nil, map-append}
-use Rattle.soc_schema.specs.declared.value.Cell.{Cell}
-use Rattle.soc_edge.specs.Disk.{DiskTold, IsDisk}
-use Rattle.soc_edge.proofs.Disks.{GoesOn-none}
-use Rattle.soc_journal.specs.States.{JournalState}
-use Rattle.soc_journal.proofs.Texts.{length-entry_text, length-entries_text-append, length-sealed_all, entries_text-one, place_behind-append}
-use Rattle.soc_journal.specs.Entries.{Entry, entry_text, entries_text, place_behind, sealed_all}
-use Rattle.soc_ledger.specs.declared.crash.Filed.{Filed}
-use Rattle.soc_ledger.specs.declared.event.Event.{Event}
+use Rattle.std.proofs.Common.{◌≡◌, ◌≢◌, ℕ, ◌+◌, ◌<◌, ◌≤◌, Bool, true, false, not, IsTrue, List, [], ◌∷◌, ◌++◌, length, Option, Some, None, Result, Ok, Err, OnOk, OnErr, Vec, inl, refl, sym, ◌∙◌, ap, subst, arith, length-append}
+use Rattle.std.specs.declared.alloc.Global.{Global}
+use Rattle.soc_book.proofs.Words.{slice_get, if◌then◌else◌, option_and_then, option_map, option_map_or, append-nil, map-append, Cell, DiskTold, IsDisk, GoesOn-none, JournalState, length-entry_text, length-entries_text-append, length-sealed_all, entries_text-one, place_behind-append, Entry, entry_text, entries_text, place_behind, sealed_all, Filed, Event, is_due, accepted_ids, is_held, LedgerState, id_of, AreDistinct, row_at, Limits, Refusal, Basis, RowsTell, IsPartOf, is_passed_over, is_to_keep, report_of, to_append, Change, Kept, KeptReport, report, keep, event_of, events, is_own, IsLegal, State, Survives, settled, entry_of, entries_of, kept_of, events-more, HasGathered, IsBatch, IsMost, IsSameBatch, KeepsBatch, KeepsOn, LeavesSome, MakesEntry, MayMakeEntry, is_wanted, rest_ids, with_all, AreAppended, product_at, Pending, AreHeld, ArePending, AreReports, Holds, IsReportOf, Stands, most_together, with_reports, all_push, and_parts}
 use Rattle.soc_ledger.specs.declared.event.Event.TheVariants as E
-use Rattle.soc_ledger.specs.Due.{is_due}
-use Rattle.soc_ledger.specs.Events.{accepted_ids, is_held}
-use Rattle.soc_ledger.specs.State.{LedgerState, id_of}
-use Rattle.soc_ledger.proofs.Lists.{AreDistinct}
-use Rattle.soc_store.specs.Stored.{row_at}
-use Rattle.soc_desk.specs.declared.desk.Limits.{Limits}
-use Rattle.soc_desk.specs.declared.desk.Refusal.{Refusal}
 use Rattle.soc_desk.specs.declared.desk.Refusal.TheVariants as F
-use Rattle.soc_desk.specs.Basis.{Basis, RowsTell}
-use Rattle.soc_desk.specs.Keeps.{IsPartOf, is_passed_over, is_to_keep, report_of, to_append}
-use Rattle.soc_desk.specs.Log.{Change, Kept, KeptReport, accept, ask, withdraw, report, keep, event_of, events, is_own, IsLegal}
-use Rattle.soc_desk.specs.State.{State, Survives, settled, entry_of, entries_of, kept_of}
-use Rattle.soc_desk.proofs.Logs.{events-more}
-use Rattle.soc_book.specs.inner.Keepings.{HasGathered, IsBatch, IsMost, IsSameBatch, KeepsBatch, LeavesSome, MakesEntry, MayMakeEntry, is_wanted, rest_ids, with_all}
-use Rattle.soc_book.specs.inner.Pieces.{AreAppended, product_at}
-use Rattle.soc_book.specs.declared.book.Change.{Change as Pending}
+use Rattle.soc_book.specs.declared.book.Change.TheVariants as P
 use Rattle.soc_book.specs.declared.keep.Batch.{Batch}
-use Rattle.soc_book.specs.inner.Stands.{AreHeld, AreReports, FitReports, Holds, IsReportOf, Stands, most_together, with_reports}
 use Rattle.soc_book.proofs.Changes.{entries-all}
-use Rattle.soc_book.proofs.Keepings.{and_left, distinct_here, entry_is, id_there, idle_here, made, may_make, no_entry, not_over, own_is, part_skips, report_legal, report_told}
-use Rattle.soc_book.proofs.Pushing.{pushed_reports}
+use Rattle.soc_book.proofs.Keepings.{distinct_here, entry_is, id_there, idle_here, keeps_append, keeps_none, made, may_make, no_entry, not_over, own_is, part_skips, report_legal, report_told, with_both}
+use Rattle.soc_book.proofs.Pushing.{moved_reports, pushed_reports}
 use Rattle.soc_book.proofs.Rests.{ids_differ, rest_reported, rest_skips, rest_takes, wanted_same}
-use Rattle.soc_book.proofs.Quiets.{held_room}
 use Rattle.soc_book.proofs.Standing.{allowed_in, reports-crashes}
 
 -- nothing yet
 none_gathered : (basis : Basis) (log : List Change) (ledger : LedgerState) (number : ℕ) → IsLegal basis log → HasGathered basis log ledger number number [] [] []
-none_gathered basis log ledger number legal =
-    let same : with_all log [] ≡ log = append-nil log in
-    record {
-      ids = [];
-      are = tt;
-      entries_are = refl;
-      legal = subst (IsLegal basis) (sym same) legal;
-      events_are = refl;
-      ids_count = refl;
-      reports_count = refl;
-      among = λ more part. subst (λ (l : List Change). IsPartOf more (rest_ids (events basis l) number)) same part;
-      same = λ n id later at. ap (λ (l : List Change). is_wanted (events basis l) id) same;
-      keeps = λ is_told. ap (λ (l : List Change). to_append basis l (rest_ids (events basis l) number)) (sym same);
-    }
+none_gathered basis log ledger number legal = record {
+  are = tt;
+  entries_are = refl;
+  legal = subst (IsLegal basis) (sym (append-nil log)) legal;
+  count = refl;
+  kept = keeps_none basis log number;
+  same = λ n id later at. ap (λ (l : List Change). is_wanted (events basis l) id) (append-nil log);
+}
 
 pub gathered_none : (basis : Basis) (log : List Change) (ledger : LedgerState) (number : ℕ) (batch : Batch) → IsLegal basis log → batch.next ≡ number → batch.numbers.items ≡ [] → batch.entries.items ≡ []
     → HasGathered basis log ledger number batch.next batch.numbers.items batch.entries.items []
@@ -65,12 +34,11 @@ some_behind : {A : Type 0} (xs : List A) (y : A) (ys : List A) → xs ++ (y ∷ 
 some_behind [] y ys none = cc
 some_behind (x ∷ xs) y ys none = cc
 
-are_push : (basis : Basis) (log : List Change) (ledger : LedgerState) (numbers : List ℕ) (reports : List Kept) (number : ℕ) (change : Kept) → AreReports basis log ledger numbers reports → IsReportOf basis log ledger number change
-    → AreReports basis log ledger (numbers ++ number ∷ []) (reports ++ change ∷ [])
-are_push basis log ledger [] [] number change are is = (is, tt)
-are_push basis log ledger [] (x ∷ reports) number change are is = absurd are
-are_push basis log ledger (n ∷ numbers) [] number change are is = absurd are
-are_push basis log ledger (n ∷ numbers) (x ∷ reports) number change (one, are) is = (one, are_push basis log ledger numbers reports number change are is)
+are_push : (basis : Basis) (log : List Change) (ledger : LedgerState) (numbers : List ℕ) (reports : List Kept) (number : ℕ) (own : KeptReport) → AreReports basis log ledger numbers reports → IsReportOf basis log ledger number own
+    → AreReports basis log ledger (numbers ++ number ∷ []) (reports ++ report own ∷ [])
+are_push basis log ledger [] [] number own are is = (is, tt)
+are_push basis log ledger (n ∷ numbers) (report other ∷ reports) number own (one, are) is = (one, are_push basis log ledger numbers reports number own are is)
+are_push basis log ledger _ _ number own are is = absurd are
 
 module _ (basis : Basis) (log : List Change) (ledger : LedgerState) (rows : List (ℕ × List Cell)) (legal : IsLegal basis log) (holds : Holds basis log ledger rows) (digest : List ℕ) (long : length digest ≡ 32) (digest_is : basis.digest ≡ Some digest) (tell : RowsTell basis)
     (from to : ℕ) (numbers : List ℕ) (entries : List Entry) (reports : List Kept) (gathered : HasGathered basis log ledger from to numbers entries reports) (within : to < length ledger.crashes) where
@@ -117,22 +85,28 @@ module _ (basis : Basis) (log : List Change) (ledger : LedgerState) (rows : List
   later_same : (n : ℕ) (other : List ℕ) → to + 1 ≤ n → slice_get (accepted_ids (events basis log)) n ≡ Some other → is_wanted ev_now other ≡ is_wanted (events basis log) other
   later_same n other less at = gathered.same n other (omega (arith, less)) at
 
+  -- nothing of it is gathered
+  skips : ((more : List (List ℕ)) → IsPartOf more rest → IsPartOf more (rest_ids ev_now to)) → (IsTrue basis.is_told → to_append basis now (rest_ids ev_now to) ≡ following) → HasGathered basis log ledger from (to + 1) numbers entries reports
+  skips part keeps = record {
+    are = gathered.are;
+    entries_are = gathered.entries_are;
+    legal = gathered.legal;
+    count = gathered.count;
+    kept = let k = gathered.kept in record {
+      ids = k.ids;
+      events_are = k.events_are;
+      count = k.count;
+      among = λ more later. k.among more (part more later);
+      keeps = λ is_told. k.keeps is_told ∙ ap (λ (l : List Kept). reports ++ l) (keeps is_told);
+    };
+    same = later_same;
+  }
+
   -- its report isn't to be kept
   pub not_gathered : is_wanted ledger.log id ≡ false → HasGathered basis log ledger from (to + 1) numbers entries reports
   not_gathered is =
-      let none = wanted_now false is in
-      record {
-        ids = gathered.ids;
-        are = gathered.are;
-        entries_are = gathered.entries_are;
-        legal = gathered.legal;
-        events_are = gathered.events_are;
-        ids_count = gathered.ids_count;
-        reports_count = gathered.reports_count;
-        among = λ more part. gathered.among more (subst (λ ids. IsPartOf more ids) (sym (rest_skips ev_now to id at_now none)) part);
-        same = later_same;
-        keeps = λ is_told. gathered.keeps is_told ∙ ap (λ ids. reports ++ to_append basis now ids) (rest_skips ev_now to id at_now none);
-      }
+      let none = rest_skips ev_now to id at_now (wanted_now false is) in
+      skips (λ more later. subst (λ ids. IsPartOf more ids) (sym none) later) (λ is_told. ap (λ ids. to_append basis now ids) none)
 
   module _ (wanted : is_wanted ledger.log id ≡ true) where
     wanted_here : is_wanted ev_now id ≡ true
@@ -156,24 +130,13 @@ module _ (basis : Basis) (log : List Change) (ledger : LedgerState) (rows : List
 
     -- it is passed over
     passes_over : (IsTrue basis.is_told → is_passed_over basis now own ≡ true) → HasGathered basis log ledger from (to + 1) numbers entries reports
-    passes_over over = record {
-      ids = gathered.ids;
-      are = gathered.are;
-      entries_are = gathered.entries_are;
-      legal = gathered.legal;
-      events_are = gathered.events_are;
-      ids_count = gathered.ids_count;
-      reports_count = gathered.reports_count;
-      among = λ more part. gathered.among more (subst (λ ids. IsPartOf more ids) (sym (rest_takes ev_now to id at_now wanted_here)) (part_skips id more rest part));
-      same = later_same;
-      keeps = λ is_told. gathered.keeps is_told ∙ ap (λ (k : List Kept). reports ++ k) (takes is_told true (over is_told));
-    }
+    passes_over over = skips (λ more later. subst (λ ids. IsPartOf more ids) (sym (rest_takes ev_now to id at_now wanted_here)) (part_skips id more rest later)) (λ is_told. takes is_told true (over is_told))
 
     -- its report, which isn't passed over, is left
     leaves : (IsTrue basis.is_told → is_passed_over basis now own ≡ false) → LeavesSome basis log from
     leaves not_over is_told none =
         let is : reports ++ (report own ∷ to_append basis (now ++ keep (report own) ∷ []) rest) ≡ [] =
-        ap (λ (k : List Kept). reports ++ k) (sym (takes is_told false (not_over is_told))) ∙ (sym (gathered.keeps is_told) ∙ none) in
+        ap (λ (k : List Kept). reports ++ k) (sym (takes is_told false (not_over is_told))) ∙ (sym (gathered.kept.keeps is_told) ∙ none) in
         some_behind reports (report own) (to_append basis (now ++ keep (report own) ∷ []) rest) is
 
     module _ (gate limit bytes most : ℕ) (gate_is : IsTrue basis.is_told → gate ≡ place_behind (entries_of (kept_of log))) (limit_is : limit ≡ basis.journal_bytes) (bytes_are : bytes ≡ length (entries_text entries)) (is_most : IsMost (gate + bytes) limit most) where
@@ -219,56 +182,49 @@ module _ (basis : Basis) (log : List Change) (ledger : LedgerState) (rows : List
         unadded_left = leaves not_passed
 
         -- it is gathered
-        abbrev more_reports : List Kept
-        more_reports = reports ++ report own ∷ []
-
-        now_more : with_all log more_reports ≡ now ++ keep (report own) ∷ []
-        now_more = ap (λ (l : List Change). log ++ l) (map-append keep reports (report own ∷ [])) ∙ sym (append_assoc log (map keep reports) (keep (report own) ∷ []))
+        abbrev now' : List Change
+        now' = now ++ keep (report own) ∷ []
 
         event_is : event_of basis (keep (report own)) ≡ E.Reported id true
         event_is =
             ap (λ x. E.Reported x (is_own basis own.digest)) id_later
             ∙ ap (λ b. E.Reported id b) (own_is basis later rows now gathered.legal holds_later to within_later wanted_later digest long digest_is tell)
 
-        events_more : events basis (with_all log more_reports) ≡ ev_now ++ E.Reported id true ∷ []
-        events_more = ap (events basis) now_more ∙ (events-more basis now (keep (report own)) ∙ ap (λ (e : Event). ev_now ++ e ∷ []) event_is)
+        events_more : events basis now' ≡ ev_now ++ E.Reported id true ∷ []
+        events_more = events-more basis now (keep (report own)) ∙ ap (λ (e : Event). ev_now ++ e ∷ []) event_is
 
         distinct_now : AreDistinct (accepted_ids ev_now)
         distinct_now = distinct_here basis later rows now gathered.legal holds_later
 
-        rest_more : rest_ids (events basis (with_all log more_reports)) (to + 1) ≡ rest
+        rest_more : rest_ids (events basis now') (to + 1) ≡ rest
         rest_more = ap (λ (l : List Event). rest_ids l (to + 1)) events_more ∙ rest_reported ev_now to id at_now distinct_now
 
-        own_of : IsReportOf basis log ledger to (report own)
+        keeps_one : KeepsOn basis now to (to + 1) (report own ∷ [])
+        keeps_one = record {
+          ids = id ∷ [];
+          events_are = ap (λ (e : Event). e ∷ []) event_is;
+          count = refl;
+          among = λ more part. subst (λ ids. IsPartOf (id ∷ more) ids) (sym (rest_takes ev_now to id at_now wanted_here)) (inl (refl, subst (λ ids. IsPartOf more ids) rest_more part));
+          keeps = λ is_told. takes is_told false (not_passed is_told) ∙ ap (λ ids. report own ∷ to_append basis now' ids) (sym rest_more);
+        }
+
+        own_of : IsReportOf basis log ledger to own
         own_of = (sym id_later, own_is basis later rows now gathered.legal holds_later to within_later wanted_later digest long digest_is tell, subst (λ x. IsTrue (not (is_due_at x))) (sym id_later) (idle_here basis ledger rows log legal holds to within wanted)) where
           is_due_at : List ℕ → Bool
           is_due_at x = is_due (events basis log) x
 
-        pub gathers : HasGathered basis log ledger from (to + 1) (numbers ++ to ∷ []) more_entries more_reports
+        pub gathers : HasGathered basis log ledger from (to + 1) (numbers ++ to ∷ []) more_entries (reports ++ report own ∷ [])
         gathers = record {
-          ids = gathered.ids ++ id ∷ [];
-          are = are_push basis log ledger numbers reports to (report own) gathered.are own_of;
+          are = are_push basis log ledger numbers reports to own gathered.are own_of;
           entries_are = ap (λ (es : List Entry). es ++ entry ∷ []) gathered.entries_are ∙ (ap (λ (e : Entry). entries_of reports ++ e ∷ []) same_entry ∙ sym (map-append entry_of reports (report own ∷ [])));
-          legal = subst (IsLegal basis) (sym now_more) (report_legal basis later rows now gathered.legal holds_later to within_later wanted_later digest long digest_is tell most at_most entry (moved_entry (Some entry) makes));
-          events_are = ap (events basis) (map-append keep reports (report own ∷ []))
-              ∙ (events-more basis (map keep reports) (keep (report own))
-              ∙ (ap (λ (es : List Event). es ++ event_of basis (keep (report own)) ∷ []) gathered.events_are
-              ∙ (ap (λ (e : Event). map (λ x. E.Reported x true) gathered.ids ++ e ∷ []) event_is ∙ sym (map-append (λ x. E.Reported x true) gathered.ids (id ∷ [])))));
-          ids_count = let count = gathered.ids_count in omega (arith, count, length-append gathered.ids (id ∷ []), length-append numbers (to ∷ []));
-          reports_count = let count = gathered.reports_count in omega (arith, count, length-append reports (report own ∷ []), length-append numbers (to ∷ []));
-          among = λ more part.
-              subst (λ ids. IsPartOf ids (rest_ids (events basis log) from)) (sym (append_assoc gathered.ids (id ∷ []) more))
-              (gathered.among (id ∷ more) (subst (λ ids. IsPartOf (id ∷ more) ids) (sym (rest_takes ev_now to id at_now wanted_here)) (inl (refl, subst (λ ids. IsPartOf more ids) rest_more part))));
+          legal = subst (IsLegal basis) (sym (with_both log reports (report own ∷ [])))
+              (report_legal basis later rows now gathered.legal holds_later to within_later wanted_later digest long digest_is tell most at_most entry (moved_entry (Some entry) makes));
+          count = let count = gathered.count in omega (arith, count, length-append reports (report own ∷ []), length-append numbers (to ∷ []));
+          kept = keeps_append gathered.kept keeps_one;
           same = λ n other less at.
-              ap (λ (l : List Event). is_wanted l other) events_more
+              ap (λ (l : List Change). is_wanted (events basis l) other) (with_both log reports (report own ∷ [])) ∙ (ap (λ (l : List Event). is_wanted l other) events_more
               ∙ (wanted_same ev_now to id at_now distinct_now other (ids_differ (accepted_ids (events basis log)) to n id other (distinct_here basis ledger rows log legal holds) at_log at (omega (arith, less)))
-              ∙ later_same n other less at);
-          keeps = λ is_told.
-              gathered.keeps is_told
-              ∙ (ap (λ (k : List Kept). reports ++ k)
-              (takes is_told false (not_passed is_told)
-              ∙ ap (λ (k : List Kept). report own ∷ k) (ap (λ (l : List Change). to_append basis l rest) (sym now_more) ∙ ap (λ ids. to_append basis (with_all log more_reports) ids) (sym rest_more)))
-              ∙ sym (append_assoc reports (report own ∷ []) (to_append basis (with_all log more_reports) (rest_ids (events basis (with_all log more_reports)) (to + 1)))));
+              ∙ later_same n other less at));
         }
 
 -- ---- a batch that is written
@@ -278,29 +234,20 @@ no_reports basis log ledger [] [] none are = refl
 no_reports basis log ledger [] (x ∷ reports) none are = absurd are
 no_reports basis log ledger (n ∷ numbers) reports none are = absurd (omega (arith, none))
 
-pub some_reports : (basis : Basis) (log : List Change) (ledger : LedgerState) (numbers : List ℕ) (reports : List Kept) → (length numbers ≡ 0 → ⊥) → AreReports basis log ledger numbers reports → (first : Kept) × (more : List Kept) × (reports ≡ first ∷ more)
-some_reports basis log ledger [] reports some are = absurd (some refl)
-some_reports basis log ledger (n ∷ numbers) [] some are = absurd are
-some_reports basis log ledger (n ∷ numbers) (x ∷ reports) some are = (x, reports, refl)
-
 pub reports_there : (basis : Basis) (log : List Change) (ledger : LedgerState) (numbers : List ℕ) (reports : List Kept) → (length numbers ≡ 0 → ⊥) → AreReports basis log ledger numbers reports → reports ≢ []
-reports_there basis log ledger numbers reports some are none =
-    let first = some_reports basis log ledger numbers reports some are in
-    some_behind [] first.0 first.1 (sym first.2 ∙ none)
+reports_there basis log ledger [] reports some are none = some refl
+reports_there basis log ledger (n ∷ numbers) [] some are none = are
+reports_there basis log ledger (n ∷ numbers) (x ∷ reports) some are none = cc
+
+-- they wait, where there are some
+pub reports_wait : (basis : Basis) (log : List Change) (ledger : LedgerState) (numbers : Vec ℕ Global) (reports : List Kept) → reports ≢ [] → AreReports basis log ledger numbers.items reports → ArePending basis log ledger (Some (P.Reports numbers)) reports
+reports_wait basis log ledger numbers [] some are = absurd (some refl)
+reports_wait basis log ledger numbers (first ∷ more) some are = are
 
 -- more room in the ledger changes nothing
-roomy_reports : (basis : Basis) (log : List Change) (ledger : LedgerState) (room : ℕ) (numbers : List ℕ) (reports : List Kept) → AreReports basis log ledger numbers reports → AreReports basis log (record ledger { room = room }) numbers reports
-roomy_reports basis log ledger room [] [] are = tt
-roomy_reports basis log ledger room [] (x ∷ reports) are = absurd are
-roomy_reports basis log ledger room (n ∷ numbers) [] are = absurd are
-roomy_reports basis log ledger room (n ∷ numbers) (report other ∷ reports) (is, are) = (is, roomy_reports basis log ledger room numbers reports are)
-roomy_reports basis log ledger room (n ∷ numbers) (accept crash ∷ reports) (is, are) = absurd is
-roomy_reports basis log ledger room (n ∷ numbers) (ask other ∷ reports) (is, are) = absurd is
-roomy_reports basis log ledger room (n ∷ numbers) (withdraw other ∷ reports) (is, are) = absurd is
-
 pub reports_roomy : (basis : Basis) (log : List Change) (ledger ledger' : LedgerState) (numbers : List ℕ) (reports : List Kept) → ledger' ≡ record ledger { room = ledger'.room } → AreReports basis log ledger numbers reports → AreReports basis log ledger' numbers reports
 reports_roomy basis log ledger ledger' numbers reports same are =
-    subst (λ (l : LedgerState). AreReports basis log l numbers reports) (sym same) (roomy_reports basis log ledger ledger'.room numbers reports are)
+    moved_reports basis log log (λ id idle. idle) ledger ledger' (λ n. ap (λ (l : LedgerState). id_of l n) same) numbers reports are
 
 module _ {basis : Basis} {limits : Limits} {ledger : LedgerState} {rows : List (ℕ × List Cell)} {pending : Option Pending} {journal : JournalState} {disk : DiskTold} {log : List Change}
     (stands : Stands basis limits ledger rows pending journal disk (settled log)) (sound : IsDisk disk) (reports : List Kept) where
@@ -317,17 +264,13 @@ module _ {basis : Basis} {limits : Limits} {ledger : LedgerState} {rows : List (
   pub batch_unmade : reports ≢ [] → KeepsBatch basis log disk reports (Err F.NoMemory) (settled log) disk
   batch_unmade some = record { ends = (some, refl); goes_on = GoesOn-none disk sound; survives = quiet }
 
-pub batch_done : (basis : Basis) (log : List Change) (disk disk' : DiskTold) (first : Kept) (more reports : List Kept) → reports ≡ first ∷ more → (count : ℕ) (after : State) → AreAppended basis log disk (first ∷ more) (Ok tt) after disk' → KeepsBatch basis log disk reports (Ok count) after disk'
-batch_done basis log disk disk' first more reports is count after did =
-    subst (λ (k : List Kept). KeepsBatch basis log disk k (Ok count) after disk') (sym is) (record { ends = did.ends; goes_on = did.goes_on; survives = did.survives })
+pub batch_done : {basis : Basis} {log : List Change} {disk disk' : DiskTold} {reports : List Kept} {after : State} (count : ℕ) → AreAppended basis log disk reports (Ok tt) after disk' → KeepsBatch basis log disk reports (Ok count) after disk'
+batch_done count did = record { ends = did.ends.0; goes_on = did.goes_on; survives = did.survives }
 
-fails_as : (basis : Basis) (log : List Change) (disk disk' : DiskTold) (first : Kept) (more : List Kept) (refusal : Refusal) (after : State) → AreAppended basis log disk (first ∷ more) (Err refusal) after disk' → KeepsBatch basis log disk (first ∷ more) (Err refusal) after disk'
-fails_as basis log disk disk' first more F.StoreFault after did = record { ends = ((λ is. cc), did.ends.0, did.ends.1); goes_on = did.goes_on; survives = did.survives }
-fails_as basis log disk disk' first more _ after did = absurd did.ends
-
-pub batch_fails : (basis : Basis) (log : List Change) (disk disk' : DiskTold) (first : Kept) (more reports : List Kept) → reports ≡ first ∷ more → (refusal : Refusal) (after : State) → AreAppended basis log disk (first ∷ more) (Err refusal) after disk' → KeepsBatch basis log disk reports (Err refusal) after disk'
-batch_fails basis log disk disk' first more reports is refusal after did =
-    subst (λ (k : List Kept). KeepsBatch basis log disk k (Err refusal) after disk') (sym is) (fails_as basis log disk disk' first more refusal after did)
+pub batch_fails : {basis : Basis} {log : List Change} {disk disk' : DiskTold} {reports : List Kept} {after : State} (refusal : Refusal) → reports ≢ [] → (refusal ≡ F.JournalFull → ⊥) → AreAppended basis log disk reports (Err refusal) after disk' → KeepsBatch basis log disk reports (Err refusal) after disk'
+batch_fails F.StoreFault some room did = record { ends = (some, did.ends.0, did.ends.1); goes_on = did.goes_on; survives = did.survives }
+batch_fails F.JournalFull some room did = absurd (room refl)
+batch_fails _ some room did = absurd did.ends
 
 -- ---- what a book owes a batch
 
@@ -351,8 +294,7 @@ batch_same ledger journal before after same is = record {
 }
 
 held_push : (ledger : LedgerState) (numbers : List ℕ) (number : ℕ) → AreHeld ledger numbers → number < length ledger.crashes → IsTrue (is_held ledger.log (id_of ledger number)) → AreHeld ledger (numbers ++ number ∷ [])
-held_push ledger [] number held within one = ((within, one), tt)
-held_push ledger (n ∷ numbers) number held within one = (held.0, held_push ledger numbers number held.1 within one)
+held_push ledger numbers number held within one = all_push (λ number. (number < length ledger.crashes) × IsTrue (is_held ledger.log (id_of ledger number))) numbers number held (within, one)
 
 entry_sized : (row : Option (List Cell)) (named : List ℕ) (product : Option (List ℕ)) (digest : List ℕ) (most : ℕ) (entry : Entry) → MakesEntry row named product digest most (Some entry) → (0 < length entry.body) × (length entry.body ≤ most)
 entry_sized None named product digest most entry makes = absurd (cc)
@@ -376,7 +318,7 @@ batch_pushed ledger journal before after number row named product digest most en
       bytes_are = omega (arith, bytes, counted, text, more, one);
       same_count = omega (arith, same, ap (λ (es : List Entry). length es) entries, ap (λ (ns : List ℕ). length ns) numbers, length-append before.entries.items (entry ∷ []), length-append before.numbers.items (number ∷ []));
       few = omega (arith, few, ap (λ (ns : List ℕ). length ns) numbers, length-append before.numbers.items (number ∷ []));
-      held = subst (λ ns. AreHeld ledger ns) (sym numbers) (held_push ledger before.numbers.items number is.held within (and_left (is_held ledger.log (id_of ledger number)) (is_to_keep ledger.log (id_of ledger number)) wanted));
+      held = subst (λ ns. AreHeld ledger ns) (sym numbers) (held_push ledger before.numbers.items number is.held within (and_parts (is_held ledger.log (id_of ledger number)) (is_to_keep ledger.log (id_of ledger number)) wanted).0);
       room = λ some. omega (arith, room, sized1, counted, text, more, one, length-sealed_all after.entries.items, length-entry_text entry);
     }
 

@@ -1,56 +1,20 @@
 -- Commands that are carried out in groups, and the new crashes that wait meanwhile.
-use Rattle.std.proofs.Common.{◌≡◌, ◌↔◌, ◌⊎◌, inl, inr, ℕ, suc, ◌+◌, ◌-◌, ◌<◌, ◌≤◌, ◌^◌, Bool, true, false, not, IsTrue, List, [], ◌∷◌, ◌++◌, length, map, Option, Some, None, IsSome, Result, Ok, Err, sym, ap, subst, ◌∙◌, refl, arith, append_assoc, length-append}
-use Rattle.std.specs.Prelude.{flat_map}
-use Rattle.std.specs.List.{AllByRecursion}
+use Rattle.std.proofs.Common.{◌≡◌, ◌↔◌, ◌⊎◌, inl, inr, ℕ, suc, ◌+◌, ◌<◌, ◌≤◌, ◌^◌, Bool, false, IsTrue, List, [], ◌∷◌, ◌++◌, length, map, Option, Some, None, IsSome, Result, Vec, Ok, Err, sym, ap, subst, ◌∙◌, refl, arith, append_assoc, length-append}
+use Rattle.std.specs.declared.alloc.Global.{Global}
+use Rattle.soc_book.proofs.Words.{IsErrOf, WritesBook, AllByRecursion, append-nil, length-map, map-append, crash_of, RawCrash, Cell, DiskTold, IsDisk, DiskFailed, Looks-none, Entry, entries_text, sealed_all, JournalState, entries_text-one, length-entries_text-append, length-sealed_all, Event, Filed, is_due_at_once, accepted_ids, has_stop, is_among, was_accepted, LedgerState, or_no, true_is_not_false, or_no_left, or_no_right, accepted_ids-more, Command, Limits, Receipt, Refusal, Reply, Basis, Change, Kept, keep, event_of, events, IsLegal, State, settled, entries_of, kept_of, events-more, Book, Pending, NewCrash, NewCrashes, AsksAll, AsksBook, SameSetting, StandsFor, disk_in, disk_of, reporter_of, AddsSubmission, AreMadeOf, AsksInTurn, FitsAll, HasPlace, IsEmpty, IsUnderWay, Joins, Leads, MayStore, StoresBook, receipt_of, IsSubmissionOf, IsPrepared, command_of, AreAppended, AreAccepted, AreNew, FitNew, Stands, ArePending, most_together, Becomes, EndsAs}
 use Rattle.std.proofs.lemmas.Grind.{flat_map-append}
-use Rattle.std.proofs.lemmas.List.{append-nil, length-map, map-append}
-use Rattle.soc_raw.specs.RawCrash.{crash_of}
-use Rattle.soc_raw.specs.declared.raw_crash.RawCrash.{RawCrash}
 use Rattle.soc_schema.specs.declared.reporter.Reporter as reporter
-use Rattle.soc_schema.specs.declared.value.Cell.{Cell}
-use Rattle.soc_edge.specs.Disk.{DiskTold, IsDisk, DiskFailed}
 use Rattle.soc_edge.specs.declared.disk.Disk as disk
-use Rattle.soc_edge.proofs.Disks.{Looks-none}
-use Rattle.soc_journal.specs.Entries.{Entry, entry_text, entries_text, sealed_all}
-use Rattle.soc_journal.specs.States.{JournalState}
-use Rattle.soc_journal.proofs.Texts.{entries_text-one, length-entries_text-append, length-sealed_all}
-use Rattle.soc_ledger.specs.declared.event.Event.{Event}
 use Rattle.soc_ledger.specs.declared.event.Event.TheVariants as E
-use Rattle.soc_ledger.specs.declared.crash.Filed.{Filed}
-use Rattle.soc_ledger.specs.Due.{is_due_at_once}
-use Rattle.soc_ledger.specs.Events.{accepted_ids, has_stop, is_among, was_accepted}
-use Rattle.soc_ledger.specs.State.{LedgerState}
-use Rattle.soc_ledger.proofs.Lists.{or_no, true_is_not_false}
-use Rattle.soc_base.proofs.Folk.{or_no_left, or_no_right}
-use Rattle.soc_ledger.proofs.More.{accepted_ids-more}
-use Rattle.soc_desk.specs.declared.desk.Command.{Command}
 use Rattle.soc_desk.specs.declared.desk.Command.TheVariants as C
-use Rattle.soc_desk.specs.declared.desk.Limits.{Limits}
-use Rattle.soc_desk.specs.declared.desk.Receipt.{Receipt}
-use Rattle.soc_desk.specs.declared.desk.Refusal.{Refusal}
 use Rattle.soc_desk.specs.declared.desk.Refusal.TheVariants as F
-use Rattle.soc_desk.specs.declared.desk.Reply.{Reply}
+use Rattle.soc_book.specs.declared.book.Change.TheVariants as P
 use Rattle.soc_desk.specs.declared.desk.Reply.TheVariants as R
-use Rattle.soc_desk.specs.Basis.{Basis}
 use Rattle.soc_desk.specs.Batches.{Group, alone, together, AcceptNew, AllFail, AreStored, AsksGroup, AsksGroups, StoresAll, commands_in, receipts_in}
-use Rattle.soc_desk.specs.Log.{Change, Kept, accept, keep, event_of, events, IsLegal}
-use Rattle.soc_desk.specs.State.{State, settled, entries_of, kept_of}
-use Rattle.soc_desk.proofs.Logs.{events-more}
-use Rattle.soc_book.specs.declared.book.Book.{Book}
-use Rattle.soc_book.specs.declared.book.Change.{Change as Pending}
-use Rattle.soc_book.specs.declared.submission.NewCrash.{NewCrash}
 use Rattle.soc_book.specs.declared.submission.Submission.{Submission}
-use Rattle.soc_book.specs.declared.together.NewCrashes.{NewCrashes}
-use Rattle.soc_book.specs.Batches.{AsksAll}
-use Rattle.soc_book.specs.Books.{AsksBook, SameSetting, StandsFor, disk_in, disk_of, reporter_of}
-use Rattle.soc_book.specs.inner.Batches.{AddsSubmission, AreMadeOf, AsksInTurn, FitsAll, HasPlace, IsEmpty, IsSameBatch, IsUnderWay, Joins, Leads, MayStore, StoresBook, receipt_of}
+use Rattle.soc_book.specs.inner.Batches.{IsSameBatch}
 use Rattle.soc_book.specs.declared.prepared.Work.{Work}
 use Rattle.soc_book.specs.declared.prepared.Work.TheVariants as W
-use Rattle.soc_book.specs.inner.Books.{IsSubmissionOf}
-use Rattle.soc_book.specs.inner.Prepared.{IsPrepared, command_of}
-use Rattle.soc_book.specs.inner.Pieces.{AreAppended, EndsAll}
-use Rattle.soc_book.specs.inner.Stands.{AreAccepted, AreNew, FitNew, FitJournal, Stands, ArePending, most_together}
-use Rattle.soc_book.specs.inner.Steps.{Becomes}
 use Rattle.soc_book.proofs.Accepting.{accepted_as, accepted_entry, accepted_is, accepted_legal, accepted_told}
 use Rattle.soc_book.proofs.Pushing.{ids}
 use Rattle.soc_book.proofs.Settings.{same_setting}
@@ -204,10 +168,7 @@ made_push : (raws : List RawCrash) (news : List NewCrash) (entries : List Entry)
     → AreMadeOf (raws ++ raw ∷ []) (news ++ made.new ∷ []) (entries ++ made.entry ∷ [])
 made_push [] [] [] raw made are is = (is, tt)
 made_push (first ∷ raws) (new ∷ news) (entry ∷ entries) raw made are is = (are.0, made_push raws news entries raw made are.1 is)
-made_push [] [] (entry ∷ entries) raw made are is = absurd are
-made_push [] (new ∷ news) entries raw made are is = absurd are
-made_push (first ∷ raws) [] entries raw made are is = absurd are
-made_push (first ∷ raws) (new ∷ news) [] raw made are is = absurd are
+made_push _ _ _ raw made are is = absurd are
 
 made_none : (raws : List RawCrash) (entries : List Entry) → AreMadeOf raws [] entries → raws ≡ []
 made_none [] entries are = refl
@@ -216,20 +177,13 @@ made_none (raw ∷ raws) entries are = absurd are
 made_count : (raws : List RawCrash) (news : List NewCrash) (entries : List Entry) → AreMadeOf raws news entries → length raws ≡ length news
 made_count [] [] [] are = refl
 made_count (raw ∷ raws) (new ∷ news) (entry ∷ entries) are = ap (λ n. suc n) (made_count raws news entries are.1)
-made_count [] [] (entry ∷ entries) are = absurd are
-made_count [] (new ∷ news) entries are = absurd are
-made_count (raw ∷ raws) [] entries are = absurd are
-made_count (raw ∷ raws) (new ∷ news) [] are = absurd are
+made_count _ _ _ are = absurd are
 
 -- what joined is a submission
 pub joined : (before after : NewCrashes) (work : Work) (command : Command) → command_of work ≡ command → IsPrepared work → Joins before work after
     → (raw : RawCrash) × (made : Submission) × (C.Submit raw ≡ command) × IsSubmissionOf made (crash_of raw) × AddsSubmission before made after
 joined before after (W.Submit raw (Ok made)) command same prepared adds = (raw.value, made, same, prepared, adds)
-joined before after (W.Submit raw (Err error)) command same prepared adds = absurd adds
-joined before after (W.Priority caller id entry) command same prepared adds = absurd adds
-joined before after (W.Reprocess caller id entry) command same prepared adds = absurd adds
-joined before after (W.Withdraw caller id entry) command same prepared adds = absurd adds
-joined before after (W.Plain plain) command same prepared adds = absurd adds
+joined before after _ command same prepared adds = absurd adds
 
 -- ---- commands under way
 
@@ -359,19 +313,13 @@ fresh_raw basis log raw new same fresh = ap (λ x. was_accepted (events basis lo
 all_accepted : (basis : Basis) (raws : List RawCrash) (news : List NewCrash) (entries : List Entry) → AreMadeOf raws news entries → AreAccepted basis news (changes_of basis raws)
 all_accepted basis [] [] [] are = tt
 all_accepted basis (raw ∷ raws) (new ∷ news) (entry ∷ entries) are = (accepted_is basis raw new are.0.tells, all_accepted basis raws news entries are.1)
-all_accepted basis [] [] (entry ∷ entries) are = absurd are
-all_accepted basis [] (new ∷ news) entries are = absurd are
-all_accepted basis (raw ∷ raws) [] entries are = absurd are
-all_accepted basis (raw ∷ raws) (new ∷ news) [] are = absurd are
+all_accepted basis _ _ _ are = absurd are
 
 all_entries : (basis : Basis) → IsTrue basis.is_told → (raws : List RawCrash) (news : List NewCrash) (entries : List Entry) → AreMadeOf raws news entries → entries ≡ entries_of (changes_of basis raws)
 all_entries basis is_told [] [] [] are = refl
 all_entries basis is_told (raw ∷ raws) (new ∷ news) (entry ∷ entries) are =
     ap (λ (e : Entry). e ∷ entries) (accepted_entry basis raw entry are.0.entry is_told) ∙ ap (λ (es : List Entry). entries_of (accepted_as basis raw ∷ []) ++ es) (all_entries basis is_told raws news entries are.1)
-all_entries basis is_told [] [] (entry ∷ entries) are = absurd are
-all_entries basis is_told [] (new ∷ news) entries are = absurd are
-all_entries basis is_told (raw ∷ raws) [] entries are = absurd are
-all_entries basis is_told (raw ∷ raws) (new ∷ news) [] are = absurd are
+all_entries basis is_told _ _ _ are = absurd are
 
 accept_all : (basis : Basis) (raws : List RawCrash) (news : List NewCrash) (entries : List Entry) (log : List Change) → AreMadeOf raws news entries → AreNew (accepted_ids (events basis log)) news → AcceptNew basis log raws (changes_of basis raws)
 accept_all basis [] [] [] log are fresh = tt
@@ -380,10 +328,7 @@ accept_all basis (raw ∷ raws) (new ∷ news) (entry ∷ entries) log are fresh
   fresh_raw basis log raw new are.0.tells.id fresh.0,
   accept_all basis raws news entries (log ++ keep (accepted_as basis raw) ∷ []) are.1 (next_new basis log raw new news are.0.tells.id fresh.1),
 )
-accept_all basis [] [] (entry ∷ entries) log are fresh = absurd are
-accept_all basis [] (new ∷ news) entries log are fresh = absurd are
-accept_all basis (raw ∷ raws) [] entries log are fresh = absurd are
-accept_all basis (raw ∷ raws) (new ∷ news) [] log are fresh = absurd are
+accept_all basis _ _ _ log are fresh = absurd are
 
 all_legal : (basis : Basis) (raws : List RawCrash) (news : List NewCrash) (entries : List Entry) (log : List Change) → AreMadeOf raws news entries → AreNew (accepted_ids (events basis log)) news → IsLegal basis log
     → IsLegal basis (log ++ map keep (changes_of basis raws))
@@ -393,20 +338,14 @@ all_legal basis (raw ∷ raws) (new ∷ news) (entry ∷ entries) log are fresh 
     subst (IsLegal basis) (append_assoc log (keep (accepted_as basis raw) ∷ []) (map keep (changes_of basis raws)))
     (all_legal basis raws news entries (log ++ keep (accepted_as basis raw) ∷ []) are.1 (next_new basis log raw new news are.0.tells.id fresh.1)
     (accepted_legal basis raw log legal (fresh_raw basis log raw new are.0.tells.id fresh.0) are.0.is))
-all_legal basis [] [] (entry ∷ entries) log are fresh legal = absurd are
-all_legal basis [] (new ∷ news) entries log are fresh legal = absurd are
-all_legal basis (raw ∷ raws) [] entries log are fresh legal = absurd are
-all_legal basis (raw ∷ raws) (new ∷ news) [] log are fresh legal = absurd are
+all_legal basis _ _ _ log are fresh legal = absurd are
 
 -- ---- their receipts
 
 all_stored : (front : ℕ) (stopped : Bool) (raws : List RawCrash) (news : List NewCrash) (entries : List Entry) → AreMadeOf raws news entries → AreStored raws (map (receipt_of front stopped (Ok tt)) (map (λ new. new.id) news))
 all_stored front stopped [] [] [] are = tt
 all_stored front stopped (raw ∷ raws) (new ∷ news) (entry ∷ entries) are = (ap (λ x. R.Stored x (is_due_at_once x)) are.0.tells.id, all_stored front stopped raws news entries are.1)
-all_stored front stopped [] [] (entry ∷ entries) are = absurd are
-all_stored front stopped [] (new ∷ news) entries are = absurd are
-all_stored front stopped (raw ∷ raws) [] entries are = absurd are
-all_stored front stopped (raw ∷ raws) (new ∷ news) [] are = absurd are
+all_stored front stopped _ _ _ are = absurd are
 
 all_fail : (front : ℕ) (stopped : Bool) (raws : List RawCrash) (news : List NewCrash) → length raws ≡ length news → AllFail raws (map (receipt_of front stopped (Err F.StoreFault)) (map (λ new. new.id) news))
 all_fail front stopped [] [] same = tt
@@ -447,33 +386,34 @@ module _ {basis : Basis} {limits : Limits} {ledger : LedgerState} {rows : List (
       let held : length (accepted_ids (events basis log)) ≡ length ledger.crashes =
       ap (λ (xs : List (List ℕ)). length xs) (sym (ids basis log ledger rows stands.legal.log stands.holds)) ∙ length-map ledger.crashes (λ (f : Filed). f.id) in
       let few = fits.few in
-      let limit = stands.crashes in
+      let limit = stands.bounds.crashes in
       omega (arith, held, few, limit, raw_count)
 
   fits_journal : (changes : List Kept) → IsTrue basis.is_told → batch.entries.items ≡ entries_of changes → journal.gate + length (sealed_all (entries_of changes)) ≤ basis.journal_bytes
   fits_journal changes is_told same =
       let room = fits.room in
-      let limit = stands.limit in
+      let limit = stands.bounds.limit in
       omega (arith, room, limit, ap (λ (es : List Entry). length (sealed_all es)) same)
 
   module _ {limits' : Limits} {ledger' : LedgerState} {rows' : List (ℕ × List Cell)} {pending' : Option Pending} {journal' : JournalState} {disk' : DiskTold} {after : State} (later : Stands basis limits' ledger' rows' pending' journal' disk' after)
       (own : List Receipt) where
-    ends_as : (written : Result (Unit {0}) Refusal) → EndsAll log (changes_of basis raws) written after disk disk' → own ≡ map (receipt_of (length ledger'.log) (has_stop ledger'.log) written) batch.ids.items
+    ends_as : (written : Result (Unit {0}) Refusal) → (IsErrOf written F.JournalFull → ⊥) → EndsAs basis log (changes_of basis raws) written after disk disk' → own ≡ map (receipt_of (length ledger'.log) (has_stop ledger'.log) written) batch.ids.items
         → ((after ≡ settled (log ++ map keep (changes_of basis raws))) × AreStored raws own) ⊎ ((after ≡ record { log = log; doubt = changes_of basis raws }) × AllFail raws own × DiskFailed disk disk')
-    ends_as (Ok done) ends told =
+    ends_as (Ok done) room ends told =
         let given = told ∙ ap (λ (xs : List (List ℕ)). map (receipt_of (length ledger'.log) (has_stop ledger'.log) (Ok tt)) xs) may.ids_are in
-        inl (ends, subst (λ (rs : List Receipt). AreStored raws rs) (sym given) (all_stored (length ledger'.log) (has_stop ledger'.log) raws batch.crashes.items batch.entries.items made))
-    ends_as (Err F.StoreFault) ends told =
+        inl (ends.0, subst (λ (rs : List Receipt). AreStored raws rs) (sym given) (all_stored (length ledger'.log) (has_stop ledger'.log) raws batch.crashes.items batch.entries.items made))
+    ends_as (Err F.StoreFault) room ends told =
         let given = told ∙ ap (λ (xs : List (List ℕ)). map (receipt_of (length ledger'.log) (has_stop ledger'.log) (Err F.StoreFault)) xs) may.ids_are in
         inr (ends.0, subst (λ (rs : List Receipt). AllFail raws rs) (sym given) (all_fail (length ledger'.log) (has_stop ledger'.log) raws batch.crashes.items raw_count), ends.1)
-    ends_as (Err _) ends told = absurd ends
+    ends_as (Err F.JournalFull) room ends told = absurd (room refl)
+    ends_as (Err _) room ends told = absurd ends
 
     front_is : length ledger'.log ≡ length after.log
     front_is = ap (λ (l : List Event). length l) later.holds.events_are ∙ length-map after.log (event_of basis)
 
-    pub together_stores : (written : Result (Unit {0}) Refusal) → AreAppended basis log disk (changes_of basis raws) written after disk' → own ≡ map (receipt_of (length ledger'.log) (has_stop ledger'.log) written) batch.ids.items
+    pub together_stores : (written : Result (Unit {0}) Refusal) → (IsErrOf written F.JournalFull → ⊥) → AreAppended basis log disk (changes_of basis raws) written after disk' → own ≡ map (receipt_of (length ledger'.log) (has_stop ledger'.log) written) batch.ids.items
         → length ledger'.log < 2 ^ 60 → StoresAll basis (settled log) disk raws own after disk'
-    together_stores written did told short = record {
+    together_stores written not_full did told short = record {
       log = log;
       settles = refl;
       changes = changes_of basis raws;
@@ -483,7 +423,7 @@ module _ {basis : Basis} {limits : Limits} {ledger : LedgerState} {rows : List (
           let gate = gate_behind disk journal (entries_of (kept_of log)) [] (stands.told is_told).means in
           let room = fits_journal (changes_of basis raws) is_told (together_entries is_told) in
           omega (arith, gate, room);
-      ends = ends_as written did.ends told;
+      ends = ends_as written not_full did.ends told;
       legal = later.legal;
       short = omega (arith, front_is, short);
       told_after = subst (λ (rs : List Receipt). AllByRecursion (λ (receipt : Receipt). (receipt.front ≡ length after.log) × (receipt.stopped ≡ has_stop (events basis after.log))) rs) (sym told)
@@ -504,22 +444,35 @@ pub settled_state : {basis : Basis} {limits : Limits} {ledger : LedgerState} {ro
 settled_state {basis = basis} {ledger = ledger} {pending = pending} {state = state} stands none =
     ap (λ (doubt : List Kept). record { log = state.log; doubt = doubt }) (doubt_none basis state.log ledger pending state.doubt none stands.doubt)
 
+-- new crashes that are accepted wait, where there are some
+accepted_some : (basis : Basis) (news : List NewCrash) → 0 < length news → AreAccepted basis news [] → ⊥
+accepted_some basis [] some are = omega (arith, some)
+accepted_some basis (new ∷ news) some are = are
+
+accepts_wait : (basis : Basis) (log : List Change) (ledger : LedgerState) (news : Vec NewCrash Global) (changes : List Kept) → 0 < length news.items → AreAccepted basis news.items changes → ArePending basis log ledger (Some (P.Accepts news)) changes
+accepts_wait basis log ledger news [] some are = accepted_some basis news.items some are
+accepts_wait basis log ledger news (first ∷ more) some are = are
+
 -- what is appended for new crashes, and told of them
 module _ {D R : Type 0} {d : disk.Ghosts D} {r : reporter.Ghosts R} (now later : Book D R d r) (batch : NewCrashes) (receipts receipts' : List Receipt) (written : Result (Unit {0}) Refusal) (may : MayStore now.ledger now.vault.journal now.limits batch)
     (some : 0 < length batch.ids.items) (told : receipts' ≡ receipts ++ map (receipt_of (length later.ledger.log) (has_stop later.ledger.log) written) batch.ids.items) (short : length later.ledger.log < 2 ^ 60)
-    (appends : (basis : Basis) (log : List Change) (first : Kept) (more : List Kept) → StandsFor basis now (settled log) → AreAccepted basis batch.crashes.items (first ∷ more) → IsLegal basis (log ++ map keep (first ∷ more))
-    → (IsTrue basis.is_told → batch.entries.items ≡ entries_of (first ∷ more)) → Becomes basis later (λ after. AreAppended basis log (disk_of now) (first ∷ more) written after (disk_of later))) where
+    (given : List Entry) (given_is : given ≡ batch.entries.items) (full : IsErrOf written F.JournalFull → now.vault.journal.limit < now.vault.journal.gate + length (sealed_all given)) (appends : WritesBook now (P.Accepts batch.crashes) given written later) where
+  not_full : IsErrOf written F.JournalFull → ⊥
+  not_full is =
+      let over = full is in
+      let room = (may.fits some).room in
+      omega (arith, over, room, ap (λ (es : List Entry). length (sealed_all es)) given_is)
+
+  some_crashes : 0 < length batch.crashes.items
+  some_crashes = omega (arith, some, ap (λ (xs : List (List ℕ)). length xs) may.ids_are ∙ length-map batch.crashes.items (λ new. new.id))
+
   stores_raws : (basis : Basis) (log : List Change) (raws : List RawCrash) → StandsFor basis now (settled log) → AreMadeOf raws batch.crashes.items batch.entries.items
       → Becomes basis later (λ after. (own : List Receipt) × (receipts' ≡ receipts ++ own) × StoresAll basis (settled log) (disk_of now) raws own after (disk_of later))
-  stores_raws basis log [] stands made =
-      let count = ap (λ (xs : List (List ℕ)). length xs) may.ids_are ∙ length-map batch.crashes.items (λ new. new.id) in
-      let none : 0 ≡ length batch.crashes.items = made_count [] batch.crashes.items batch.entries.items made in
-      absurd (omega (arith, some, count, none))
-  stores_raws basis log (raw ∷ raws) stands made =
-      let did = appends basis log (accepted_as basis raw) (changes_of basis raws) stands (together_accepted stands batch may some (raw ∷ raws) made) (together_legal stands batch may some (raw ∷ raws) made)
-      (together_entries stands batch may some (raw ∷ raws) made) in
+  stores_raws basis log raws stands made =
+      let did = appends basis log (changes_of basis raws) stands (accepts_wait basis log now.ledger batch.crashes (changes_of basis raws) some_crashes (together_accepted stands batch may some raws made)) (together_legal stands batch may some raws made)
+      (λ is_told. given_is ∙ together_entries stands batch may some raws made is_told) in
       let own = map (receipt_of (length later.ledger.log) (has_stop later.ledger.log) written) batch.ids.items in
-      (did.0, did.1, (own, told, together_stores stands batch may some (raw ∷ raws) made did.1 own written did.2 refl short))
+      (did.0, did.1, (own, told, together_stores stands batch may some raws made did.1 own written not_full did.2 refl short))
 
   pub stores_book : StoresBook now batch receipts later receipts'
   stores_book basis state raws stands made =

@@ -1,53 +1,13 @@
 -- What keeping reports does, from what keeping one does.
-use Rattle.std.proofs.Common.{◌≡◌, ◌≢◌, ℕ, ◌+◌, ◌<◌, ◌≤◌, Bool, true, false, not, ◌&&◌, ◌||◌, IsTrue, List, [], ◌∷◌, ◌++◌, length, map, filter, Option, Some, None, IfSome, IsSomeAnd, Result, Ok, Err, inl, inr, ◌⊎◌, refl, sym, ◌∙◌, ap, subst, arith, append_assoc, length-append}
-use Rattle.std.specs.Prelude.{bytes_eq, is_some, nat_le, nat_lt, slice_get, if◌then◌else◌}
-use Rattle.std.specs.Option.{option_and_then, option_map, option_map_or}
-use Rattle.std.proofs.lemmas.Bool.{lt-ltb, le-ltb}
-use Rattle.std.proofs.lemmas.Bool.Decides.{leb_tells}
-use Rattle.std.proofs.lemmas.Option.{IfSome_then, slice_get-map}
-use Rattle.std.proofs.lemmas.List.Elements.{filter_map-append}
-use Rattle.std.proofs.lemmas.List.{append-nil, length-map, map-append}
-use Rattle.soc_base.proofs.Folk.{or_second}
-use Rattle.soc_raw.specs.Record.{Crash, IsCrash}
-use Rattle.soc_raw.proofs.Ids.{id_len}
-use Rattle.soc_schema.specs.declared.value.Cell.{Cell}
-use Rattle.soc_schema.specs.declared.value.Value.TheVariants.{Text}
-use Rattle.soc_schema.specs.Reports.{TellsCrash, product_of}
-use Rattle.soc_schema.specs.RowText.{row_text}
-use Rattle.soc_edge.specs.Disk.{DiskTold, IsDisk, GoesOn, DiskFailed, LeavesOnly, Looks}
-use Rattle.soc_edge.proofs.Disks.{GoesOn-none, GoesOn-append, LeavesOnly-append, LeavesOnly-weaker}
-use Rattle.soc_journal.specs.Entries.{Entry, beside_body, max_body, place_behind}
-use Rattle.soc_journal.specs.States.{JournalState}
-use Rattle.soc_ledger.specs.declared.crash.Filed.{Filed}
-use Rattle.soc_ledger.specs.declared.event.Event.{Event}
+use Rattle.std.proofs.Common.{◌≡◌, ◌≢◌, ℕ, ◌+◌, ◌<◌, ◌≤◌, Bool, true, false, not, ◌&&◌, ◌||◌, IsTrue, List, [], ◌∷◌, ◌++◌, length, map, filter, Option, Some, None, IfSome, IsSomeAnd, Result, Ok, Err, inl, inr, ◌⊎◌, ⊎_elim, refl, sym, ◌∙◌, ap, subst, arith, append_assoc, length-append}
+use Rattle.soc_book.proofs.Words.{bytes_eq, is_some, nat_le, nat_lt, slice_get, if◌then◌else◌, option_and_then, option_map, option_map_or, lt-ltb, le-ltb, leb_tells, IfSome_then, slice_get-map, filter_map-append, append-nil, length-map, map-append, or_second, and_parts, none_long, Crash, id_len, Cell, TellsCrash, product_of, row_text, DiskTold, IsDisk, GoesOn, DiskFailed, LeavesOnly, Looks, GoesOn-none, GoesOn-append, LeavesOnly-append, LeavesOnly-weaker, Entry, beside_body, max_body, place_behind, JournalState, Filed, Event, is_due, accepted_ids, held_ids, is_held, has_report, is_kept, LedgerState, id_of, AreDistinct, itself, true_is_not_false, distinct_ids, row_at, Limits, Refusal, Reply, Basis, RowsTell, BehindDoubt, EndsReports, IsPartOf, KeepAllows, KeepGrows, KeepsFirst, Reports, StandsBetween, ids_to_keep, is_passed_over, is_to_keep, kept_with_doubt, report_of, to_append, to_keep_of, Accepted, Change, Kept, KeptReport, report, keep, accepted_of, event_of, events, is_own, raw_of, row_in, IsLegal, State, doubted, IsLegalState, Settles, settled, Survives, Allowed, body_of, entry_of, entries_of, kept_in, kept_of, accepted_apart, Pending, KeepsReports, IsRowFor, HasGathered, IsEntryOfRow, IsMost, KeepsAll, KeepsBatch, KeepsOn, KeptSoFar, LeavesSome, MakesEntry, MayMakeEntry, is_wanted, keep_reply, own_report, rest_ids, with_all, Stays, product_at, Holds, IsFiled, Stands, IsStoreFault}
 use Rattle.soc_ledger.specs.declared.event.Event.TheVariants as E
-use Rattle.soc_ledger.specs.Due.{is_due}
-use Rattle.soc_ledger.specs.Events.{accepted_ids, held_ids, is_held}
-use Rattle.soc_ledger.specs.Reported.{has_report, is_kept}
-use Rattle.soc_ledger.specs.State.{LedgerState, id_of}
-use Rattle.soc_ledger.proofs.Lists.{AreDistinct, itself, true_is_not_false}
-use Rattle.soc_ledger.proofs.Logs.{distinct_ids}
-use Rattle.soc_store.specs.Stored.{row_at}
-use Rattle.soc_desk.specs.declared.desk.Limits.{Limits}
-use Rattle.soc_desk.specs.declared.desk.Refusal.{Refusal}
 use Rattle.soc_desk.specs.declared.desk.Refusal.TheVariants as F
-use Rattle.soc_desk.specs.declared.desk.Reply.{Reply}
 use Rattle.soc_desk.specs.declared.desk.Reply.TheVariants as R
-use Rattle.soc_desk.specs.Basis.{Basis, RowsTell}
-use Rattle.soc_desk.specs.Grows.{BehindDoubt}
-use Rattle.soc_desk.specs.Keeps.{EndsReports, IsPartOf, KeepAllows, KeepGrows, KeepsFirst, Reports, StandsBetween, ids_to_keep, is_passed_over, is_to_keep, kept_with_doubt, report_of, to_append, to_keep_of}
-use Rattle.soc_desk.specs.Log.{Accepted, Change, Kept, KeptReport, report, keep, accepted_of, event_of, events, is_own, raw_of, row_in, IsLegal}
-use Rattle.soc_desk.specs.State.{State, doubted, IsLegalState, Settles, settled, Survives, Allowed, StandsFor, body_of, entry_of, entries_of, kept_in, kept_of}
-use Rattle.soc_desk.proofs.Logs.{accepted_apart}
-use Rattle.soc_book.specs.declared.book.Change.{Change as Pending}
-use Rattle.soc_book.specs.Keeping.{KeepsReports}
-use Rattle.soc_book.specs.inner.Books.{IsRowFor}
-use Rattle.soc_book.specs.inner.Keepings.{HasGathered, IsEntryOfRow, IsMost, KeepsAll, KeepsBatch, KeptSoFar, LeavesSome, MakesEntry, MayMakeEntry, is_wanted, keep_reply, own_report, rest_ids, with_all}
-use Rattle.soc_book.specs.inner.Pieces.{Stays, product_at}
-use Rattle.soc_book.specs.inner.Stands.{Holds, IsFiled, Stands}
+use Rattle.soc_desk.specs.State.{StandsFor}
 use Rattle.soc_book.proofs.Changes.{IsSoundCrash, allowed-plain, events-all, kept-all, legal-next, sound_crashes}
 use Rattle.soc_book.proofs.Deciding.{failed_later, mapped_some, without_doubt}
-use Rattle.soc_book.proofs.Filing.{all_got, filed_at, found_at, got, id_of-got}
+use Rattle.soc_book.proofs.Filing.{all_got, filed_at, found_at, got, id_of-got, crash_tells_row, row_tells_crash}
 use Rattle.soc_book.proofs.Kept.{held_id}
 use Rattle.soc_book.proofs.Pushing.{ids}
 use Rattle.soc_book.proofs.Rests.{rest_all, rest_none}
@@ -77,14 +37,6 @@ within_most behind limit most long is some fits =
 
 -- ---- one crash
 
-pub and_left : (a b : Bool) → (a && b) ≡ true → a ≡ true
-and_left true b is = refl
-and_left false b is = is
-
-and_right : (a b : Bool) → (a && b) ≡ true → b ≡ true
-and_right true b is = is
-and_right false b is = absurd (true_is_not_false (sym is))
-
 row_some : (row : Option (List Cell)) → is_some row ≡ true → (cells : List Cell) × (row ≡ Some cells)
 row_some None some = absurd (true_is_not_false (sym some))
 row_some (Some cells) some = (cells, refl)
@@ -106,25 +58,23 @@ module _ (basis : Basis) (ledger : LedgerState) (rows : List (ℕ × List Cell))
     pub wanted_here : is_wanted ev id ≡ true
     wanted_here = wanted_log true wanted
 
+    -- it is held, and has a report, which is to be kept
+    parts_here : (is_held ev id ≡ true) × (is_to_keep ev id ≡ true)
+    parts_here = and_parts (is_held ev id) (is_to_keep ev id) wanted_here
+
     held_here : is_held ev id ≡ true
-    held_here = and_left (is_held ev id) (is_to_keep ev id) wanted_here
+    held_here = parts_here.0
 
-    keep_here : is_to_keep ev id ≡ true
-    keep_here = and_right (is_held ev id) (is_to_keep ev id) wanted_here
-
-    reported_here : has_report ev id ≡ true
-    reported_here = and_left (has_report ev id) (not (is_due ev id) && not (is_kept ev id)) keep_here
+    keep_here : (has_report ev id ≡ true) × ((not (is_due ev id) && not (is_kept ev id)) ≡ true)
+    keep_here = and_parts (has_report ev id) (not (is_due ev id) && not (is_kept ev id)) parts_here.1
 
     pub idle_here : IsTrue (not (is_due ev id))
-    idle_here = and_left (not (is_due ev id)) (not (is_kept ev id)) (and_right (has_report ev id) (not (is_due ev id) && not (is_kept ev id)) keep_here)
-
-    pub held_ledger : IsTrue (is_held ledger.log id)
-    held_ledger = and_left (is_held ledger.log id) (is_to_keep ledger.log id) wanted
+    idle_here = (and_parts (not (is_due ev id)) (not (is_kept ev id)) keep_here.1).0
 
     pub some_row : (cells : List Cell) × (row_here ≡ Some cells)
     some_row =
         let has = holds.rows_are.each number within in
-        row_some row_here (has.has ∙ (ap (λ b. b && has_report ev id) held_here ∙ reported_here))
+        row_some row_here (has.has ∙ (ap (λ b. b && has_report ev id) held_here ∙ keep_here.0))
 
     row_told : IsTrue basis.is_told → row_in basis log id ≡ Some some_row.0
     row_told is_told =
@@ -161,26 +111,16 @@ module _ (basis : Basis) (ledger : LedgerState) (rows : List (ℕ × List Cell))
       product_here : IfSome crash_here.0.raw (λ x. product_at ledger number ≡ product_of x)
       product_here = IfSome_then crash_here.0.raw crash_here.2.told (λ x of. ap (λ (o : Option Filed). option_and_then (λ (f : Filed). f.product) o) (got ledger.crashes number within).1 ∙ of.product)
 
-      row_by : (raw : Option Crash) (other : List ℕ) → id ≡ other → IfSome raw (λ x. (x.id ≡ other) × IsCrash x) → IfSome raw (λ x. product_at ledger number ≡ product_of x) → (row : List Cell) → IsRowFor id (product_at ledger number) row → IfSome raw (λ x. TellsCrash x row)
-      row_by None other same sound product row of = tt
-      row_by (Some x) other same sound product row of =
-          record { id = of.id ∙ ap (λ y. Some (Text y)) (same ∙ sym sound.0); product = of.product ∙ ap (λ (o : Option (List ℕ)). option_map Text o) product }
-
-      told_by : (raw : Option Crash) (other : List ℕ) → id ≡ other → IfSome raw (λ x. (x.id ≡ other) × IsCrash x) → IfSome raw (λ x. product_at ledger number ≡ product_of x) → (row : List Cell) → IsSomeAnd raw (λ x. TellsCrash x row) → IsRowFor id (product_at ledger number) row
-      told_by None other same sound product row tells = absurd tells
-      told_by (Some x) other same sound product row tells =
-          record { id = tells.id ∙ ap (λ y. Some (Text y)) (sound.0 ∙ sym same); product = tells.product ∙ ap (λ (o : Option (List ℕ)). option_map Text o) (sym product) }
-
       -- a row that tells of the number's crash tells of its raw crash
       row_tells : (row : List Cell) → IsRowFor id (product_at ledger number) row → IfSome (raw_of log id) (λ x. TellsCrash x row)
       row_tells row of =
-          subst (λ (o : Option Crash). IfSome o (λ x. TellsCrash x row)) (sym raw_is) (row_by crash_here.0.raw crash_here.0.id filed_id sound_here.1 product_here row of)
+          subst (λ (o : Option Crash). IfSome o (λ x. TellsCrash x row)) (sym raw_is) (row_tells_crash (product_at ledger number) id crash_here.0.raw crash_here.0.id filed_id sound_here.1 product_here row of)
 
       -- where the disk tells, the row tells of the crash
       told_row : IsTrue basis.is_told → IsRowFor id (product_at ledger number) some_row.0
       told_row is_told =
           let tells = subst (λ (o : Option (List Cell)). IfSome o (λ row. IsSomeAnd (raw_of log id) (λ x. TellsCrash x row))) (row_told is_told) (rows_tell basis tell id log legal is_told) in
-          told_by crash_here.0.raw crash_here.0.id filed_id sound_here.1 product_here some_row.0 (subst (λ (o : Option Crash). IsSomeAnd o (λ x. TellsCrash x some_row.0)) raw_is tells)
+          crash_tells_row (product_at ledger number) id crash_here.0.raw crash_here.0.id filed_id sound_here.1 product_here some_row.0 (subst (λ (o : Option Crash). IsSomeAnd o (λ x. TellsCrash x some_row.0)) raw_is tells)
 
       -- ---- a row without an entry
 
@@ -242,13 +182,10 @@ between_behind before doubt after image is = record {
   stands = subst (λ (k : List Kept). StandsFor image k) (append_assoc before doubt is.more) is.stands;
 }
 
-kept_piece : (log piece : List Change) → kept_of (log ++ piece) ≡ kept_of log ++ kept_of piece
-kept_piece log piece = filter_map-append kept_in log piece
-
 -- an image of the log with its first reports
-between_log : (log now piece : List Change) → now ≡ log ++ piece → (image : List ℕ) → StandsFor image (kept_of now) → StandsBetween (kept_of log) (kept_of now) image
-between_log log now piece behind image stands =
-    let whole : kept_of now ≡ kept_of log ++ kept_of piece = ap kept_of behind ∙ kept_piece log piece in
+between_log : (log piece : List Change) (image : List ℕ) → StandsFor image (kept_of (log ++ piece)) → StandsBetween (kept_of log) (kept_of (log ++ piece)) image
+between_log log piece image stands =
+    let whole : kept_of (log ++ piece) ≡ kept_of log ++ kept_of piece = filter_map-append kept_in log piece in
     subst (λ (k : List Kept). StandsBetween (kept_of log) k image) (sym whole) (between_all (kept_of log) (kept_of piece) image (subst (λ (k : List Kept). StandsFor image k) whole stands))
 
 -- ---- what was kept so far
@@ -257,21 +194,50 @@ pub part_skips : (first : List ℕ) (more rest : List (List ℕ)) → IsPartOf m
 part_skips first [] rest part = tt
 part_skips first (own ∷ owns) rest part = inr part
 
-settled_at : (log now piece : List Change) → now ≡ log ++ piece → (image : List ℕ) → Allowed (settled now) image → StandsBetween (kept_of log) (kept_of now) image
-settled_at log now piece behind image allowed = between_log log now piece behind image (allowed-plain now image allowed)
+settled_at : (log piece : List Change) (image : List ℕ) → Allowed (settled (log ++ piece)) image → StandsBetween (kept_of log) (kept_of (log ++ piece)) image
+settled_at log piece image allowed = between_log log piece image (allowed-plain (log ++ piece) image allowed)
 
-pub none_yet : (basis : Basis) (log : List Change) (disk : DiskTold) → IsDisk disk → (IsTrue basis.is_told → (image : List ℕ) → disk.images image → Allowed (settled log) image) → KeptSoFar basis log 0 0 log disk disk
+pub with_both : (log : List Change) (first second : List Kept) → with_all log (first ++ second) ≡ with_all (with_all log first) second
+with_both log first second = ap (λ (l : List Change). log ++ l) (map-append keep first second) ∙ sym (append_assoc log (map keep first) (map keep second))
+
+pub keeps_none : (basis : Basis) (log : List Change) (number : ℕ) → KeepsOn basis log number number []
+keeps_none basis log number =
+    let same : with_all log [] ≡ log = append-nil log in
+    record {
+      ids = [];
+      events_are = refl;
+      count = refl;
+      among = λ more part. subst (λ (l : List Change). IsPartOf more (rest_ids (events basis l) number)) same part;
+      keeps = λ is_told. ap (λ (l : List Change). to_append basis l (rest_ids (events basis l) number)) (sym same);
+    }
+
+pub keeps_append : {basis : Basis} {log : List Change} {from mid to : ℕ} {first second : List Kept} → KeepsOn basis log from mid first → KeepsOn basis (with_all log first) mid to second → KeepsOn basis log from to (first ++ second)
+keeps_append {basis = basis} {log = log} {from = from} {to = to} {first = first} {second = second} a b =
+    let left : List Change → List Kept = λ l. to_append basis l (rest_ids (events basis l) to) in
+    record {
+      ids = a.ids ++ b.ids;
+      events_are = ap (events basis) (map-append keep first second)
+          ∙ (map-append (event_of basis) (map keep first) (map keep second)
+          ∙ (ap (λ (es : List Event). es ++ events basis (map keep second)) a.events_are
+          ∙ (ap (λ (es : List Event). map (λ x. E.Reported x true) a.ids ++ es) b.events_are ∙ sym (map-append (λ x. E.Reported x true) a.ids b.ids))));
+      count = let one = a.count in let two = b.count in omega (arith, one, two, length-append first second, length-append a.ids b.ids);
+      among = λ more part.
+          subst (λ ids. IsPartOf ids (rest_ids (events basis log) from)) (sym (append_assoc a.ids b.ids more))
+          (a.among (b.ids ++ more) (b.among more (subst (λ (l : List Change). IsPartOf more (rest_ids (events basis l) to)) (with_both log first second) part)));
+      keeps = λ is_told.
+          a.keeps is_told
+          ∙ (ap (λ (k : List Kept). first ++ k) (b.keeps is_told ∙ ap (λ (l : List Change). second ++ left l) (sym (with_both log first second)))
+          ∙ sym (append_assoc first second (left (with_all log (first ++ second)))));
+    }
+
+pub none_yet : (basis : Basis) (log : List Change) (disk : DiskTold) → IsDisk disk → (IsTrue basis.is_told → (image : List ℕ) → disk.images image → Allowed (settled log) image) → KeptSoFar basis log 0 0 [] disk disk
 none_yet basis log disk sound allowed = record {
-  own = [];
-  reports = [];
-  behind = sym (append-nil log);
-  events_are = refl;
-  among = λ more part. part;
+  kept = keeps_none basis log 0;
   count_is = refl;
-  reports_count = refl;
   goes_on = GoesOn-none disk sound;
-  keeps = λ is_told. refl;
-  survives = λ is_told. record { each = λ image left. settled_at log log [] (sym (append-nil log)) image (allowed is_told image (sound.only_now image left)) };
+  survives = λ is_told. record {
+    each = λ image left. settled_at log [] image (subst (λ (l : List Change). Allowed (settled l) image) (sym (append-nil log)) (allowed is_told image (sound.only_now image left)));
+  };
 }
 
 -- ---- the end
@@ -280,96 +246,72 @@ front_none : {A : Type 0} (xs ys : List A) → xs ++ ys ≡ [] → xs ≡ []
 front_none [] ys none = refl
 front_none (x ∷ xs) ys none = cc
 
-module _ (basis : Basis) (digest : List ℕ) (digest_is : basis.digest ≡ Some digest) (log : List Change) (number count : ℕ) (now : List Change) (first disk : DiskTold) (so : KeptSoFar basis log number count now first disk) where
+module _ {basis : Basis} {digest : List ℕ} (digest_is : basis.digest ≡ Some digest) {log : List Change} {number count : ℕ} {kept : List Kept} {first disk : DiskTold} (so : KeptSoFar basis log number count kept first disk) where
+  abbrev now : List Change
+  now = with_all log kept
+
+  abbrev left : List Kept
+  left = to_append basis now (rest_ids (events basis now) number)
+
   all_ids : to_keep_of basis (events basis log) ≡ rest_ids (events basis log) 0
   all_ids = ap (λ (o : Option (List ℕ)). if is_some o then filter (is_to_keep (events basis log)) (held_ids (events basis log)) else []) digest_is ∙ sym (rest_all (events basis log))
 
-  reports_end : (reply : Reply) (after : List Event) → EndsReports basis reply (events basis log) so.own after → Reports basis reply after (events basis log) (events basis (map keep so.reports))
-  reports_end reply after ends = record {
-    ids = so.own;
-    among = subst (λ ids. IsPartOf so.own ids) (sym all_ids) (subst (λ own. IsPartOf own (rest_ids (events basis log) 0)) (append-nil so.own) (so.among [] tt));
-    own_is = so.events_are;
-    ends = ends;
-  }
+  among_all : (ids : List (List ℕ)) → IsPartOf (ids ++ []) (rest_ids (events basis log) 0) → IsPartOf ids (to_keep_of basis (events basis log))
+  among_all ids part = subst (λ all. IsPartOf ids all) (sym all_ids) (subst (λ own. IsPartOf own (rest_ids (events basis log) 0)) (append-nil ids) part)
 
-  abbrev all : List Kept
-  all = to_append basis log (ids_to_keep basis log)
+  all_are : IsTrue basis.is_told → to_append basis log (ids_to_keep basis log) ≡ kept ++ left
+  all_are is_told = ap (λ ids. to_append basis log ids) all_ids ∙ so.kept.keeps is_told
 
-  all_are : IsTrue basis.is_told → all ≡ so.reports ++ to_append basis now (rest_ids (events basis now) number)
-  all_are is_told = ap (λ ids. to_append basis log ids) all_ids ∙ so.keeps is_told
-
-  pub all_kept : length (accepted_ids (events basis now)) ≤ number → KeepsAll basis log first (Ok count) (settled now) disk
-  all_kept ends = record {
-    piece = map keep so.reports;
-    behind = so.behind;
-    reports = reports_end (R.Kept count) [] (so.count_is, refl);
+  -- nothing is in doubt at the end
+  ends : (answer : Result ℕ Refusal) → EndsReports basis (keep_reply answer) (events basis log) so.kept.ids [] → (IsStoreFault (keep_reply answer) → ⊥)
+      → (IsTrue basis.is_told → KeepsFirst log (to_append basis log (ids_to_keep basis log)) (keep_reply answer) (settled now)) → KeepsAll basis log first answer (settled now) disk
+  ends answer told none keeps = record {
+    piece = map keep kept;
+    behind = refl;
+    reports = record { ids = so.kept.ids; among = among_all so.kept.ids (so.kept.among [] tt); own_is = so.kept.events_are; ends = told };
     goes_on = so.goes_on;
-    fault = λ none. absurd none;
-    keeps = λ is_told.
-        let same : all ≡ so.reports = all_are is_told ∙ (ap (λ ids. so.reports ++ to_append basis now ids) (rest_none (events basis now) number ends) ∙ append-nil so.reports) in (
-          so.count_is ∙ (sym so.reports_count ∙ ap (λ (k : List Kept). length k) (sym same)),
-          ap settled (so.behind ∙ ap (λ (k : List Kept). log ++ map keep k) (sym same)),
-        );
+    fault = λ is. absurd (none is);
+    keeps = keeps;
     survives = λ is_told. subst (λ (k : List Kept). LeavesOnly first disk (StandsBetween (kept_of log) k)) (sym (append-nil (kept_of now))) (so.survives is_told);
   }
+
+  pub all_kept : length (accepted_ids (events basis now)) ≤ number → KeepsAll basis log first (Ok count) (settled now) disk
+  all_kept done = ends (Ok count) (so.count_is ∙ so.kept.count, refl) (λ never. never) (λ is_told.
+      let same = all_are is_told ∙ (ap (λ ids. kept ++ to_append basis now ids) (rest_none (events basis now) number done) ∙ append-nil kept) in
+      (so.count_is ∙ ap (λ (k : List Kept). length k) (sym same), ap (λ (k : List Kept). settled (log ++ map keep k)) (sym same)))
 
   -- memory for one more ran out
   pub memory_wanted : LeavesSome basis now number → KeepsAll basis log first (Err F.NoMemory) (settled now) disk
-  memory_wanted left = record {
-    piece = map keep so.reports;
-    behind = so.behind;
-    reports = reports_end (R.Refused F.NoMemory) [] refl;
-    goes_on = so.goes_on;
-    fault = λ none. absurd none;
-    keeps = λ is_told. (so.reports, to_append basis now (rest_ids (events basis now) number), all_are is_told, left is_told, ap settled so.behind);
-    survives = λ is_told. subst (λ (k : List Kept). LeavesOnly first disk (StandsBetween (kept_of log) k)) (sym (append-nil (kept_of now))) (so.survives is_told);
-  }
+  memory_wanted some = ends (Err F.NoMemory) refl (λ never. never) (λ is_told. (kept, left, all_are is_told, some is_told, refl))
 
-  -- the same over a later moment of the disk, where nothing was written
-  quiet_at : (image : List ℕ) → Allowed (settled now) image ⊎ Allowed (settled now) image → StandsBetween (kept_of log) (kept_of now) image
-  quiet_at image (inl allowed) = settled_at log now (map keep so.reports) so.behind image allowed
-  quiet_at image (inr allowed) = settled_at log now (map keep so.reports) so.behind image allowed
-
-  so_later : (disk' : DiskTold) → GoesOn disk disk' → (IsTrue basis.is_told → Survives disk disk' (settled now) (settled now)) → KeptSoFar basis log number count now first disk'
+  -- where the disk went on, and nothing more is kept
+  so_later : (disk' : DiskTold) → GoesOn disk disk' → (IsTrue basis.is_told → Survives disk disk' (settled now) (settled now)) → KeptSoFar basis log number count kept first disk'
   so_later disk' goes_on survives = record {
-    own = so.own;
-    reports = so.reports;
-    behind = so.behind;
-    events_are = so.events_are;
-    among = so.among;
+    kept = so.kept;
     count_is = so.count_is;
-    reports_count = so.reports_count;
     goes_on = GoesOn-append first disk disk' so.goes_on goes_on;
-    keeps = so.keeps;
     survives = λ is_told.
-        LeavesOnly-append first disk disk' (StandsBetween (kept_of log) (kept_of now)) so.goes_on goes_on (so.survives is_told)
-        (LeavesOnly-weaker disk disk' (λ image. Allowed (settled now) image ⊎ Allowed (settled now) image) (StandsBetween (kept_of log) (kept_of now)) quiet_at (survives is_told));
+        let P : List ℕ → Type 0 = StandsBetween (kept_of log) (kept_of now) in
+        LeavesOnly-append first disk disk' P so.goes_on goes_on (so.survives is_told)
+        (LeavesOnly-weaker disk disk' (λ image. Allowed (settled now) image ⊎ Allowed (settled now) image) P (λ image allowed. ⊎_elim (settled_at log (map keep kept) image) (settled_at log (map keep kept) image) allowed) (survives is_told));
   }
 
   -- ---- some more reports, written together
 
-  module _ (ledger : LedgerState) (next : ℕ) (numbers : List ℕ) (entries : List Entry) (reports : List Kept) (gathered : HasGathered basis now ledger number next numbers entries reports) where
+  module _ {ledger : LedgerState} {next : ℕ} {numbers : List ℕ} {entries : List Entry} {reports : List Kept} (gathered : HasGathered basis now ledger number next numbers entries reports) where
     abbrev now' : List Change
     now' = with_all now reports
 
-    abbrev more_reports : List Kept
-    more_reports = so.reports ++ reports
-
-    behind' : now' ≡ with_all log more_reports
-    behind' =
-        ap (λ (l : List Change). l ++ map keep reports) so.behind
-        ∙ (append_assoc log (map keep so.reports) (map keep reports) ∙ ap (λ (l : List Change). log ++ l) (sym (map-append keep so.reports reports)))
-
-    wider : (image : List ℕ) → StandsBetween (kept_of log) (kept_of now) image → StandsBetween (kept_of log) (kept_of now ++ reports) image
-    wider image is = between_more (kept_of log) (kept_of now) reports image is
+    both : KeepsOn basis log 0 next (kept ++ reports)
+    both = keeps_append so.kept gathered.kept
 
     settled_before : (image : List ℕ) → Allowed (settled now) image → StandsBetween (kept_of log) (kept_of now ++ reports) image
-    settled_before image allowed = wider image (settled_at log now (map keep so.reports) so.behind image allowed)
+    settled_before image allowed = between_more (kept_of log) (kept_of now) reports image (settled_at log (map keep kept) image allowed)
 
     with_them : (image : List ℕ) → StandsFor image (kept_of now ++ reports) → StandsBetween (kept_of log) (kept_of now ++ reports) image
     with_them image stands =
-        subst (λ (k : List Kept). StandsBetween (kept_of log) k image) (kept-all now reports)
-        (between_log log now' (map keep more_reports) behind' image (subst (λ (k : List Kept). StandsFor image k) (sym (kept-all now reports)) stands))
+        let same = ap kept_of (with_both log kept reports) ∙ kept-all now reports in
+        subst (λ (k : List Kept). StandsBetween (kept_of log) k image) same (between_log log (map keep (kept ++ reports)) image (subst (λ (k : List Kept). StandsFor image k) (sym same) stands))
 
     abbrev doubtful : State
     doubtful = record { log = now; doubt = reports }
@@ -387,94 +329,62 @@ module _ (basis : Basis) (digest : List ℕ) (digest_is : basis.digest ≡ Some 
         → IsTrue basis.is_told → LeavesOnly first disk' (StandsBetween (kept_of log) (kept_of now ++ reports))
     both_between disk' after at_each goes_on survives is_told =
         let P : List ℕ → Type 0 = StandsBetween (kept_of log) (kept_of now ++ reports) in
-        LeavesOnly-append first disk disk' P so.goes_on goes_on (LeavesOnly-weaker first disk (StandsBetween (kept_of log) (kept_of now)) P wider (so.survives is_told))
+        LeavesOnly-append first disk disk' P so.goes_on goes_on (LeavesOnly-weaker first disk (StandsBetween (kept_of log) (kept_of now)) P (between_more (kept_of log) (kept_of now) reports) (so.survives is_told))
         (LeavesOnly-weaker disk disk' (λ image. Allowed (settled now) image ⊎ Allowed after image) P at_each survives)
 
-    more_events : events basis (map keep more_reports) ≡ map (λ x. E.Reported x true) (so.own ++ gathered.ids)
-    more_events =
-        ap (events basis) (map-append keep so.reports reports)
-        ∙ (map-append (event_of basis) (map keep so.reports) (map keep reports)
-        ∙ (ap (λ (es : List Event). es ++ events basis (map keep reports)) so.events_are
-        ∙ (ap (λ (es : List Event). map (λ x. E.Reported x true) so.own ++ es) gathered.events_are ∙ sym (map-append (λ x. E.Reported x true) so.own gathered.ids))))
-
-    more_among : (more : List (List ℕ)) → IsPartOf more (rest_ids (events basis now') next) → IsPartOf ((so.own ++ gathered.ids) ++ more) (rest_ids (events basis log) 0)
-    more_among more part =
-        subst (λ ids. IsPartOf ids (rest_ids (events basis log) 0)) (sym (append_assoc so.own gathered.ids more)) (so.among (gathered.ids ++ more) (gathered.among more part))
-
-    more_keeps : IsTrue basis.is_told → to_append basis log (rest_ids (events basis log) 0) ≡ more_reports ++ to_append basis now' (rest_ids (events basis now') next)
-    more_keeps is_told =
-        so.keeps is_told
-        ∙ (ap (λ (k : List Kept). so.reports ++ k) (gathered.keeps is_told) ∙ sym (append_assoc so.reports reports (to_append basis now' (rest_ids (events basis now') next))))
-
     -- they are written
-    pub batch_kept : (disk' : DiskTold) → GoesOn disk disk' → (IsTrue basis.is_told → Survives disk disk' (settled now) (settled now')) → KeptSoFar basis log next (count + length numbers) now' first disk'
+    pub batch_kept : (disk' : DiskTold) → GoesOn disk disk' → (IsTrue basis.is_told → Survives disk disk' (settled now) (settled now')) → KeptSoFar basis log next (count + length numbers) (kept ++ reports) first disk'
     batch_kept disk' goes_on survives = record {
-      own = so.own ++ gathered.ids;
-      reports = more_reports;
-      behind = behind';
-      events_are = more_events;
-      among = more_among;
-      count_is = let counted = so.count_is in let ids = gathered.ids_count in omega (arith, counted, ids, length-append so.own gathered.ids);
-      reports_count = let counted = so.reports_count in let ids = gathered.ids_count in let all = gathered.reports_count in omega (arith, counted, ids, all, length-append so.own gathered.ids, length-append so.reports reports);
+      kept = both;
+      count_is = let counted = so.count_is in let few = gathered.count in omega (arith, counted, few, length-append kept reports);
       goes_on = GoesOn-append first disk disk' so.goes_on goes_on;
-      keeps = more_keeps;
-      survives = λ is_told. subst (λ (k : List Kept). LeavesOnly first disk' (StandsBetween (kept_of log) k)) (sym (kept-all now reports)) (both_between disk' (settled now') appended_at goes_on (survives is_told) is_told);
+      survives = λ is_told. subst (λ (k : List Kept). LeavesOnly first disk' (StandsBetween (kept_of log) k)) (sym (ap kept_of (with_both log kept reports) ∙ kept-all now reports))
+          (both_between disk' (settled now') appended_at goes_on (survives is_told) is_told);
     }
 
-    ids_some : reports ≢ [] → gathered.ids ≢ []
-    ids_some some none =
-        let ids = gathered.ids_count in
-        let all = gathered.reports_count in
-        some (none_of reports (omega (arith, ids, all, ap (λ (x : List (List ℕ)). length x) none))) where
-          none_of : (xs : List Kept) → length xs ≡ 0 → xs ≡ []
-          none_of [] none = refl
-          none_of (x ∷ xs) none = absurd (omega (arith, none))
+    ids_some : reports ≢ [] → gathered.kept.ids ≢ []
+    ids_some some none = let count = gathered.kept.count in some (none_long reports (omega (arith, count, ap (λ (x : List (List ℕ)). length x) none)))
 
-    ids_among : IsPartOf (so.own ++ gathered.ids) (to_keep_of basis (events basis log))
-    ids_among = subst (λ ids. IsPartOf (so.own ++ gathered.ids) ids) (sym all_ids) (subst (λ own. IsPartOf own (rest_ids (events basis log) 0)) (append-nil (so.own ++ gathered.ids)) (more_among [] tt))
+    part_of : IsPartOf ((so.kept.ids ++ gathered.kept.ids) ++ []) (rest_ids (events basis log) 0)
+    part_of = subst (λ ids. IsPartOf ids (rest_ids (events basis log) 0)) (sym (append_assoc so.kept.ids gathered.kept.ids [])) (so.kept.among (gathered.kept.ids ++ []) (gathered.kept.among [] tt))
 
     -- the write failed
     pub batch_failed : reports ≢ [] → (disk' : DiskTold) → DiskFailed disk disk' → GoesOn disk disk' → (IsTrue basis.is_told → Survives disk disk' (settled now) doubtful) → KeepsAll basis log first (Err F.StoreFault) doubtful disk'
     batch_failed some disk' failed goes_on survives = record {
-      piece = map keep so.reports;
-      behind = so.behind;
-      reports = reports_end (R.Refused F.StoreFault) (doubted basis doubtful) (gathered.ids, ids_some some, ids_among, sym (events-all basis reports) ∙ gathered.events_are);
+      piece = map keep kept;
+      behind = refl;
+      reports = record {
+        ids = so.kept.ids;
+        among = among_all so.kept.ids (so.kept.among [] tt);
+        own_is = so.kept.events_are;
+        ends = (gathered.kept.ids, ids_some some, among_all (so.kept.ids ++ gathered.kept.ids) part_of, sym (events-all basis reports) ∙ gathered.kept.events_are);
+      };
       goes_on = GoesOn-append first disk disk' so.goes_on goes_on;
       fault = λ is. failed_later first disk disk' so.goes_on failed;
-      keeps = λ is_told. (
-        so.reports,
-        reports,
-        to_append basis now' (rest_ids (events basis now') next),
-        all_are is_told ∙ ap (λ (k : List Kept). so.reports ++ k) (gathered.keeps is_told),
-        some,
-        ap (λ (l : List Change). record { log = l; doubt = reports }) so.behind,
-      );
+      keeps = λ is_told. (kept, reports, to_append basis now' (rest_ids (events basis now') next), all_are is_told ∙ ap (λ (k : List Kept). kept ++ k) (gathered.kept.keeps is_told), some, refl);
       survives = λ is_told. both_between disk' doubtful doubtful_at goes_on (survives is_told) is_told;
     }
 
     some_left : reports ≢ [] → LeavesSome basis now number
-    some_left some is_told none = some (front_none reports (to_append basis now' (rest_ids (events basis now') next)) (sym (gathered.keeps is_told) ∙ none))
+    some_left some is_told none = some (front_none reports (to_append basis now' (rest_ids (events basis now') next)) (sym (gathered.kept.keeps is_told) ∙ none))
 
     -- what a batch leaves
-    pub next_kept : (kept : ℕ) → kept ≡ length numbers → (disk' : DiskTold) (after : State) (Now : State → Type 0) → Now after → KeepsBatch basis now disk reports (Ok kept) after disk'
-        → (later : List Change) × Now (settled later) × KeptSoFar basis log next (count + kept) later first disk'
-    next_kept kept counted disk' after Now stands did =
+    pub next_kept : (kept' : ℕ) → kept' ≡ length numbers → (disk' : DiskTold) (after : State) (Now : State → Type 0) → Now after → KeepsBatch basis now disk reports (Ok kept') after disk'
+        → Now (settled (with_all log (kept ++ reports))) × KeptSoFar basis log next (count + kept') (kept ++ reports) first disk'
+    next_kept kept' counted disk' after Now stands did =
         let survives = subst (λ (s : State). IsTrue basis.is_told → Survives disk disk' (settled now) s) did.ends did.survives in
-        (now', subst Now did.ends stands, subst (λ n. KeptSoFar basis log next (count + n) now' first disk') (sym counted) (batch_kept disk' did.goes_on survives))
+        (subst Now (did.ends ∙ ap (λ (l : List Change). settled l) (sym (with_both log kept reports))) stands, subst (λ n. KeptSoFar basis log next (count + n) (kept ++ reports) first disk') (sym counted) (batch_kept disk' did.goes_on survives))
 
 -- and where it was refused
-module _ (basis : Basis) (digest : List ℕ) (digest_is : basis.digest ≡ Some digest) (log : List Change) (number count : ℕ) (now : List Change) (first disk : DiskTold) (so : KeptSoFar basis log number count now first disk)
-    (ledger : LedgerState) (next : ℕ) (numbers : List ℕ) (entries : List Entry) (reports : List Kept) (gathered : HasGathered basis now ledger number next numbers entries reports) where
-  pub batch_refused : (refusal : Refusal) (disk' : DiskTold) (after : State) → KeepsBatch basis now disk reports (Err refusal) after disk' → KeepsAll basis log first (Err refusal) after disk'
+module _ {basis : Basis} {digest : List ℕ} (digest_is : basis.digest ≡ Some digest) {log : List Change} {number count : ℕ} {kept : List Kept} {first disk : DiskTold} (so : KeptSoFar basis log number count kept first disk)
+    {ledger : LedgerState} {next : ℕ} {numbers : List ℕ} {entries : List Entry} {reports : List Kept} (gathered : HasGathered basis (with_all log kept) ledger number next numbers entries reports) where
+  pub batch_refused : (refusal : Refusal) (disk' : DiskTold) (after : State) → KeepsBatch basis (with_all log kept) disk reports (Err refusal) after disk' → KeepsAll basis log first (Err refusal) after disk'
   batch_refused F.StoreFault disk' after did =
-      let survives = subst (λ (s : State). IsTrue basis.is_told → Survives disk disk' (settled now) s) did.ends.1 did.survives in
       subst (λ (s : State). KeepsAll basis log first (Err F.StoreFault) s disk') (sym did.ends.1)
-      (batch_failed basis digest digest_is log number count now first disk so ledger next numbers entries reports gathered did.ends.0 disk' did.ends.2 did.goes_on survives)
+      (batch_failed digest_is so gathered did.ends.0 disk' did.ends.2 did.goes_on (subst (λ (s : State). IsTrue basis.is_told → Survives disk disk' (settled (with_all log kept)) s) did.ends.1 did.survives))
   batch_refused F.NoMemory disk' after did =
-      let survives = subst (λ (s : State). IsTrue basis.is_told → Survives disk disk' (settled now) s) did.ends.1 did.survives in
-      subst (λ (s : State). KeepsAll basis log first (Err F.NoMemory) s disk') (sym did.ends.1)
-      (memory_wanted basis digest digest_is log number count now first disk' (so_later basis digest digest_is log number count now first disk so disk' did.goes_on survives)
-      (some_left basis digest digest_is log number count now first disk so ledger next numbers entries reports gathered did.ends.0))
+      let later = so_later digest_is so disk' did.goes_on (subst (λ (s : State). IsTrue basis.is_told → Survives disk disk' (settled (with_all log kept)) s) did.ends.1 did.survives) in
+      subst (λ (s : State). KeepsAll basis log first (Err F.NoMemory) s disk') (sym did.ends.1) (memory_wanted digest_is later (some_left digest_is so gathered did.ends.0))
   batch_refused _ disk' after did = absurd did.ends
 
 -- ---- the ids of a book's numbers
@@ -495,7 +405,7 @@ module _ (basis : Basis) (ledger : LedgerState) (rows : List (ℕ × List Cell))
   pub distinct_here : AreDistinct (accepted_ids (events basis log))
   distinct_here = distinct_ids (events basis log) legal.events_legal
 
-pub begins_keeping : {basis : Basis} {limits : Limits} {ledger : LedgerState} {rows : List (ℕ × List Cell)} {pending : Option Pending} {journal : JournalState} {disk : DiskTold} {log : List Change} → Stands basis limits ledger rows pending journal disk (settled log) → IsDisk disk → KeptSoFar basis log 0 0 log disk disk
+pub begins_keeping : {basis : Basis} {limits : Limits} {ledger : LedgerState} {rows : List (ℕ × List Cell)} {pending : Option Pending} {journal : JournalState} {disk : DiskTold} {log : List Change} → Stands basis limits ledger rows pending journal disk (settled log) → IsDisk disk → KeptSoFar basis log 0 0 [] disk disk
 begins_keeping {basis = basis} {disk = disk} {log = log} stands sound = none_yet basis log disk sound (allowed_in stands)
 
 -- ---- with a doubt before
@@ -568,10 +478,8 @@ nothing_kept basis log disk none sound allowed = record {
   keeps = λ is_told.
       let no_ids : ids_to_keep basis log ≡ [] = ap (λ (o : Option (List ℕ)). if is_some o then filter (is_to_keep (events basis log)) (held_ids (events basis log)) else []) none in
       subst (λ ids. KeepsFirst log (to_append basis log ids) (R.Kept 0) (settled log)) (sym no_ids) (refl, ap settled (sym (append-nil log)));
-  survives = λ is_told. record {
-    each = λ image left.
-        subst (λ (k : List Kept). StandsBetween (kept_of log) k image) (sym (append-nil (kept_of log))) (settled_at log log [] (sym (append-nil log)) image (allowed is_told image (sound.only_now image left)));
-  };
+  survives = λ is_told.
+      subst (λ (k : List Kept). LeavesOnly disk disk (StandsBetween (kept_of log) k)) (ap kept_of (append-nil log) ∙ sym (append-nil (kept_of log))) ((none_yet basis log disk sound allowed).survives is_told);
 }
 
 -- the doubt stays

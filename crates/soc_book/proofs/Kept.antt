@@ -1,25 +1,7 @@
 -- Logs of kept changes: one more, the last one, and what is known of them where the disk tells nothing.
-use Rattle.std.proofs.Common.{◌≡◌, ℕ, ◌+◌, ◌≤◌, Bool, true, false, not, ◌&&◌, ◌||◌, IsTrue, List, [], ◌∷◌, ◌++◌, length, map, reverse, Option, Some, None, IfSome, IsSome, sym, ap, subst, ◌∙◌, refl, arith, length-append}
-use Rattle.std.specs.Prelude.{bytes_eq, if◌then◌else◌}
-use Rattle.std.specs.List.{AllByRecursion, list_any, find}
-use Rattle.std.specs.Option.{option_and_then}
-use Rattle.std.proofs.lemmas.List.{map-append}
-use Rattle.soc_raw.specs.CrashId.{IsId}
-use Rattle.soc_raw.specs.Record.{Crash}
-use Rattle.soc_schema.specs.Reports.{TellsCrash}
-use Rattle.soc_journal.specs.Entries.{Entry}
-use Rattle.soc_ledger.specs.declared.event.Event.{Event}
-use Rattle.soc_ledger.specs.declared.event.Event.TheVariants as E
-use Rattle.soc_ledger.specs.Events.{is_among, is_held, was_accepted, was_withdrawn, withdrawn_ids}
-use Rattle.soc_ledger.specs.Legal.{IsLegalNext, IsLegalBack}
-use Rattle.soc_ledger.proofs.Lists.{reverse-more, same_text, true_is_not_false}
-use Rattle.soc_desk.specs.Basis.{Basis}
-use Rattle.soc_desk.specs.Log.{Accepted, Change, Kept, accept, ask, withdraw, report, keep, done, stop, accepted_of, event_of, events, raw_of, is_own, IsSound, AreSoundBack, IsLegal}
-use Rattle.soc_desk.specs.Opens.{AreChanges, as_told, log_of, told}
-use Rattle.soc_desk.specs.State.{entry_of, kept_of}
-use Rattle.soc_desk.proofs.Found.{AreTold}
-use Rattle.soc_desk.proofs.Logs.{events-more, has_id, reverse-twice, was_accepted-is}
-use Rattle.soc_book.proofs.Changes.{IsSoundCrash, accepted-more, legal-next, sound_crashes}
+use Rattle.std.proofs.Common.{◌≡◌, ℕ, ◌+◌, ◌≤◌, Bool, true, false, not, ◌&&◌, ◌||◌, IsTrue, List, [], ◌∷◌, ◌++◌, length, map, Option, Some, None, IfSome, sym, ap, subst, ◌∙◌, refl, arith, length-append}
+use Rattle.soc_book.proofs.Words.{bytes_eq, if◌then◌else◌, AllByRecursion, list_any, find, option_and_then, map-append, IsId, Crash, TellsCrash, Entry, Event, is_among, is_held, was_accepted, was_withdrawn, withdrawn_ids, IsLegalNext, same_text, true_is_not_false, Basis, Accepted, Change, Kept, accept, ask, withdraw, report, keep, accepted_of, event_of, events, raw_of, IsSound, IsLegal, AreChanges, as_told, log_of, told, entry_of, kept_of, entries_of, AreTold, has_id, was_accepted-is, and_parts}
+use Rattle.soc_book.proofs.Changes.{IsLast, IsSoundCrash, accepted-more, last_of_legal, legal-next, sound_crashes}
 
 -- ---- one more change
 
@@ -37,28 +19,27 @@ pub told_all : (kept : List Kept) → map (as_told true) kept ≡ kept
 told_all [] = refl
 told_all (change ∷ kept) = ap (λ (k : List Kept). change ∷ k) (told_all kept)
 
+-- the entries that they are the changes of
+pub entries_told : (basis : Basis) (entries : List Entry) (kept : List Kept) → AreChanges basis entries kept → (b : Bool) → IsTrue b → entries_of (kept_of (log_of (map (as_told b) kept))) ≡ entries
+entries_told basis entries kept are true is_told = ap entries_of (kept_of-log (map (as_told true) kept) ∙ told_all kept) ∙ sym are.entries_are
+entries_told basis entries kept are false is_told = absurd (true_is_not_false (sym is_told))
+
 -- ---- events without contents
 
-events_untold : (basis : Basis) (kept : List Kept) → events basis (log_of (map (as_told false) kept)) ≡ events basis (log_of kept)
-events_untold basis [] = refl
-events_untold basis (accept crash ∷ kept) = ap (λ (es : List Event). E.Accepted crash.id ∷ es) (events_untold basis kept)
-events_untold basis (ask id ∷ kept) = ap (λ (es : List Event). E.Asked id ∷ es) (events_untold basis kept)
-events_untold basis (withdraw id ∷ kept) = ap (λ (es : List Event). E.Withdrawn id ∷ es) (events_untold basis kept)
-events_untold basis (report made ∷ kept) = ap (λ (es : List Event). E.Reported made.id (is_own basis made.digest) ∷ es) (events_untold basis kept)
+event_told : (basis : Basis) (b : Bool) (change : Kept) → event_of basis (keep (as_told b change)) ≡ event_of basis (keep change)
+event_told basis true change = refl
+event_told basis false (accept crash) = refl
+event_told basis false _ = refl
 
 pub events_told : (basis : Basis) (b : Bool) (kept : List Kept) → events basis (log_of (map (as_told b) kept)) ≡ events basis (log_of kept)
-events_told basis true kept = ap (λ (k : List Kept). events basis (log_of k)) (told_all kept)
-events_told basis false kept = events_untold basis kept
+events_told basis b [] = refl
+events_told basis b (change ∷ kept) = ap (λ (e : Event). e ∷ events basis (log_of (map (as_told b) kept))) (event_told basis b change) ∙ ap (λ (es : List Event). event_of basis (keep change) ∷ es) (events_told basis b kept)
 
 -- which crashes are held doesn't depend on whose reports count
 withdrawn_alike : (basis basis' : Basis) (log : List Change) → withdrawn_ids (events basis log) ≡ withdrawn_ids (events basis' log)
 withdrawn_alike basis basis' [] = refl
-withdrawn_alike basis basis' (keep (accept crash) ∷ log) = withdrawn_alike basis basis' log
-withdrawn_alike basis basis' (keep (ask id) ∷ log) = withdrawn_alike basis basis' log
 withdrawn_alike basis basis' (keep (withdraw id) ∷ log) = ap (λ (ids : List (List ℕ)). id ∷ ids) (withdrawn_alike basis basis' log)
-withdrawn_alike basis basis' (keep (report made) ∷ log) = withdrawn_alike basis basis' log
-withdrawn_alike basis basis' (done id ∷ log) = withdrawn_alike basis basis' log
-withdrawn_alike basis basis' (stop ∷ log) = withdrawn_alike basis basis' log
+withdrawn_alike basis basis' (_ ∷ log) = withdrawn_alike basis basis' log
 
 pub accepted_alike : (basis basis' : Basis) (log : List Change) (id : List ℕ) → was_accepted (events basis log) id ≡ was_accepted (events basis' log) id
 accepted_alike basis basis' log id = was_accepted-is basis log id ∙ sym (was_accepted-is basis' log id)
@@ -70,38 +51,6 @@ held_alike basis basis' log id =
 
 -- ---- legal logs
 
--- what is known of the last change of a legal log
-pub record IsLast (basis : Basis) (log : List Change) (change : Change) : Type 0 where
-  pub legal : IsLegal basis log
-  pub next : IsLegalNext (events basis log) (event_of basis change)
-  pub sound : IsSound log change
-  pub told : IsTrue basis.is_told → AreTold (accepted_of (change ∷ []))
-
-all_front : {A : Type 0} (P : A → Type 0) (xs ys : List A) → AllByRecursion P (xs ++ ys) → AllByRecursion P xs
-all_front P [] ys all = tt
-all_front P (x ∷ xs) ys all = (all.0, all_front P xs ys all.1)
-
-all_back : {A : Type 0} (P : A → Type 0) (xs ys : List A) → AllByRecursion P (xs ++ ys) → AllByRecursion P ys
-all_back P [] ys all = all
-all_back P (x ∷ xs) ys all = all_back P xs ys all.1
-
-pub last_of_legal : (basis : Basis) (log : List Change) (change : Change) → IsLegal basis (log ++ change ∷ []) → IsLast basis log change
-last_of_legal basis log change legal =
-    let turned = ap (λ (es : List Event). reverse es) (events-more basis log change) ∙ reverse-more (events basis log) (event_of basis change) in
-    let all : IsLegalBack (event_of basis change ∷ reverse (events basis log)) = subst IsLegalBack turned legal.events_legal in
-    let sound : AreSoundBack (change ∷ reverse log) = subst AreSoundBack (reverse-more log change) legal.sound in
-    let crashes : IsTrue basis.is_told → AreTold (accepted_of log ++ accepted_of (change ∷ [])) = λ is_told. subst AreTold (accepted-more log change) (legal.told is_told) in
-    record {
-      legal = record {
-        events_legal = all.1;
-        sound = sound.1;
-        told = λ is_told. all_front (λ (crash : Accepted). IsSome crash.raw) (accepted_of log) (accepted_of (change ∷ [])) (crashes is_told);
-      };
-      next = subst (λ (es : List Event). IsLegalNext es (event_of basis change)) (reverse-twice (events basis log)) all.0;
-      sound = subst (λ (older : List Change). IsSound older change) (reverse-twice log) sound.0;
-      told = λ is_told. all_back (λ (crash : Accepted). IsSome crash.raw) (accepted_of log) (accepted_of (change ∷ [])) (crashes is_told);
-    }
-
 id_found : (crashes : List Accepted) (id : List ℕ) → AllByRecursion IsSoundCrash crashes → list_any (has_id id) crashes ≡ true → IsId id
 id_found [] id sound is = absurd (true_is_not_false (sym is))
 id_found (crash ∷ crashes) id sound is =
@@ -110,21 +59,17 @@ id_found (crash ∷ crashes) id sound is =
       | false ↦ λ _ later. id_found crashes id sound.1 later
     ] refl is
 
-left_true : (a w : Bool) → IsTrue (a && w) → a ≡ true
-left_true true w is = refl
-left_true false w is = is
-
 -- the id of a held crash is one
 pub held_id : (basis : Basis) (log : List Change) (id : List ℕ) → IsLegal basis log → IsTrue (is_held (events basis log) id) → IsId id
 held_id basis log id legal held =
-    id_found (accepted_of log) id (sound_crashes log legal.sound) (sym (was_accepted-is basis log id) ∙ left_true (was_accepted (events basis log) id) (not (was_withdrawn (events basis log) id)) held)
+    id_found (accepted_of log) id (sound_crashes log legal.sound) (sym (was_accepted-is basis log id) ∙ (and_parts (was_accepted (events basis log) id) (not (was_withdrawn (events basis log) id)) held).0)
 
 -- ---- the changes of entries
 
-heads : {A : Type 0} {x y : A} {xs ys : List A} → x ∷ xs ≡ y ∷ ys → x ≡ y
+pub heads : {A : Type 0} {x y : A} {xs ys : List A} → x ∷ xs ≡ y ∷ ys → x ≡ y
 heads same = cc
 
-tails : {A : Type 0} {x y : A} {xs ys : List A} → x ∷ xs ≡ y ∷ ys → xs ≡ ys
+pub tails : {A : Type 0} {x y : A} {xs ys : List A} → x ∷ xs ≡ y ∷ ys → xs ≡ ys
 tails same = cc
 
 no_end : {A : Type 0} (ys : List A) (y : A) → ys ++ y ∷ [] ≡ [] → ⊥
@@ -141,9 +86,7 @@ pub record Splits {A B : Type 0} (f : A → B) (xs : List A) (ys : List B) (y : 
 split_last : {A B : Type 0} (f : A → B) (xs : List A) (ys : List B) (y : B) → ys ++ y ∷ [] ≡ map f xs → Splits f xs ys y
 split_last f [] ys y same = absurd (no_end ys y same)
 split_last f (x ∷ []) [] y same = record { front = []; last = x; whole = refl; front_is = refl; last_is = sym (heads same) }
-split_last f (x ∷ z ∷ xs) [] y same = absurd (no_tail (tails same)) where
-  no_tail : [] ≡ f z ∷ map f xs → ⊥
-  no_tail e = cc
+split_last f (x ∷ z ∷ xs) [] y same = cc
 split_last f (x ∷ xs) (b ∷ ys) y same =
     let rest = split_last f xs ys y (tails same) in
     record {
@@ -202,9 +145,7 @@ changes_more basis entries kept change are next sound crashes few =
 no_raw : (kept : List Kept) → AllByRecursion (λ (crash : Accepted). crash.raw ≡ None) (accepted_of (log_of (map (as_told false) kept)))
 no_raw [] = tt
 no_raw (accept crash ∷ kept) = (refl, no_raw kept)
-no_raw (ask id ∷ kept) = no_raw kept
-no_raw (withdraw id ∷ kept) = no_raw kept
-no_raw (report made ∷ kept) = no_raw kept
+no_raw (_ ∷ kept) = no_raw kept
 
 found_none : (id : List ℕ) (crashes : List Accepted) → AllByRecursion (λ (crash : Accepted). crash.raw ≡ None) crashes → option_and_then (λ (crash : Accepted). crash.raw) (find (has_id id) crashes) ≡ None
 found_none id [] none = refl
@@ -227,13 +168,6 @@ untold_sound kept (report made) sound =
 sound_told : (b : Bool) (kept : List Kept) (change : Kept) → IsSound (log_of kept) (keep change) → IsSound (log_of (map (as_told b) kept)) (keep (as_told b change))
 sound_told true kept change sound = subst (λ (k : List Kept). IsSound (log_of k) (keep change)) (sym (told_all kept)) sound
 sound_told false kept change sound = untold_sound kept change sound
-
-event_told : (basis : Basis) (b : Bool) (change : Kept) → event_of basis (keep (as_told b change)) ≡ event_of basis (keep change)
-event_told basis true change = refl
-event_told basis false (accept crash) = refl
-event_told basis false (ask id) = refl
-event_told basis false (withdraw id) = refl
-event_told basis false (report made) = refl
 
 next_told : (basis : Basis) (b : Bool) (kept : List Kept) (change : Kept) → IsLegalNext (events basis (log_of kept)) (event_of basis (keep change)) → IsLegalNext (events basis (log_of (map (as_told b) kept))) (event_of basis (keep (as_told b change)))
 next_told basis b kept change next =

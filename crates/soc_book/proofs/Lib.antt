@@ -11,7 +11,6 @@ pub mod Kept
 pub mod Listings
 pub mod Lookups
 pub mod Openings
-pub mod Places
 pub mod Pushing
 pub mod Quiets
 pub mod Reading
@@ -24,11 +23,11 @@ pub mod Rests
 pub mod Rows
 pub mod Searches
 pub mod Settings
-pub mod Sights
 pub mod Standing
 pub mod Submissions
 pub mod Submitting
 pub mod Tellings
 pub mod Turnings
 pub mod Views
+pub mod Words
 pub mod Crossing

@@ -1,39 +1,18 @@
 -- The rows that a caller's view lists are those of the store that the caller may see.
-use Rattle.std.proofs.Common.{◌≡◌, ◌≢◌, ℕ, suc, ◌+◌, ◌<◌, ◌≤◌, eqb, Bool, true, false, IsTrue, List, [], ◌∷◌, ◌++◌, length, map, reverse, Option, Some, None, IfSome, IsSome, IsSomeAnd, cond, sym, ap, subst, ◌∙◌, refl, arith, ◌⊎◌, inl, inr, ⊎_elim}
-use Rattle.std.specs.Prelude.{bytes_eq, filter, filter_map, if◌then◌else◌, slice_get, Contains}
-use Rattle.std.specs.List.{AllByRecursion, cons_option, enumerate_from, find}
-use Rattle.std.specs.Option.{option_map, option_map_or, option_and_then}
-use Rattle.std.specs.Ordering.{nat_cmp, is_eq, match_ordering}
+use Rattle.std.proofs.Common.{◌≡◌, ◌≢◌, ℕ, suc, ◌+◌, ◌<◌, ◌≤◌, eqb, Bool, true, false, IsTrue, List, [], ◌∷◌, ◌++◌, length, map, Option, Some, None, IfSome, IsSome, IsSomeAnd, cond, sym, ap, subst, ◌∙◌, refl, arith, ◌⊎◌, inl, inr, ⊎_elim}
+use Rattle.soc_book.proofs.Words.{bytes_eq, filter, filter_map, if◌then◌else◌, slice_get, Contains, AllByRecursion, cons_option, enumerate_from, find, option_map, option_map_or, option_and_then, nat_cmp, is_eq, match_ordering, Less, Equal, Greater, cases_lt, eq-eqb, ne_eqb, lt-ltb, le-ltb, filter_map-append, bytes_eq-Decides, value_of, with_value, Crash, IsCrash, Caller, Cell, Text, uuid_field, Granted, granted_cells, shows, TellsCrash, product_of, PlacesRise, row_at, Filed, is_held, seen_rows, HaveOwnIds, ListTheSame, Basis, RowsTell, Change, Accepted, accepted_of, events, raw_of, row_in, IsLegal, Seen, View, view_of, rows_in, has_id, IsApart, accepted_apart, turned_eq, item, item_of, items_of, item_id, items_absent, view_of_items, view_items, seen_under, all-filter_map, filter_map-same, all_weaker, all_both, shown_row}
 use Rattle.std.specs.Cmp.Lexicographic.{slice_cmp}
 use Rattle.std.specs.BTreeMap.{insert_entry}
-use Rattle.std.specs.declared.cmp.Ordering.TheVariants.{Less, Equal, Greater}
-use Rattle.std.proofs.lemmas.Bool.{cases_lt, eq-eqb, ne_eqb, lt-ltb, le-ltb}
-use Rattle.std.proofs.lemmas.List.Elements.{filter_map-append}
-use Rattle.std.proofs.lemmas.Slice.Eq.{bytes_eq-Decides}
-use Rattle.soc_base.specs.Names.{value_of, with_value}
-use Rattle.soc_raw.specs.Record.{Crash, IsCrash}
-use Rattle.soc_schema.specs.declared.caller.Caller.{Caller}
-use Rattle.soc_schema.specs.declared.value.Cell.{Cell}
-use Rattle.soc_schema.specs.declared.value.Value.TheVariants.{Text}
-use Rattle.soc_schema.specs.Fields.{field_entry, field_table, permission_of, uuid_field}
-use Rattle.soc_schema.specs.Permits.{Granted, granted_cells, shows}
-use Rattle.soc_schema.specs.Reports.{TellsCrash, product_of}
+use Rattle.soc_schema.specs.Fields.{field_entry, field_table, permission_of}
 use Rattle.soc_schema.specs.Rows.{value_of as cell_value}
 use Rattle.soc_schema.specs.Values.{text_of, product_of as row_product}
-use Rattle.soc_store.specs.Stored.{PlacesRise, row_at}
-use Rattle.soc_ledger.specs.declared.crash.Filed.{Filed}
-use Rattle.soc_ledger.specs.Events.{is_held}
-use Rattle.soc_search.specs.Seen.{seen_rows, HaveOwnIds, ListTheSame}
 use Rattle.soc_search.proofs.ListedLemmas.{In, in_at, at_in, all_in, all_from, Differs, Own}
 use Rattle.soc_search.proofs.OrderLemmas.{less_from}
 use Rattle.soc_search.proofs.SeenLemmas.{value_seen, public}
-use Rattle.soc_desk.specs.Basis.{Basis, RowsTell}
-use Rattle.soc_desk.specs.Log.{Change, Accepted, accept, ask, withdraw, report, keep, done, stop, accepted_in, accepted_of, events, raw_of, row_in, AreSoundBack, IsLegal}
-use Rattle.soc_desk.specs.View.{Seen, View, view_of, rows_in}
-use Rattle.soc_desk.proofs.Logs.{has_id, IsApart, accepted_apart, reverse-cons, reverse-twice}
-use Rattle.soc_desk.proofs.Views.{true_is_not_false, turned_eq, item, item_of, items_of, item_id, items_absent, view_of_items, view_items, seen_under, all-filter_map, filter_map-same, all_weaker, all_both}
-use Rattle.soc_book.specs.inner.Stands.{shown_row}
+use Rattle.soc_desk.proofs.Views.{true_is_not_false}
 use Rattle.soc_book.proofs.Tellings.{rows_tell}
+use Rattle.soc_book.proofs.Changes.{IsSoundCrash, sound_crashes}
+use Rattle.soc_book.proofs.Rows.{no_row, row_behind}
 
 -- ---- the rows of crashes
 
@@ -91,14 +70,6 @@ is_eq-nat a b =
 row_here : (p : ℕ) (s : ℕ × List Cell) (ss : List (ℕ × List Cell)) → p ≡ s.0 → option_map (λ t. t.1) (row_at p (s ∷ ss)) ≡ Some s.1
 row_here p s ss same = ap (λ b. option_map (λ t. t.1) (cond b (Some s) (row_at p ss))) (is_eq-nat p s.0 ∙ eq-eqb p s.0 same)
 
-row_behind : (p : ℕ) (s : ℕ × List Cell) (ss : List (ℕ × List Cell)) → p ≢ s.0 → row_at p (s ∷ ss) ≡ row_at p ss
-row_behind p s ss apart = ap (λ b. cond b (Some s) (row_at p ss)) (is_eq-nat p s.0 ∙ ne_eqb p s.0 apart)
-
--- no row stands at a place below all of theirs
-row_below : (p : ℕ) (rows : List (ℕ × List Cell)) → AllByRecursion (λ s. p < s.0) rows → row_at p rows ≡ None
-row_below p [] all = refl
-row_below p (s ∷ ss) all = row_behind p s ss (let h : p < s.0 = all.0 in let apart : p ≢ s.0 = omega (arith, h) in apart) ∙ row_below p ss all.1
-
 above : (s : ℕ × List Cell) (ss : List (ℕ × List Cell)) → AllByRecursion (λ t. nat_cmp s.0 t.0 ≡ Less) ss → AllByRecursion (λ t. s.0 < t.0) ss
 above s ss all = all_weaker (λ t. nat_cmp s.0 t.0 ≡ Less) (λ t. s.0 < t.0) ss (λ t less. less_from s.0 t.0 less) all
 
@@ -123,7 +94,7 @@ module _ (row_of_id : List ℕ → Option (List Cell)) where
       ⊎_elim
       (λ (lt : start < s.0).
       let higher : AllByRecursion (λ t. start < t.0) (s ∷ ss) = (lt, all_weaker (λ t. s.0 < t.0) (λ t. start < t.0) ss (λ t h. omega (arith, lt, h)) all_above) in
-      let none : None ≡ row_of_id f.id = ap (option_map (λ t. t.1)) (sym (row_below start (s ∷ ss) higher)) ∙ first in
+      let none : None ≡ row_of_id f.id = ap (option_map (λ t. t.1)) (sym (no_row start (s ∷ ss) (all_weaker (λ t. start < t.0) (λ t. start ≢ t.0) (s ∷ ss) (λ t h. let differs : start ≢ t.0 = omega (arith, h) in differs) higher))) ∙ first in
       listed (start + 1) fs (s ∷ ss) rise (all_weaker (λ t. start < t.0) (λ t. start + 1 ≤ t.0) (s ∷ ss) (λ t h. omega (arith, h)) higher)
       (all_weaker (λ t. t.0 < start + length (f ∷ fs)) (λ t. t.0 < (start + 1) + length fs) (s ∷ ss) (λ t h. omega (arith, h)) high)
       (λ i h. ap (λ p. option_map (λ t. t.1) (row_at p (s ∷ ss))) (more i) ∙ each (suc i) (omega (arith, h)))
@@ -143,37 +114,11 @@ module _ (row_of_id : List ℕ → Option (List Cell)) where
 
 -- ---- what the log tells of each accepted crash
 
-module _ (basis : Basis) where
-  abbrev Sound : Accepted → Type 0
-  Sound crash = IfSome crash.raw (λ raw. (raw.id ≡ crash.id) × IsCrash raw)
-
-  all_pushed : (xs ys : List Accepted) → AllByRecursion Sound xs → AllByRecursion Sound ys → AllByRecursion Sound (xs ++ ys)
-  all_pushed [] ys front behind = behind
-  all_pushed (x ∷ xs) ys front behind = (front.0, all_pushed xs ys front.1 behind)
-
-  sound_next : (older : List Change) (change : Change) → AllByRecursion Sound (filter_map accepted_in (change ∷ [])) → AllByRecursion Sound (accepted_of (reverse older)) → AllByRecursion Sound (accepted_of (reverse (change ∷ older)))
-  sound_next older change here before =
-      subst (AllByRecursion Sound) (sym (ap accepted_of (reverse-cons change older) ∙ filter_map-append accepted_in (reverse older) (change ∷ [])))
-      (all_pushed (accepted_of (reverse older)) (filter_map accepted_in (change ∷ [])) before here)
-
-  sound_back : (back : List Change) → AreSoundBack back → AllByRecursion Sound (accepted_of (reverse back))
-  sound_back [] sound = tt
-  sound_back (keep (accept crash) ∷ older) sound = sound_next older (keep (accept crash)) (sound.0.1, tt) (sound_back older sound.1)
-  sound_back (keep (ask id) ∷ older) sound = sound_next older (keep (ask id)) tt (sound_back older sound.1)
-  sound_back (keep (withdraw id) ∷ older) sound = sound_next older (keep (withdraw id)) tt (sound_back older sound.1)
-  sound_back (keep (report made) ∷ older) sound = sound_next older (keep (report made)) tt (sound_back older sound.1)
-  sound_back (done id ∷ older) sound = sound_next older (done id) tt (sound_back older sound.1)
-  sound_back (stop ∷ older) sound = sound_next older stop tt (sound_back older sound.1)
-
-  -- each accepted crash that is told has its own id
-  pub sound_accepted : (log : List Change) → IsLegal basis log → AllByRecursion (λ crash. IfSome crash.raw (λ raw. (raw.id ≡ crash.id) × IsCrash raw)) (accepted_of log)
-  sound_accepted log legal = subst (λ l. AllByRecursion Sound (accepted_of l)) (reverse-twice log) (sound_back (reverse log) legal.sound)
-
 -- each of some crashes that are apart is found by its id
-abbrev pub Finds : List Accepted → Accepted → Type 0
+abbrev Finds : List Accepted → Accepted → Type 0
 Finds crashes crash = option_and_then (λ c. c.raw) (find (has_id crash.id) crashes) ≡ crash.raw
 
-pub found_own : (crashes : List Accepted) → IsApart crashes → AllByRecursion (Finds crashes) crashes
+found_own : (crashes : List Accepted) → IsApart crashes → AllByRecursion (Finds crashes) crashes
 found_own [] apart = tt
 found_own (crash ∷ crashes) apart = (
   ap (λ b. option_and_then (λ c. c.raw) (cond b (Some crash) (find (has_id crash.id) crashes))) ((bytes_eq-Decides crash.id crash.id).1 refl),
@@ -230,10 +175,10 @@ module _ (basis : Basis) (tells : RowsTell basis) (log : List Change) (caller : 
 
   all_told : AllByRecursion Told (accepted_of log)
   all_told =
-      all_weaker (λ crash. (IsSome crash.raw × IfSome crash.raw (λ raw. (raw.id ≡ crash.id) × IsCrash raw)) × Finds (accepted_of log) crash) Told (accepted_of log)
-      (λ crash facts. told_of crash crash.raw refl facts.1 facts.0.0 facts.0.1)
-      (all_both (λ crash. IsSome crash.raw × IfSome crash.raw (λ raw. (raw.id ≡ crash.id) × IsCrash raw)) (Finds (accepted_of log)) (accepted_of log)
-      (all_both (λ crash. IsSome crash.raw) (λ crash. IfSome crash.raw (λ raw. (raw.id ≡ crash.id) × IsCrash raw)) (accepted_of log) (legal.told is_told) (sound_accepted basis log legal))
+      all_weaker (λ crash. (IsSome crash.raw × IsSoundCrash crash) × Finds (accepted_of log) crash) Told (accepted_of log)
+      (λ crash facts. told_of crash crash.raw refl facts.1 facts.0.0 facts.0.1.1)
+      (all_both (λ crash. IsSome crash.raw × IsSoundCrash crash) (Finds (accepted_of log)) (accepted_of log)
+      (all_both (λ crash. IsSome crash.raw) IsSoundCrash (accepted_of log) (legal.told is_told) (sound_crashes log legal.sound))
       (found_own (accepted_of log) (accepted_apart basis log legal.events_legal)))
 
   -- ---- the view

@@ -1,72 +1,12 @@
 -- What a book's tables tell of a held crash, and what its view has of it.
-use Rattle.std.proofs.Common.{◌≡◌, ℕ, zero, suc, ◌<◌, Bool, true, false, IsTrue, List, [], ◌∷◌, ◌++◌, length, map, Option, Some, None, IfSome, IsSome, IsSomeAnd, sym, ap, subst, ◌∙◌, refl, arith, ◌⊎◌, inl, inr, ⊎_elim}
-use Rattle.std.specs.Prelude.{is_some, slice_get, Ok, Err, if◌then◌else◌}
-use Rattle.std.specs.List.{AllByRecursion}
-use Rattle.std.specs.Option.{option_map, option_map_or, option_and_then}
-use Rattle.soc_base.proofs.Folk.{some-injective}
-use Rattle.soc_base.specs.Names.{value_of}
-use Rattle.soc_raw.specs.Record.{Crash}
-use Rattle.soc_schema.specs.declared.caller.Caller.{Caller}
-use Rattle.soc_schema.specs.declared.value.Cell.{Cell}
-use Rattle.soc_schema.specs.Permits.{shows}
-use Rattle.soc_schema.specs.Reports.{product_of}
-use Rattle.soc_edge.specs.Disk.{DiskTold, Looks}
-use Rattle.soc_edge.proofs.Disks.{LeavesOnly-weaker}
-use Rattle.soc_journal.specs.Entries.{Entry}
-use Rattle.soc_journal.specs.States.{JournalState, AtRest, InDoubt}
-use Rattle.soc_journal.specs.Text.{JournalText}
-use Rattle.soc_journal.proofs.Standing.{JournalText-each}
-use Rattle.soc_ledger.specs.declared.crash.Filed.{Filed}
-use Rattle.soc_ledger.specs.State.{LedgerState, id_of}
-use Rattle.soc_ledger.specs.Events.{is_held}
-use Rattle.soc_vault.specs.Vaults.{Means}
-use Rattle.soc_desk.specs.declared.desk.Limits.{Limits}
+use Rattle.std.proofs.Common.{◌≡◌, ℕ, Bool, true, false, IsTrue, List, Option, Some, None, sym, ap, ◌∙◌, ◌⊎◌, inl, ⊎_elim}
+use Rattle.soc_book.proofs.Words.{is_some, slice_get, if◌then◌else◌, option_map, option_and_then, value_of, Crash, Caller, Cell, shows, product_of, DiskTold, Looks, LeavesOnly-weaker, JournalState, Filed, LedgerState, is_held, Limits, Basis, Change, events, raw_of, row_in, State, Allowed, Survives, entries_of, kept_of, seen_of, view_of, is_in, accepted_apart, shown, Pending, IsHeldAs, Sees, product_at, Stands}
+use Rattle.std.specs.Prelude.{Ok, Err}
 use Rattle.soc_desk.specs.declared.desk.Refusal.TheVariants as F
-use Rattle.soc_desk.specs.Basis.{Basis}
-use Rattle.soc_desk.specs.Log.{Change, Accepted, accepted_of, events, raw_of, row_in, IsLegal}
-use Rattle.soc_desk.specs.State.{State, Allowed, Survives, entry_of, entries_of, kept_of}
-use Rattle.soc_desk.specs.View.{seen_of, view_of, is_in}
-use Rattle.soc_desk.proofs.Logs.{accepted_apart}
-use Rattle.soc_desk.proofs.Views.{shown, true_is_not_false}
-use Rattle.std.proofs.lemmas.List.{map-append}
-use Rattle.soc_book.specs.declared.book.Change.{Change as Pending}
-use Rattle.soc_book.specs.inner.Pieces.{IsHeldAs, Sees, product_at}
-use Rattle.soc_book.specs.inner.Stands.{AreFiled, IsFiled, IsFiledOf, Stands}
-use Rattle.soc_book.proofs.Listings.{Finds, found_own}
 use Rattle.soc_book.proofs.Views.{sight, sight_of, seen_is}
-
--- ---- a crash at its number
-
--- the accepted crash of a number, and what is kept of it
-pub record FiledAt (entries : List Entry) (crashes : List Accepted) (filed : List Filed) (number : ℕ) : Type 0 where
-  pub crash : Accepted
-  pub own : Filed
-  pub crash_at : slice_get crashes number ≡ Some crash
-  pub own_at : slice_get filed number ≡ Some own
-  pub is : IsFiled entries crash own
-
-pub filed_at : (entries : List Entry) (crashes : List Accepted) (filed : List Filed) (number : ℕ) → AreFiled entries crashes filed → number < length filed → FiledAt entries crashes filed number
-filed_at entries [] [] number are within = absurd (omega arith)
-filed_at entries [] (f ∷ fs) number are within = absurd are
-filed_at entries (crash ∷ crashes) [] number are within = absurd are
-filed_at entries (crash ∷ crashes) (f ∷ fs) zero are within = record { crash = crash; own = f; crash_at = refl; own_at = refl; is = are.0 }
-filed_at entries (crash ∷ crashes) (f ∷ fs) (suc number) are within =
-    let one : FiledAt entries crashes fs number = filed_at entries crashes fs number are.1 (omega arith) in
-    record { crash = one.crash; own = one.own; crash_at = one.crash_at; own_at = one.own_at; is = one.is }
-
--- the ids of the crashes, in order
-pub filed_ids : (entries : List Entry) (crashes : List Accepted) (filed : List Filed) → AreFiled entries crashes filed → map (λ f. f.id) filed ≡ map (λ crash. crash.id) crashes
-filed_ids entries [] [] are = refl
-filed_ids entries [] (f ∷ fs) are = absurd are
-filed_ids entries (crash ∷ crashes) [] are = absurd are
-filed_ids entries (crash ∷ crashes) (f ∷ fs) are = ap (λ id. id ∷ map (λ g. g.id) fs) are.0.id ∙ ap (λ ids. crash.id ∷ ids) (filed_ids entries crashes fs are.1)
-
-pub all_at : {A : Type 0} (P : A → Type 0) (xs : List A) (i : ℕ) (x : A) → AllByRecursion P xs → slice_get xs i ≡ Some x → P x
-all_at P [] i x all is = absurd (none_some is) where
-  none_some : None ≡ Some x → ⊥
-  none_some e = cc
-all_at P (y ∷ ys) zero x all is = subst P (some-injective is) all.0
-all_at P (y ∷ ys) (suc i) x all is = all_at P ys i x all.1 is
+use Rattle.soc_book.proofs.Changes.{sound_crashes}
+use Rattle.soc_book.proofs.Filing.{IsKnown, known, got, id_of-got}
+use Rattle.soc_book.proofs.Standing.{allowed_in}
 
 -- ---- what is told of it
 
@@ -81,23 +21,21 @@ module _ {basis : Basis} {limits : Limits} {ledger : LedgerState} {rows : List (
   pub held_is : (id : List ℕ) (held : Bool) → is_held ledger.log id ≡ held → is_held (events basis state.log) id ≡ held
   held_is id held is = ap (λ l. is_held l id) (sym stands.holds.events_are) ∙ is
 
+  -- what the log tells of a number
+  pub known_at : IsTrue basis.is_told → (number : ℕ) (f : Filed) → slice_get ledger.crashes number ≡ Some f → IsKnown (entries_of (kept_of state.log)) state.log f
+  known_at is_told number f is =
+      let legal = stands.legal.log in
+      known (entries_of (kept_of state.log)) state.log ledger.crashes number f stands.holds.filed (accepted_apart basis state.log legal.events_legal) (sound_crashes state.log legal.sound) (legal.told is_told) is
+
   pub tells_of : (id : List ℕ) (number : ℕ) → IsTrue basis.is_told → IsHeldAs ledger id number → TellsOf state.log ledger id number
-  tells_of id number is_told known =
-      let legal : IsLegal basis state.log = stands.legal.log in
-      let one : FiledAt (entries_of (kept_of state.log)) (accepted_of state.log) ledger.crashes number = filed_at _ (accepted_of state.log) ledger.crashes number stands.holds.filed known.within in
-      let finds : Finds (accepted_of state.log) one.crash = all_at (Finds (accepted_of state.log)) (accepted_of state.log) number one.crash (found_own (accepted_of state.log) (accepted_apart basis state.log legal.events_legal)) one.crash_at in
-      let some : IsSome one.crash.raw = all_at (λ crash. IsSome crash.raw) (accepted_of state.log) number one.crash (legal.told is_told) one.crash_at in
-      let named : id_of ledger number ≡ one.own.id = ap (λ o. option_map_or (λ f. f.id) o []) one.own_at in
-      let same : one.crash.id ≡ id = sym one.is.id ∙ (sym named ∙ known.id_is) in
-      let P : Option Crash → Type 0 = λ o. IfSome o (IsFiledOf (entries_of (kept_of state.log)) one.own) in
-      elim one.crash.raw as (λ o. one.crash.raw ≡ o → IsSome o → P o → TellsOf state.log ledger id number) [
-        | None ↦ λ is none told. absurd (true_is_not_false (sym none))
-        | Some raw ↦ λ is there told. record {
-          raw = raw;
-          raw_is = ap (raw_of state.log) (sym same) ∙ (finds ∙ is);
-          product = ap (λ o. option_and_then (λ f. f.product) o) one.own_at ∙ told.product;
-        }
-      ] refl some one.is.told
+  tells_of id number is_told held =
+      let f = got ledger.crashes number held.within in
+      let k = known_at is_told number f.0 f.1 in
+      record {
+        raw = k.raw;
+        raw_is = ap (raw_of state.log) (sym held.id_is ∙ id_of-got ledger number f.0 f.1) ∙ k.is;
+        product = ap (λ (o : Option Filed). option_and_then (λ (filed : Filed). filed.product) o) f.1 ∙ k.filed.product;
+      }
 
   -- ---- the view
 
@@ -134,29 +72,7 @@ module _ {basis : Basis} {limits : Limits} {ledger : LedgerState} {rows : List (
         held_sight hidden.0 hidden.1 (tells_of id hidden.0 is_told hidden.1) false hidden.2)
         sees
 
-  -- ---- stops
-
-  image_of : (entries doubt : List Entry) → Means disk journal entries doubt → (image : List ℕ) → disk.images image → JournalText entries image ⊎ JournalText (entries ++ doubt) image
-  image_of entries [] means image may =
-      elim disk.content as (λ o. IsSomeAnd o (λ bytes. AtRest journal entries bytes disk.images) → JournalText entries image ⊎ JournalText (entries ++ []) image) [
-        | None ↦ λ never. absurd never
-        | Some bytes ↦ λ rests. inl (JournalText-each journal entries bytes disk.images rests image may)
-      ] means
-  image_of entries (first ∷ more) means image may =
-      elim disk.content as (λ o. IsSomeAnd o (λ bytes. InDoubt journal entries (first ∷ more) bytes disk.images) → JournalText entries image ⊎ JournalText (entries ++ first ∷ more) image) [
-        | None ↦ λ never. absurd never
-        | Some bytes ↦ λ doubts. doubts.each image may
-      ] means
-
-  -- each image that a stop may leave is allowed
-  pub allowed_now : IsTrue basis.is_told → (image : List ℕ) → disk.images image → Allowed state image
-  allowed_now is_told image may =
-      ⊎_elim
-      (λ (text : JournalText (entries_of (kept_of state.log)) image). inl text)
-      (λ (text : JournalText (entries_of (kept_of state.log) ++ entries_of state.doubt) image). inr (subst (λ l. JournalText l image) (sym (map-append entry_of (kept_of state.log) state.doubt)) text))
-      (image_of (entries_of (kept_of state.log)) (entries_of state.doubt) (stands.told is_told).means image may)
-
   -- looking at the disk leaves what was allowed
   pub survives_looking : (disk' : DiskTold) (after : State) → IsTrue basis.is_told → Looks disk disk' → Survives disk disk' state after
   survives_looking disk' after is_told looks =
-      LeavesOnly-weaker disk disk' disk.images (λ image. Allowed state image ⊎ Allowed after image) (λ image may. inl (allowed_now is_told image may)) looks.any_moment
+      LeavesOnly-weaker disk disk' disk.images (λ image. Allowed state image ⊎ Allowed after image) (λ image may. inl (allowed_in stands is_told image may)) looks.any_moment

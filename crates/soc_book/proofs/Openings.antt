@@ -1,26 +1,11 @@
 -- What a book opens with, from what its journal's entries gave.
-use Rattle.std.proofs.Common.{◌≡◌, ℕ, ◌<◌, ◌^◌, Bool, true, false, IsTrue, List, [], map, Option, Some, None, IfSome, IsSome, IsSomeAnd, inl, inr, sym, ap, subst, ◌∙◌, refl, arith}
-use Rattle.std.proofs.lemmas.Option.{IfSome_then}
-use Rattle.soc_raw.specs.Record.{Crash}
-use Rattle.soc_schema.specs.declared.value.Cell.{Cell}
-use Rattle.soc_edge.specs.Disk.{DiskTold}
-use Rattle.soc_journal.specs.Entries.{Entry, first_gate, place_behind}
-use Rattle.soc_journal.specs.States.{JournalState, AtRest}
-use Rattle.soc_ledger.specs.State.{LedgerState}
-use Rattle.soc_ledger.proofs.Lists.{true_is_not_false}
-use Rattle.soc_vault.specs.Openings.{Opens, StopsAt, place_from}
-use Rattle.soc_vault.specs.Vaults.{Means}
-use Rattle.soc_desk.specs.declared.desk.Limits.{Limits}
-use Rattle.soc_desk.specs.Basis.{Basis}
-use Rattle.soc_desk.specs.Log.{Change}
-use Rattle.soc_desk.specs.Opens.{RefusesEntry, as_told, log_of}
-use Rattle.soc_desk.specs.State.{State, settled, entries_of, kept_of}
+use Rattle.std.proofs.Common.{◌≡◌, ℕ, ◌<◌, ◌^◌, IsTrue, List, [], map, Option, Some, None, IfSome, IsSome, inl, inr, sym, ap, subst, ◌∙◌, refl, arith}
+use Rattle.soc_book.proofs.Words.{IfSome_then, Crash, Cell, DiskTold, Entry, first_gate, place_behind, JournalState, LedgerState, true_is_not_false, Opens, StopsAt, place_from, Means, Limits, Basis, Change, RefusesEntry, as_told, log_of, State, settled, Recovers, Rows, Stands}
 use Rattle.soc_book.specs.declared.opening.Recovery.{Recovery}
 use Rattle.soc_book.specs.Openings.{IsBasisOf, OpensBook, StopsAtEntry}
-use Rattle.soc_book.specs.inner.Recoveries.{Recovers, Rows}
-use Rattle.soc_book.specs.inner.Stands.{Stands}
 use Rattle.soc_book.proofs.Changes.{settled-legal}
-use Rattle.soc_book.proofs.Kept.{kept_of-log, told_all}
+use Rattle.soc_book.proofs.Kept.{entries_told}
+use Rattle.soc_book.proofs.Standing.{gate_behind}
 
 -- ---- where no entry is taken
 
@@ -56,10 +41,6 @@ stops_entry now content place stops = IfSome_then content stops (λ bytes here. 
 
 -- ---- what is opened
 
-told_gate : (content : Option (List ℕ)) (images : List ℕ → Type 0) (journal : JournalState) (entries : List Entry) → IsSomeAnd content (λ bytes. AtRest journal entries bytes images) → journal.gate ≡ place_behind entries
-told_gate None images journal entries means = absurd means
-told_gate (Some bytes) images journal entries means = means.gate_stands
-
 some_told : {P : List ℕ → Type 0} (content : Option (List ℕ)) (R : Type 0) → IsSome content → IfSome content P → ((bytes : List ℕ) → P bytes → R) → R
 some_told None R some told then = absurd (true_is_not_false (sym some))
 some_told (Some bytes) R some told then = then bytes told
@@ -93,25 +74,23 @@ module _ (own : Option (List ℕ)) (ledger : LedgerState) (rows : Rows) (limits 
 
   begins : IsTrue basis.is_told → opens.start ≡ first_gate
   begins is_told =
-      let gate : journal.gate ≡ place_behind opens.entries = told_gate after.content after.images journal opens.entries (means is_told) in
+      let gate : journal.gate ≡ place_behind opens.entries = gate_behind after journal opens.entries [] (means is_told) in
       let stands : journal.gate ≡ place_from opens.start opens.entries = ap (λ (j : JournalState). j.gate) opens.journal_is in
       omega (arith, gate, stands)
-
-  all_by : (b : Bool) → IsTrue b → entries_of (kept_of (log_of (map (as_told b) opens.given.kept))) ≡ opens.entries
-  all_by true is_told = ap entries_of (kept_of-log (map (as_told true) opens.given.kept) ∙ told_all opens.given.kept) ∙ sym (opens.given.are basis).entries_are
-  all_by false is_told = absurd (true_is_not_false (sym is_told))
 
   stands : Stands basis limits ledger rows None journal after (settled log)
   stands = record {
     legal = settled-legal basis log (opens.given.legal basis);
     holds = opens.given.holds basis (is.digest_is ∙ sym same_own) begins;
     doubt = tt;
-    crashes = is.crashes_are;
-    bytes = is.bytes;
-    limit = ap (λ (j : JournalState). j.limit) opens.journal_is ∙ (limit_is ∙ sym is.bytes);
-    short = let same = is.bytes in omega (arith, same, limit_is, small);
+    bounds = record {
+      crashes = is.crashes_are;
+      bytes = is.bytes;
+      limit = ap (λ (j : JournalState). j.limit) opens.journal_is ∙ (limit_is ∙ sym is.bytes);
+      short = let same = is.bytes in omega (arith, same, limit_is, small);
+    };
     told = λ is_told. record {
-      means = subst (λ (es : List Entry). Means after journal es []) (sym (all_by basis.is_told is_told)) (means is_told);
+      means = subst (λ (es : List Entry). Means after journal es []) (sym (entries_told basis opens.entries opens.given.kept (opens.given.are basis) basis.is_told is_told)) (means is_told);
       fits = tt;
     };
   }

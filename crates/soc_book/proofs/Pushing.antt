@@ -1,39 +1,13 @@
 -- The tables once a change is added to them stand for the log with that change.
 use Rattle.std.proofs.Common.{◌≡◌, ◌≢◌, ℕ, ◌+◌, ◌-◌, ◌<◌, ◌^◌, min, Bool, true, false, not, ◌&&◌, IsTrue, List, [], ◌∷◌, ◌++◌, length, map, Option, Some, None, IfSome, IsSome, sym, ap, subst, ◌∙◌, refl, arith, length-append, inl, inr}
-use Rattle.std.specs.Prelude.{bytes_eq, is_some, if◌then◌else◌}
-use Rattle.std.specs.Option.{option_map, option_map_or}
-use Rattle.std.proofs.lemmas.Bool.{cases_lt}
-use Rattle.std.proofs.lemmas.List.{append-nil, append_assoc}
-use Rattle.std.proofs.lemmas.Option.{IfSome_then}
-use Rattle.std.proofs.lemmas.Slice.Eq.{bytes_eq-Decides}
-use Rattle.soc_raw.specs.Record.{Crash, head_text, content_text, record_of}
-use Rattle.soc_raw.proofs.Lengths.{record_length}
-use Rattle.soc_schema.specs.declared.value.Cell.{Cell}
-use Rattle.soc_journal.specs.Entries.{Entry, entries_text, entry_text, head_size, place_behind}
-use Rattle.soc_journal.proofs.Texts.{length-entry_text, place_behind-push}
-use Rattle.soc_ledger.specs.declared.crash.Filed.{Filed}
-use Rattle.soc_ledger.specs.declared.event.Event.{Event}
+use Rattle.soc_book.proofs.Words.{bytes_eq, is_some, if◌then◌else◌, option_map, option_map_or, cases_lt, cases_eq, false_from_ne_true, append-nil, IfSome_then, Crash, head_text, content_text, record_of, record_length, Cell, Entry, entries_text, entry_text, head_size, place_behind, length-entry_text, place_behind-push, Filed, Event, due_after, due_since, is_due, accepts, withdraws, was_accepted, accepted_ids, is_among, is_held, LedgerState, id_of, with_event, AreDistinct, true_is_not_false, same_text, all-weaker, distinct_ids, not_true, accepted_ids-more, due_since-more, row_at, without_row, Basis, Change, Kept, Accepted, KeptReport, accept, ask, withdraw, report, keep, accepted_of, event_of, events, is_own, IsLegal, entry_of, entries_of, kept_of, body_of, events-more, held_plain, Pending, NewCrash, Tells, AreAccepted, AreHeld, AreNew, ArePending, AreReports, Fits, IsFiledAt, Pushes, PushesNew, IsFiledOf, IsFiled, AreFiled, HasRow, HasRows, Holds, IsPending, with_reports}
+use Rattle.std.proofs.lemmas.List.{append_assoc}
 use Rattle.soc_ledger.specs.declared.event.Event.TheVariants as E
-use Rattle.soc_ledger.specs.Due.{due_after, due_since, is_due}
-use Rattle.soc_ledger.specs.Events.{was_accepted, accepted_ids, is_among}
-use Rattle.soc_ledger.specs.State.{LedgerState, id_of, with_event}
-use Rattle.soc_ledger.proofs.Lists.{AreDistinct, true_is_not_false, same_text, all-weaker}
-use Rattle.soc_ledger.proofs.Logs.{distinct_ids, not_true}
-use Rattle.soc_ledger.proofs.More.{accepted_ids-more, due_since-more}
-use Rattle.soc_store.specs.Stored.{row_at, without_row}
 use Rattle.soc_store.proofs.StoreLemmas.{rise_without}
-use Rattle.soc_desk.specs.Basis.{Basis}
-use Rattle.soc_desk.specs.Log.{Change, Kept, Accepted, KeptReport, accept, ask, withdraw, report, keep, accepted_of, event_of, events, is_own, IsLegal}
-use Rattle.soc_desk.specs.State.{entry_of, entries_of, kept_of, body_of}
-use Rattle.soc_desk.proofs.Logs.{events-more}
-use Rattle.soc_book.specs.declared.book.Change.{Change as Pending}
 use Rattle.soc_book.specs.declared.book.Change.TheVariants as P
-use Rattle.soc_book.specs.declared.submission.NewCrash.{NewCrash}
-use Rattle.soc_book.specs.inner.Books.{Tells}
-use Rattle.soc_book.specs.inner.Stands.{AreAccepted, AreNew, ArePending, AreReports, Fits, IsFiledAt, Pushes, PushesNew, IsFiledOf, IsFiled, AreFiled, HasRow, HasRows, Holds, IsPending, with_reports}
 use Rattle.soc_book.proofs.Changes.{accepted-more, entries-more, ids_of-log, legal-front}
 use Rattle.soc_book.proofs.Filing.{AreFiled-more, AreFiled-push, filed_ids, id_of-front, id_of-last, among_ids, distinct_numbers}
-use Rattle.soc_book.proofs.Rows.{row_accept, row_ask, row_new, row_others, row_report, row_withdrawn, row_at-others, row_at-taken, no_row_past, all_left}
+use Rattle.soc_book.proofs.Rows.{row_accept, row_ask, row_new, row_others, row_idle, row_withdrawn, row_at-others, row_at-taken, no_row, all_left, and_false, none_of}
 
 -- where the entry of a kept change stands, and that it ends below 2 ^ 64
 pub record IsPlaced (basis : Basis) (log : List Change) (change : Kept) (place : ℕ) : Type 0 where
@@ -113,30 +87,25 @@ module _ (basis : Basis) (log : List Change) (ledger : LedgerState) (rows : List
       → Holds basis (log ++ keep (report made) ∷ []) (with_event ledger (E.Reported id true)) rows
   pushed_report made id same own idle = kept_holds (report made) refl (E.Reported id true) rows (ap (λ x. E.Reported x (is_own basis made.digest)) (sym same) ∙ ap (λ b. E.Reported id b) own) (record {
     rise = holds.rows_are.rise;
-    each = λ number less. row_report basis log legal made (id_of ledger number) (row_of number rows) idle (holds.rows_are.each number less);
+    each = λ number less. row_idle basis log made (id_of ledger number) (row_of number rows) (ap (λ d. is_own basis made.digest && d) idle ∙ and_false (is_own basis made.digest)) (holds.rows_are.each number less);
     no_other = holds.rows_are.no_other;
   })
 
   -- ---- a withdrawal
 
-  withdrawn_row : (number other : ℕ) → number < length ledger.crashes → other < length ledger.crashes → (b : Bool) → bytes_eq (id_of ledger number) (id_of ledger other) ≡ b
-      → HasRow basis (log ++ keep (withdraw (id_of ledger number)) ∷ []) (id_of ledger other) (row_of other (without_row number rows))
-  withdrawn_row number other within less true is =
-      let same : number ≡ other = one_number number other within less (same_text (id_of ledger number) (id_of ledger other) is) in
-      let gone : row_of other (without_row number rows) ≡ None =
-      ap (λ n. row_of n (without_row number rows)) (sym same) ∙ ap (λ (o : Option (ℕ × List Cell)). option_map (λ s. s.1) o) (row_at-taken number rows holds.rows_are.rise) in
-      subst (λ (o : Option (List Cell)). HasRow basis (log ++ keep (withdraw (id_of ledger number)) ∷ []) (id_of ledger other) o) (sym gone)
-      (subst (λ x. HasRow basis (log ++ keep (withdraw (id_of ledger number)) ∷ []) x None) (ap (λ n. id_of ledger n) same) (row_withdrawn basis log legal (id_of ledger number)))
-  withdrawn_row number other within less false is =
-      let differs : other ≢ number = λ same. true_is_not_false (sym ((bytes_eq-Decides (id_of ledger number) (id_of ledger other)).1 (ap (λ n. id_of ledger n) (sym same))) ∙ is) in
-      let kept : row_of other (without_row number rows) ≡ row_of other rows = ap (λ (o : Option (ℕ × List Cell)). option_map (λ s. s.1) o) (row_at-others number other rows differs) in
-      subst (λ (o : Option (List Cell)). HasRow basis (log ++ keep (withdraw (id_of ledger number)) ∷ []) (id_of ledger other) o) (sym kept)
-      (row_others basis log legal (id_of ledger number) (id_of ledger other) (row_of other rows) is (holds.rows_are.each other less))
+  -- two numbers have two ids
+  pub apart : (m n : ℕ) → m < length ledger.crashes → n < length ledger.crashes → n ≢ m → bytes_eq (id_of ledger m) (id_of ledger n) ≡ false
+  apart m n first second other = false_from_ne_true (bytes_eq (id_of ledger m) (id_of ledger n)) (λ is. other (sym (one_number m n first second (same_text (id_of ledger m) (id_of ledger n) is))))
 
   pub pushed_withdraw : (number : ℕ) → number < length ledger.crashes → Holds basis (log ++ keep (withdraw (id_of ledger number)) ∷ []) (with_event ledger (E.Withdrawn (id_of ledger number))) (without_row number rows)
   pushed_withdraw number within = kept_holds (withdraw (id_of ledger number)) refl (E.Withdrawn (id_of ledger number)) (without_row number rows) refl (record {
     rise = rise_without number rows holds.rows_are.rise;
-    each = λ other less. withdrawn_row number other within less (bytes_eq (id_of ledger number) (id_of ledger other)) refl;
+    each = λ other less. elim (cases_eq other number) [
+      | inl here ↦ subst (λ n. HasRow basis (log ++ keep (withdraw (id_of ledger number)) ∷ []) (id_of ledger n) (row_of n (without_row number rows))) (sym here)
+          (subst (HasRow basis (log ++ keep (withdraw (id_of ledger number)) ∷ []) (id_of ledger number)) (sym (ap (option_map (λ s. s.1)) (row_at-taken number rows holds.rows_are.rise))) (row_withdrawn basis log legal (id_of ledger number)))
+      | inr differs ↦ subst (HasRow basis (log ++ keep (withdraw (id_of ledger number)) ∷ []) (id_of ledger other)) (sym (ap (option_map (λ s. s.1)) (row_at-others number other rows differs)))
+          (row_others basis log legal (id_of ledger number) (id_of ledger other) (row_of other rows) (apart number other within less differs) (holds.rows_are.each other less))
+    ];
     no_other = all_left (λ s. s.0 < length ledger.crashes) number rows holds.rows_are.no_other;
   })
 
@@ -196,7 +165,7 @@ module _ (basis : Basis) (log : List Change) (ledger : LedgerState) (rows : List
 
     row_last : HasRow basis longer (id_of grown (length ledger.crashes)) (row_of (length ledger.crashes) rows)
     row_last =
-        let none : row_of (length ledger.crashes) rows ≡ None = ap (λ (o : Option (ℕ × List Cell)). option_map (λ s. s.1) o) (no_row_past (length ledger.crashes) rows holds.rows_are.no_other) in
+        let none : row_of (length ledger.crashes) rows ≡ None = ap (λ (o : Option (ℕ × List Cell)). option_map (λ s. s.1) o) (no_row (length ledger.crashes) rows (all-weaker (λ s. s.0 < length ledger.crashes) (λ s. length ledger.crashes ≢ s.0) (λ s less. let low : s.0 < length ledger.crashes = less in let differs : length ledger.crashes ≢ s.0 = omega arith in differs) rows holds.rows_are.no_other)) in
         subst (λ x. HasRow basis longer x (row_of (length ledger.crashes) rows)) (sym (id_of-last ledger.crashes filed grown refl ∙ same_id))
         (subst (λ (o : Option (List Cell)). HasRow basis longer crash.id o) (sym none) (row_new basis log legal crash fresh))
 
@@ -243,47 +212,58 @@ module _ (basis : Basis) (log : List Change) (ledger : LedgerState) (rows : List
 
 -- ---- reports, one behind the other
 
-idle_reported : (basis : Basis) (log : List Change) (made : KeptReport) (id : List ℕ) → is_due (events basis log) id ≡ false → is_due (events basis (log ++ keep (report made) ∷ [])) id ≡ false
-idle_reported basis log made id idle =
-    let event = E.Reported made.id (is_own basis made.digest) in
-    ap (λ l. is_due l id) (events-more basis log (keep (report made)))
-    ∙ (ap is_some (due_since-more (events basis log) event id)
-    ∙ ap is_some (ap (due_after id event (length (events basis log))) (none_due (due_since (events basis log) id) idle) ∙ still (bytes_eq made.id id && is_own basis made.digest))) where
-      none_due : (o : Option ℕ) → is_some o ≡ false → o ≡ None
-      none_due None none = refl
-      none_due (Some place) none = absurd (true_is_not_false none)
+pub idle_more : (basis : Basis) (log : List Change) (change : Change) (id : List ℕ) → due_after id (event_of basis change) (length (events basis log)) None ≡ None → is_due (events basis log) id ≡ false → is_due (events basis (log ++ change ∷ [])) id ≡ false
+idle_more basis log change id still idle =
+    ap (λ l. is_due l id) (events-more basis log change)
+    ∙ (ap is_some (due_since-more (events basis log) (event_of basis change) id)
+    ∙ ap is_some (ap (due_after id (event_of basis change) (length (events basis log))) (none_of (due_since (events basis log) id) idle) ∙ still))
 
-      still : (b : Bool) → ◌≡◌ {A = Option ℕ} (if b then None else None) None
-      still true = refl
-      still false = refl
+pub none_anyway : (b : Bool) → ◌≡◌ {A = Option ℕ} (if b then None else None) None
+none_anyway true = refl
+none_anyway false = refl
 
-later_reports : (basis : Basis) (log : List Change) (made : KeptReport) (ledger : LedgerState) (event : Event) (numbers : List ℕ) (changes : List Kept) → AreReports basis log ledger numbers changes
-    → AreReports basis (log ++ keep (report made) ∷ []) (with_event ledger event) numbers changes
-later_reports basis log made ledger event [] [] are = tt
-later_reports basis log made ledger event [] (change ∷ changes) are = absurd are
-later_reports basis log made ledger event (number ∷ numbers) [] are = absurd are
-later_reports basis log made ledger event (number ∷ numbers) (report other ∷ changes) (is, are) =
-    ((is.0, is.1, ap not (idle_reported basis log made other.id (not_true (is_due (events basis log) other.id) is.2))), later_reports basis log made ledger event numbers changes are)
-later_reports basis log made ledger event (number ∷ numbers) (accept crash ∷ changes) (is, are) = absurd is
-later_reports basis log made ledger event (number ∷ numbers) (ask id ∷ changes) (is, are) = absurd is
-later_reports basis log made ledger event (number ∷ numbers) (withdraw id ∷ changes) (is, are) = absurd is
+-- what waits still waits behind other events of the same crashes, where none becomes due
+module _ (basis : Basis) (log later : List Change) (idle : (id : List ℕ) → is_due (events basis log) id ≡ false → is_due (events basis later) id ≡ false) (ledger ledger' : LedgerState) (same : (number : ℕ) → id_of ledger' number ≡ id_of ledger number) where
+  pub moved_reports : (numbers : List ℕ) (changes : List Kept) → AreReports basis log ledger numbers changes → AreReports basis later ledger' numbers changes
+  moved_reports [] [] are = tt
+  moved_reports (number ∷ numbers) (report made ∷ changes) (is, are) =
+      ((same number ∙ is.0, is.1, ap not (idle made.id (not_true (is_due (events basis log) made.id) is.2))), moved_reports numbers changes are)
+  moved_reports _ _ are = absurd are
+
+  moved_one : (pending : Pending) (kept : Kept) → IsPending basis log ledger pending kept → IsPending basis later ledger' pending kept
+  moved_one (P.Accept new) (accept crash) is = is
+  moved_one (P.Ask number) (ask id) is = same number ∙ is
+  moved_one (P.Withdraw number) (withdraw id) is = same number ∙ is
+  moved_one _ _ is = absurd is
+
+  pub moved_pending : (pending : Option Pending) (doubt : List Kept) → ArePending basis log ledger pending doubt → ArePending basis later ledger' pending doubt
+  moved_pending None [] are = tt
+  moved_pending (Some (P.Reports numbers)) (first ∷ more) are = moved_reports numbers.items (first ∷ more) are
+  moved_pending (Some (P.Accepts news)) (first ∷ more) are = are
+  moved_pending (Some (P.Accept new)) (kept ∷ []) are = moved_one (P.Accept new) kept are
+  moved_pending (Some (P.Ask number)) (kept ∷ []) are = moved_one (P.Ask number) kept are
+  moved_pending (Some (P.Withdraw number)) (kept ∷ []) are = moved_one (P.Withdraw number) kept are
+  moved_pending _ _ are = absurd are
+
+-- crashes that are held still are, behind an event that accepts and withdraws none
+pub held_behind : (ledger : LedgerState) (event : Event) (room : ℕ) (numbers : List ℕ) → accepts event ≡ None → withdraws event ≡ None → AreHeld ledger numbers → AreHeld (with_event (record ledger { room = room }) event) numbers
+held_behind ledger event room numbers no_accept no_withdrawal held =
+    all-weaker (λ number. (number < length ledger.crashes) × IsTrue (is_held ledger.log (id_of ledger number))) (λ number. (number < length ledger.crashes) × IsTrue (is_held (ledger.log ++ event ∷ []) (id_of ledger number)))
+    (λ number here. (here.0, held_plain ledger.log event (id_of ledger number) no_accept no_withdrawal ∙ here.1)) numbers held
 
 pub pushed_reports : (basis : Basis) (numbers : List ℕ) (changes : List Kept) (log : List Change) (ledger : LedgerState) (rows : List (ℕ × List Cell)) → IsLegal basis (log ++ map keep changes) → Holds basis log ledger rows
     → AreReports basis log ledger numbers changes → Holds basis (log ++ map keep changes) (with_reports ledger numbers) rows
 pushed_reports basis [] [] log ledger rows legal holds are = subst (λ (l : List Change). Holds basis l ledger rows) (sym (append-nil log)) holds
-pushed_reports basis [] (change ∷ changes) log ledger rows legal holds are = absurd are
-pushed_reports basis (number ∷ numbers) [] log ledger rows legal holds are = absurd are
-pushed_reports basis (number ∷ numbers) (accept crash ∷ changes) log ledger rows legal holds (is, are) = absurd is
-pushed_reports basis (number ∷ numbers) (ask id ∷ changes) log ledger rows legal holds (is, are) = absurd is
-pushed_reports basis (number ∷ numbers) (withdraw id ∷ changes) log ledger rows legal holds (is, are) = absurd is
 pushed_reports basis (number ∷ numbers) (report made ∷ changes) log ledger rows legal holds (is, are) =
     let event = E.Reported (id_of ledger number) true in
     let one = log ++ keep (report made) ∷ [] in
     let first : Holds basis one (with_event ledger event) rows =
     pushed_report basis log ledger rows (legal-front basis log (map keep (report made ∷ changes)) legal) holds made (id_of ledger number) is.0 is.1 (not_true (is_due (events basis log) made.id) is.2) in
     let all : IsLegal basis (one ++ map keep changes) = subst (IsLegal basis) (sym (append_assoc log (keep (report made) ∷ []) (map keep changes))) legal in
+    let still = λ (id : List ℕ) (idle : is_due (events basis log) id ≡ false). idle_more basis log (keep (report made)) id (none_anyway (bytes_eq made.id id && is_own basis made.digest)) idle in
     subst (λ (l : List Change). Holds basis l (with_reports (with_event ledger event) numbers) rows) (append_assoc log (keep (report made) ∷ []) (map keep changes))
-    (pushed_reports basis numbers changes one (with_event ledger event) rows all first (later_reports basis log made ledger event numbers changes are))
+    (pushed_reports basis numbers changes one (with_event ledger event) rows all first (moved_reports basis log one still ledger (with_event ledger event) (λ n. refl) numbers changes are))
+pushed_reports basis _ _ log ledger rows legal holds are = absurd are
 
 -- ---- new crashes, one behind the other
 
@@ -296,11 +276,6 @@ pub pushed_new : (basis : Basis) (news : List NewCrash) (changes : List Kept) (l
     → Holds basis (log ++ map keep changes) ledger' rows
 pushed_new basis [] [] log ledger rows place ledger' end legal holds new are placed (same, same_end) =
     subst (λ (l : List Change). Holds basis l ledger' rows) (sym (append-nil log)) (subst (λ (l : LedgerState). Holds basis log l rows) (sym same) holds)
-pushed_new basis [] (change ∷ changes) log ledger rows place ledger' end legal holds new are placed pushes = absurd are
-pushed_new basis (new ∷ news) [] log ledger rows place ledger' end legal holds fresh are placed pushes = absurd are
-pushed_new basis (new ∷ news) (ask id ∷ changes) log ledger rows place ledger' end legal holds fresh (is, are) placed pushes = absurd is
-pushed_new basis (new ∷ news) (withdraw id ∷ changes) log ledger rows place ledger' end legal holds fresh (is, are) placed pushes = absurd is
-pushed_new basis (new ∷ news) (report made ∷ changes) log ledger rows place ledger' end legal holds fresh (is, are) placed pushes = absurd is
 pushed_new basis (new ∷ news) (accept crash ∷ changes) log ledger rows place ledger' end legal holds (fresh, others) (is, are) placed (filed, at, pushes) =
     let one = log ++ keep (accept crash) ∷ [] in
     let before = legal-front basis log (map keep (accept crash ∷ changes)) legal in
@@ -314,24 +289,18 @@ pushed_new basis (new ∷ news) (accept crash ∷ changes) log ledger rows place
     (pushed_new basis news changes one (record (with_event ledger (E.Accepted filed.id)) { crashes = ledger.crashes ++ filed ∷ [] }) rows (min (place + new.size) (2 ^ 64 - 1)) ledger' end all first
     (subst (λ (xs : List (List ℕ)). AreNew xs news) (sym ids) others) are
     (λ is_told. placed_next basis log (accept crash) changes place (placed is_told) new.size (size_told basis new crash.id crash.raw is.1 (is.2 is_told))) pushes)
+pushed_new basis _ _ log ledger rows place ledger' end legal holds fresh are placed pushes = absurd are
 
 -- ---- all changes that waited
 
 pub pushed_all : (basis : Basis) (log : List Change) (ledger : LedgerState) (rows : List (ℕ × List Cell)) → IsLegal basis log → Holds basis log ledger rows → (pending : Pending) (changes : List Kept) (place : ℕ) (ledger' : LedgerState) (rows' : List (ℕ × List Cell))
     → IsLegal basis (log ++ map keep changes) → Fits ledger pending → ArePending basis log ledger (Some pending) changes → (IsTrue basis.is_told → ArePlaced basis log changes place)
     → Pushes ledger rows pending place ledger' rows' → Holds basis (log ++ map keep changes) ledger' rows'
-pushed_all basis log ledger rows legal holds (P.Reports numbers) [] place ledger' rows' next fits are placed pushes = absurd are
 pushed_all basis log ledger rows legal holds (P.Reports numbers) (first ∷ more) place ledger' rows' next fits are placed (same_ledger, same_rows) =
     moved basis log ledger rows legal holds (log ++ map keep (first ∷ more)) (with_reports ledger numbers.items) ledger' rows rows' same_ledger same_rows (pushed_reports basis numbers.items (first ∷ more) log ledger rows next holds are)
-pushed_all basis log ledger rows legal holds (P.Accepts news) [] place ledger' rows' next fits are placed pushes = absurd are
 pushed_all basis log ledger rows legal holds (P.Accepts news) (first ∷ more) place ledger' rows' next fits are placed ((end, pushes), same_rows) =
     moved basis log ledger rows legal holds (log ++ map keep (first ∷ more)) ledger' ledger' rows rows' refl same_rows (pushed_new basis news.items (first ∷ more) log ledger rows place ledger' end next holds fits.3 are placed pushes)
 pushed_all basis log ledger rows legal holds (P.Accept new) (change ∷ []) place ledger' rows' next fits are placed pushes = pushed basis log ledger rows legal holds (P.Accept new) change place ledger' rows' fits are (λ is_told. placed_first basis log change [] place (placed is_told)) pushes
 pushed_all basis log ledger rows legal holds (P.Ask number) (change ∷ []) place ledger' rows' next fits are placed pushes = pushed basis log ledger rows legal holds (P.Ask number) change place ledger' rows' fits are (λ is_told. placed_first basis log change [] place (placed is_told)) pushes
 pushed_all basis log ledger rows legal holds (P.Withdraw number) (change ∷ []) place ledger' rows' next fits are placed pushes = pushed basis log ledger rows legal holds (P.Withdraw number) change place ledger' rows' fits are (λ is_told. placed_first basis log change [] place (placed is_told)) pushes
-pushed_all basis log ledger rows legal holds (P.Accept new) [] place ledger' rows' next fits are placed pushes = absurd are
-pushed_all basis log ledger rows legal holds (P.Ask number) [] place ledger' rows' next fits are placed pushes = absurd are
-pushed_all basis log ledger rows legal holds (P.Withdraw number) [] place ledger' rows' next fits are placed pushes = absurd are
-pushed_all basis log ledger rows legal holds (P.Accept new) (change ∷ other ∷ more) place ledger' rows' next fits are placed pushes = absurd are
-pushed_all basis log ledger rows legal holds (P.Ask number) (change ∷ other ∷ more) place ledger' rows' next fits are placed pushes = absurd are
-pushed_all basis log ledger rows legal holds (P.Withdraw number) (change ∷ other ∷ more) place ledger' rows' next fits are placed pushes = absurd are
+pushed_all basis log ledger rows legal holds _ _ place ledger' rows' next fits are placed pushes = absurd are

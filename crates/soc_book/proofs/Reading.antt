@@ -1,31 +1,11 @@
 -- What is read of a raw crash where the disk tells it.
 use Rattle.std.proofs.Common.{◌≡◌, ◌≢◌, ℕ, false, IsTrue, List, Option, Some, Result, Ok, Err, MatchResult, sym, ap, subst, ◌∙◌, refl}
-use Rattle.std.specs.Prelude.{slice_get}
-use Rattle.std.proofs.lemmas.Bool.{false_from_ne_true}
-use Rattle.soc_raw.specs.RawCrash.{crash_of, record_text}
-use Rattle.soc_raw.specs.Record.{Crash, IsCrash, record_of}
-use Rattle.soc_raw.specs.declared.raw_crash.RawCrash.{RawCrash}
-use Rattle.soc_raw.proofs.Records.{same_crash}
-use Rattle.soc_schema.specs.declared.value.Cell.{Cell}
-use Rattle.soc_edge.specs.Disk.{DiskTold}
-use Rattle.soc_journal.specs.Entries.{Entry}
-use Rattle.soc_journal.specs.States.{JournalState}
+use Rattle.soc_book.proofs.Words.{slice_get, false_from_ne_true, crash_of, record_text, Crash, IsCrash, record_of, RawCrash, same_crash, Cell, DiskTold, Entry, JournalState, Filed, LedgerState, id_of, IsAt, Means, Limits, Refusal, Basis, raw_of, State, entries_of, kept_of, Pending, Decodes, IsRead, Stands}
 use Rattle.soc_journal.specs.declared.error.ReadError.{ReadError}
 use Rattle.soc_journal.specs.declared.error.ReadError.TheVariants.{Altered}
-use Rattle.soc_ledger.specs.declared.crash.Filed.{Filed}
-use Rattle.soc_ledger.specs.State.{LedgerState, id_of}
-use Rattle.soc_vault.specs.Vaults.{IsAt, Means}
-use Rattle.soc_desk.specs.declared.desk.Limits.{Limits}
-use Rattle.soc_desk.specs.declared.desk.Refusal.{Refusal}
 use Rattle.soc_desk.specs.declared.desk.Refusal.TheVariants as F
-use Rattle.soc_desk.specs.Basis.{Basis}
-use Rattle.soc_desk.specs.Log.{raw_of}
-use Rattle.soc_desk.specs.State.{State, entries_of, kept_of}
-use Rattle.soc_book.specs.declared.book.Change.{Change as Pending}
-use Rattle.soc_book.specs.inner.Pieces.{Decodes, IsRead}
-use Rattle.soc_book.specs.inner.Stands.{Stands}
 use Rattle.soc_book.proofs.Filing.{IsKnown, id_of-got}
-use Rattle.soc_book.proofs.Sights.{known_at}
+use Rattle.soc_book.proofs.Lookups.{known_at}
 
 -- what the vault's read tells of an entry that stands at the place
 abbrev pub GivesAt : DiskTold → JournalState → ℕ → Result (List ℕ) ReadError → Type 0
@@ -35,7 +15,7 @@ GivesAt disk journal place result = (entries : List Entry) (doubt : List Entry) 
 module _ {basis : Basis} {limits : Limits} {ledger : LedgerState} {rows : List (ℕ × List Cell)} {pending : Option Pending} {journal : JournalState} {disk : DiskTold} {state : State}
     (stands : Stands basis limits ledger rows pending journal disk state) (number : ℕ) (f : Filed) (there : slice_get ledger.crashes number ≡ Some f) where
   pub known_here : IsTrue basis.is_told → IsKnown (entries_of (kept_of state.log)) state.log f
-  known_here is_told = known_at basis state.log ledger rows stands.legal.log stands.holds is_told number f there
+  known_here is_told = known_at stands is_told number f there
 
   pub id_here : f.id ≡ id_of ledger number
   id_here = sym (id_of-got ledger number f there)

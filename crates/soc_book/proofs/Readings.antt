@@ -1,47 +1,12 @@
 -- What the commands that read do.
 use Rattle.std.proofs.Common.{◌≡◌, ℕ, Bool, true, false, not, ◌&&◌, IsTrue, List, [], ◌∷◌, Option, Some, None, MatchOption, cond, sym, ap, subst, ◌∙◌, refl, inl, inr, ⊎_elim, append-nil}
-use Rattle.std.specs.Prelude.{is_some, filter, Result, Ok, Err, if◌then◌else◌}
-use Rattle.std.specs.List.{AllByRecursion}
-use Rattle.std.specs.Option.{option_map, option_map_or, option_and_then}
-use Rattle.soc_base.specs.Names.{value_of}
-use Rattle.soc_raw.specs.RawCrash.{crash_of}
-use Rattle.soc_raw.specs.Record.{Crash}
-use Rattle.soc_raw.specs.declared.raw_crash.RawCrash.{RawCrash}
-use Rattle.soc_schema.specs.declared.caller.Caller.{Caller}
-use Rattle.soc_schema.specs.declared.permission.Permission.{Permission}
-use Rattle.soc_schema.specs.declared.permission.Permission.TheVariants.{ViewRawdump}
-use Rattle.soc_schema.specs.declared.value.Cell.{Cell}
-use Rattle.soc_schema.specs.Fields.{permission_of_annotation}
-use Rattle.soc_schema.specs.Permits.{holds, is_granted, granted_annotations, granted_cells, shows}
-use Rattle.soc_store.specs.Stored.{row_at}
-use Rattle.soc_edge.specs.Disk.{DiskTold, Looks, DiskFailed}
-use Rattle.soc_journal.specs.States.{JournalState}
-use Rattle.soc_ledger.specs.State.{LedgerState, id_of}
-use Rattle.soc_ledger.specs.Events.{is_held}
-use Rattle.soc_ledger.specs.Reported.{has_report}
-use Rattle.soc_desk.specs.declared.desk.Command.{Command}
+use Rattle.soc_book.proofs.Words.{is_some, filter, if◌then◌else◌, AllByRecursion, option_map, option_map_or, option_and_then, value_of, crash_of, Crash, RawCrash, Caller, Permission, ViewRawdump, Cell, permission_of_annotation, holds, is_granted, granted_annotations, granted_cells, shows, row_at, DiskTold, Looks, DiskFailed, JournalState, LedgerState, id_of, is_held, has_report, Command, Limits, Refusal, Reply, IsStoreFault, IsAltered, Basis, lacked, without, IfElse, IfPermitted, Refuses, Step, Grows, IsGone, IsReplyTo, events, raw_of, row_in, State, doubted, is_in, seen_of, view_of, shows_all, Pending, Does, IsHeldAs, IsRead, Sees, product_at, HasRow, Stands}
+use Rattle.std.specs.Prelude.{Result, Ok, Err}
 use Rattle.soc_desk.specs.declared.desk.Command.TheVariants as C
-use Rattle.soc_desk.specs.declared.desk.Limits.{Limits}
-use Rattle.soc_desk.specs.declared.desk.Refusal.{Refusal}
 use Rattle.soc_desk.specs.declared.desk.Refusal.TheVariants as F
-use Rattle.soc_desk.specs.declared.desk.Reply.{Reply}
 use Rattle.soc_desk.specs.declared.desk.Reply.TheVariants as R
-use Rattle.soc_desk.specs.Asks.{IsStoreFault, IsAltered}
-use Rattle.soc_desk.specs.Basis.{Basis}
-use Rattle.soc_desk.specs.Decisions.{lacked, without}
-use Rattle.soc_desk.specs.Desk.{IfElse, IfPermitted, Refuses, Step}
-use Rattle.soc_desk.specs.Grows.{Grows, IsGone}
-use Rattle.soc_desk.specs.Kinds.{IsReplyTo}
-use Rattle.soc_desk.specs.Log.{events, raw_of, row_in}
 use Rattle.soc_desk.specs.Reads.{raw_reply, processed_reply, dump_reply, no_crash}
-use Rattle.soc_desk.specs.State.{State, doubted}
-use Rattle.soc_desk.specs.View.{is_in, seen_of, view_of}
-use Rattle.soc_desk.proofs.Found.{shows_all}
 use Rattle.soc_desk.proofs.Views.{true_is_not_false}
-use Rattle.soc_book.specs.declared.book.Change.{Change as Pending}
-use Rattle.soc_book.specs.inner.Does.{Does}
-use Rattle.soc_book.specs.inner.Pieces.{IsHeldAs, IsRead, Sees, product_at}
-use Rattle.soc_book.specs.inner.Stands.{HasRow, Stands}
 use Rattle.soc_book.proofs.Lookups.{held_is, TellsOf, tells_of, shown_view, shown_in, unseen_view, survives_looking}
 
 -- ---- permissions

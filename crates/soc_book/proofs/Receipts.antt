@@ -1,22 +1,6 @@
 -- What a receipt tells of the log.
 use Rattle.std.proofs.Common.{◌≡◌, ℕ, ◌<◌, ◌^◌, List, length, Option, ap, subst, ◌∙◌}
-use Rattle.std.proofs.lemmas.List.{length-map}
-use Rattle.soc_schema.specs.declared.value.Cell.{Cell}
-use Rattle.soc_edge.specs.Disk.{DiskTold}
-use Rattle.soc_journal.specs.States.{JournalState}
-use Rattle.soc_ledger.specs.declared.event.Event.{Event}
-use Rattle.soc_ledger.specs.Events.{has_stop}
-use Rattle.soc_ledger.specs.State.{LedgerState}
-use Rattle.soc_desk.specs.declared.desk.Command.{Command}
-use Rattle.soc_desk.specs.declared.desk.Limits.{Limits}
-use Rattle.soc_desk.specs.declared.desk.Receipt.{Receipt}
-use Rattle.soc_desk.specs.Asks.{Asks}
-use Rattle.soc_desk.specs.Basis.{Basis}
-use Rattle.soc_desk.specs.Log.{event_of}
-use Rattle.soc_desk.specs.State.{State}
-use Rattle.soc_book.specs.declared.book.Change.{Change as Pending}
-use Rattle.soc_book.specs.inner.Does.{Does}
-use Rattle.soc_book.specs.inner.Stands.{Stands}
+use Rattle.soc_book.proofs.Words.{length-map, Cell, DiskTold, JournalState, Event, has_stop, LedgerState, Command, Limits, Receipt, Asks, Basis, event_of, State, Pending, Does, Stands}
 use Rattle.soc_book.proofs.Standing.{allowed_in}
 
 pub asks_of : {basis : Basis} {limits : Limits} {ledger : LedgerState} {rows : List (ℕ × List Cell)} {pending : Option Pending} {journal : JournalState} {before after : State} {disk disk' : DiskTold} {command : Command} (receipt : Receipt)

@@ -1,47 +1,33 @@
 -- What is taken of one more entry, and that what isn't taken may not follow.
-use Rattle.std.proofs.Common.{◌≡◌, ℕ, zero, suc, ◌+◌, ◌<◌, ◌≤◌, ◌^◌, Bool, true, false, not, ◌&&◌, IsTrue, List, [], ◌∷◌, ◌++◌, length, map, Option, Some, None, IfSome, IsSome, MatchOption, inl, inr, ◌↔◌, sym, ap, subst, ◌∙◌, refl, arith}
-use Rattle.std.specs.Prelude.{is_some, is_err, slice_get, if◌then◌else◌, Result, Ok, Err, OnOk}
-use Rattle.std.specs.Option.{option_and_then, option_map, option_map_or}
-use Rattle.std.proofs.lemmas.List.{append-nil, length-map, map-append}
-use Rattle.soc_base.proofs.Folk.{none_is_not_some, some-injective}
+use Rattle.std.proofs.Common.{◌≡◌, ℕ, zero, suc, ◌+◌, ◌<◌, ◌≤◌, ◌^◌, Bool, true, false, not, ◌&&◌, IsTrue, List, [], ◌∷◌, ◌++◌, length, map, Option, Some, None, IfSome, IsSome, MatchOption, inl, inr, ◌↔◌, sym, ap, subst, ◌∙◌, refl, arith, IsSomeAnd}
+use Rattle.soc_book.proofs.Words.{is_some, is_err, slice_get, if◌then◌else◌, option_and_then, option_map_or, append-nil, length-map, map-append, none_is_not_some, some-injective, IsId, Crash, IsCrash, record_of, same_crash, Cell, TellsCrash, product_of, bare_row, Entry, accept_kind, ask_kind, withdraw_kind, report_kind, first_gate, head_size, place_behind, Filed, is_due, is_held, was_accepted, IsLegalNext, LedgerState, id_of, with_event, true_is_not_false, not_true, with_row, place_from, Basis, accepting, Accepted, Change, Kept, KeptReport, accept, ask, withdraw, report, keep, accepted_of, event_of, events, is_own, raw_of, IsSound, IsLegal, AreChanges, RefusesEntry, as_told, log_of, told, body_of, kind_of, entry_of, entries_of, AreTold, accepted_apart, Pending, NewCrash, Tells, IsReport, product_at, IsRowOf, NoCrashOf, NoReportOf, Recovers, Rows, Takes, TakesCrash, TakesId, TakesNot, TakesReport, is_among_own, kept_pair, told_pair, NoHeldOf, Holds, IsPending, Fits, Pushes}
+use Rattle.std.specs.Prelude.{Result, Ok, Err, OnOk}
 use Rattle.soc_base.specs.declared.no_memory.NoMemory.{NoMemory}
-use Rattle.soc_raw.specs.CrashId.{IsId}
-use Rattle.soc_raw.specs.Record.{Crash, IsCrash, record_of}
-use Rattle.soc_raw.proofs.Records.{same_crash}
-use Rattle.soc_schema.specs.declared.value.Cell.{Cell}
-use Rattle.soc_schema.specs.declared.value.Value.TheVariants.{Text}
-use Rattle.soc_schema.specs.Fields.{uuid_field, product_field}
-use Rattle.soc_schema.specs.Reports.{TellsCrash, product_of, bare_row}
-use Rattle.soc_schema.specs.Rows.{value_of}
-use Rattle.soc_journal.specs.Entries.{Entry, accept_kind, ask_kind, withdraw_kind, report_kind, first_gate, head_size, place_behind}
-use Rattle.soc_ledger.specs.declared.crash.Filed.{Filed}
 use Rattle.soc_ledger.specs.declared.event.Event.TheVariants as E
-use Rattle.soc_ledger.specs.Due.{is_due}
-use Rattle.soc_ledger.specs.Events.{is_held, was_accepted}
-use Rattle.soc_ledger.specs.Legal.{IsLegalNext}
-use Rattle.soc_ledger.specs.State.{LedgerState, id_of, with_event}
-use Rattle.soc_ledger.proofs.Lists.{true_is_not_false}
-use Rattle.soc_ledger.proofs.Logs.{not_true}
-use Rattle.soc_store.specs.Stored.{with_row}
-use Rattle.soc_vault.specs.Openings.{place_from}
-use Rattle.soc_desk.specs.Basis.{Basis}
-use Rattle.soc_desk.specs.Decisions.{accepting}
-use Rattle.soc_desk.specs.Log.{Accepted, Change, Kept, KeptReport, accept, ask, withdraw, report, keep, accepted_of, event_of, events, is_own, raw_of, IsSound}
-use Rattle.soc_desk.specs.Opens.{AreChanges, RefusesEntry, as_told, log_of, told}
-use Rattle.soc_desk.specs.State.{body_of, kind_of, entry_of, entries_of, kept_of}
-use Rattle.soc_desk.proofs.Found.{AreTold}
-use Rattle.soc_desk.proofs.Logs.{accepted_apart}
 use Rattle.soc_book.specs.declared.book.Change.TheVariants as P
-use Rattle.soc_book.specs.declared.submission.NewCrash.{NewCrash}
-use Rattle.soc_book.specs.inner.Books.{Tells, IsReport}
-use Rattle.soc_book.specs.inner.Pieces.{product_at}
-use Rattle.soc_book.specs.inner.Recoveries.{IsRowOf, NoCrashOf, NoReportOf, Recovers, Rows, Takes, TakesCrash, TakesId, TakesNot, TakesReport, is_among_own, kept_pair, told_pair}
-use Rattle.soc_book.specs.inner.Stands.{Holds, IsPending}
-use Rattle.soc_book.proofs.Changes.{IsSoundCrash, accepted-more, sound_crashes}
-use Rattle.soc_book.proofs.Filing.{all_got, found_at, got, id_of-got}
-use Rattle.soc_book.proofs.Kept.{IsLast, accepted_alike, changes_more, events_told, held_alike, held_id, kept_of-log, last_of, log-more, told-more, told_all, told_legal_more}
+use Rattle.soc_book.proofs.Changes.{IsSoundCrash, accepted-more, sound_crashes, IsLast}
+use Rattle.soc_book.proofs.Filing.{all_got, found_at, got, id_of-got, row_tells_crash, crash_tells_row}
+use Rattle.soc_book.proofs.Kept.{accepted_alike, changes_more, events_told, held_alike, held_id, last_of, log-more, told-more, told_legal_more, heads, tails, entries_told}
 use Rattle.soc_book.proofs.Pushing.{IsPlaced, pushed}
 use Rattle.soc_book.proofs.Reporting.{holds_report}
+
+-- ---- a change by the kind of its entry
+
+accepts_by : (change : Kept) → kind_of change ≡ accept_kind → (crash : Accepted) × (change ≡ accept crash)
+accepts_by (accept crash) is = (crash, refl)
+accepts_by _ is = absurd (omega (arith, is))
+
+asks_by : (change : Kept) → kind_of change ≡ ask_kind → change ≡ ask (body_of change)
+asks_by (ask id) is = refl
+asks_by _ is = absurd (omega (arith, is))
+
+withdraws_by : (change : Kept) → kind_of change ≡ withdraw_kind → change ≡ withdraw (body_of change)
+withdraws_by (withdraw id) is = refl
+withdraws_by _ is = absurd (omega (arith, is))
+
+reports_by : (change : Kept) → kind_of change ≡ report_kind → (made : KeptReport) × (change ≡ report made)
+reports_by (report made) is = (made, refl)
+reports_by _ is = absurd (omega (arith, is))
 
 -- ---- what the tables tell
 
@@ -52,15 +38,13 @@ base own = record { row_of = bare_row; digest = own; journal_bytes = 0; crashes 
 -- of lists that give the same, what stands at a place gives the same
 paired : {A B C : Type 0} (f : A → C) (g : B → C) (xs : List A) (ys : List B) (number : ℕ) (x : A) → map f xs ≡ map g ys → slice_get xs number ≡ Some x → (y : B) × (slice_get ys number ≡ Some y) × (f x ≡ g y)
 paired f g [] ys number x same at = absurd (none_is_not_some at)
-paired f g (a ∷ xs) [] number x same at = absurd (no_head same) where
-  no_head : f a ∷ map f xs ≡ [] → ⊥
-  no_head e = cc
-paired f g (a ∷ xs) (b ∷ ys) zero x same at = (b, refl, ap f (sym (some-injective at)) ∙ heads same) where
-  heads : f a ∷ map f xs ≡ g b ∷ map g ys → f a ≡ g b
-  heads e = cc
-paired f g (a ∷ xs) (b ∷ ys) (suc number) x same at = paired f g xs ys number x (tails same) at where
-  tails : f a ∷ map f xs ≡ g b ∷ map g ys → map f xs ≡ map g ys
-  tails e = cc
+paired f g (a ∷ xs) [] number x same at = cc
+paired f g (a ∷ xs) (b ∷ ys) zero x same at = (b, refl, ap f (sym (some-injective at)) ∙ heads same)
+paired f g (a ∷ xs) (b ∷ ys) (suc number) x same at = paired f g xs ys number x (tails same) at
+
+some_told : (P : Crash → Type 0) (raw : Option Crash) → IsSome raw → IfSome raw P → IsSomeAnd raw P
+some_told P None some tells = absurd (true_is_not_false (sym some))
+some_told P (Some raw) some tells = tells
 
 -- the accepted crash of a number
 pub record IsCrashAt (ledger : LedgerState) (kept : List Kept) (number : ℕ) : Type 0 where
@@ -113,44 +97,43 @@ module _ (own : Option (List ℕ)) (ledger : LedgerState) (rows : Rows) (start :
     sound_at : IsSoundCrash (crash_at number within).crash
     sound_at = all_got IsSoundCrash (accepted_of log) number (crash_at number within).crash (sound_crashes log are.legal.sound) (crash_at number within).at
 
-    tells_by : (row : List Cell) (raw : Option Crash) (id : List ℕ) (product : Option (List ℕ)) → IfSome raw (λ x. (x.id ≡ id) × IsCrash x) → product ≡ option_and_then product_of raw
-        → value_of row uuid_field ≡ Some (Text id) → value_of row product_field ≡ option_map Text product → IfSome raw (λ x. TellsCrash x row)
-    tells_by row None id product sound is names has = tt
-    tells_by row (Some raw) id product sound is names has =
-        record { id = names ∙ ap (λ x. Some (Text x)) (sym sound.0); product = has ∙ ap (λ o. option_map Text o) is }
+    product_here : IfSome (crash_at number within).crash.raw (λ x. product_at ledger number ≡ product_of x)
+    product_here = of_raw (crash_at number within).crash.raw (crash_at number within).product where
+      of_raw : (raw : Option Crash) → product_at ledger number ≡ option_and_then product_of raw → IfSome raw (λ x. product_at ledger number ≡ product_of x)
+      of_raw None is = tt
+      of_raw (Some raw) is = is
 
     -- a row that tells of the number's crash tells of its raw crash
     pub row_tells : (id : List ℕ) (row : List Cell) → id_of ledger number ≡ id → IsRowOf ledger number id row → IfSome (raw_of log id) (λ raw. TellsCrash raw row)
     row_tells id row id_is of =
         let c = crash_at number within in
-        let names : value_of row uuid_field ≡ Some (Text c.crash.id) = of.id ∙ ap (λ x. Some (Text x)) (sym id_is ∙ c.id) in
-        let tells = tells_by row c.crash.raw c.crash.id (product_at ledger number) sound_at.1 c.product names of.product in
-        subst (λ (o : Option Crash). IfSome o (λ raw. TellsCrash raw row)) (sym raw_at ∙ ap (λ x. raw_of log x) id_is) tells
-
-    product_by : (row : List Cell) (raw : Option Crash) (product : Option (List ℕ)) → IsSome raw → IfSome raw (λ x. TellsCrash x row) → product ≡ option_and_then product_of raw → value_of row product_field ≡ option_map Text product
-    product_by row None product some tells is = absurd (true_is_not_false (sym some))
-    product_by row (Some raw) product some tells is = tells.product ∙ ap (λ o. option_map Text o) (sym is)
+        subst (λ (o : Option Crash). IfSome o (λ raw. TellsCrash raw row)) (sym raw_at ∙ ap (λ x. raw_of log x) id_is) (row_tells_crash (product_at ledger number) id c.crash.raw c.crash.id (sym id_is ∙ c.id) sound_at.1 product_here row of)
 
     -- and the other way round
-    pub row_told : (id : List ℕ) (row : List Cell) → id_of ledger number ≡ id → value_of row uuid_field ≡ Some (Text id) → IfSome (raw_of log id) (λ raw. TellsCrash raw row) → IsRowOf ledger number id row
-    row_told id row id_is names tells =
+    pub row_told : (id : List ℕ) (row : List Cell) → id_of ledger number ≡ id → IfSome (raw_of log id) (λ raw. TellsCrash raw row) → IsRowOf ledger number id row
+    row_told id row id_is tells =
         let c = crash_at number within in
         let some : IsSome c.crash.raw = all_got (λ (x : Accepted). IsSome x.raw) (accepted_of log) number c.crash (are.legal.told refl) c.at in
         let here = subst (λ (o : Option Crash). IfSome o (λ raw. TellsCrash raw row)) (ap (λ x. raw_of log x) (sym id_is) ∙ raw_at) tells in
-        record { id = names; product = product_by row c.crash.raw (product_at ledger number) some here c.product }
+        crash_tells_row (product_at ledger number) id c.crash.raw c.crash.id (sym id_is ∙ c.id) sound_at.1 product_here row (some_told (λ raw. TellsCrash raw row) c.crash.raw some here)
 
   -- ---- one more entry
 
   module _ (entry : Entry) (place : ℕ) (at : place ≡ place_from start entries) (ends : place + head_size + length entry.body < 2 ^ 64) where
-    placed_by : (basis : Basis) (change : Kept) (b : Bool) → IsTrue b → start ≡ first_gate → entry_of change ≡ entry → IsPlaced basis (log_of (map (as_told b) r.kept)) (as_told b change) place
-    placed_by basis change false is begins same = absurd (true_is_not_false (sym is))
-    placed_by basis change true is begins same =
-        let all : entries_of (kept_of (log_of (map (as_told true) r.kept))) ≡ entries = ap entries_of (kept_of-log (map (as_told true) r.kept) ∙ told_all r.kept) ∙ sym (r.are (base own)).entries_are in
-        let body : length (body_of change) ≡ length entry.body = ap (λ (e : Entry). length e.body) same in
+    placed_by : (basis : Basis) (change : Kept) → IsTrue basis.is_told → start ≡ first_gate → entry_of change ≡ entry → IsPlaced basis (log_of (map (as_told basis.is_told) r.kept)) (as_told basis.is_told change) place
+    placed_by basis change is_told begins same =
+        let body : length (body_of (as_told basis.is_told change)) ≡ length entry.body = ap (λ b. length (body_of (as_told b change))) is_told ∙ ap (λ (e : Entry). length e.body) same in
         record {
-          place_is = at ∙ (ap (λ n. place_from n entries) begins ∙ ap (λ (es : List Entry). place_behind es) (sym all));
+          place_is = at ∙ (ap (λ n. place_from n entries) begins ∙ ap (λ (es : List Entry). place_behind es) (sym (entries_told basis entries r.kept (r.are basis) basis.is_told is_told)));
           ends = omega (arith, ends, body);
         }
+
+    -- the tables once a change that may follow is pushed
+    holds_by : (change : Kept) (waits : Pending) (ledger' : LedgerState) (rows' : Rows) → entry_of change ≡ entry → Fits ledger waits → ((basis : Basis) (changes : List Change) → IsPending basis changes ledger waits (as_told basis.is_told change)) → Pushes ledger rows waits place ledger' rows'
+        → (basis : Basis) → basis.digest ≡ own → (IsTrue basis.is_told → start ≡ first_gate) → Holds basis (log_of (map (as_told basis.is_told) r.kept) ++ keep (as_told basis.is_told change) ∷ []) ledger' rows'
+    holds_by change waits ledger' rows' same fits pending pushes basis digest begins =
+        let changes = log_of (map (as_told basis.is_told) r.kept) in
+        pushed basis changes ledger rows (r.legal basis) (r.holds basis digest begins) waits (as_told basis.is_told change) place ledger' rows' fits (pending basis changes) (λ is_told. placed_by basis change is_told (begins is_told) same) pushes
 
     -- what one more change needs
     pub record MayFollow (change : Kept) (ledger' : LedgerState) (rows' : Rows) : Type 0 where
@@ -202,10 +185,10 @@ module _ (own : Option (List ℕ)) (ledger : LedgerState) (rows : Rows) (start :
         ap with_id (sym sound.0 ∙ ap (λ (x : Crash). x.id) same) ∙ ap with_raw same
 
     same_accept : (raw : Crash) → IsCrash raw → entry.kind ≡ accept_kind → record_of raw ≡ entry.body → (basis : Basis) (last : Kept) → entry_of last ≡ entry → IsLast (told basis) log (keep last) → last ≡ accepting raw
-    same_accept raw is kind_is body basis (accept crash) same last = same_crash_by raw crash.id crash.raw is last.sound.1 (last.told refl).0 (body_is_of (accept crash) same ∙ sym body)
-    same_accept raw is kind_is body basis (ask id) same last = let wrong : 81 ≡ 65 = kind_is_of (ask id) accept_kind same kind_is in absurd (omega (arith, wrong))
-    same_accept raw is kind_is body basis (withdraw id) same last = let wrong : 87 ≡ 65 = kind_is_of (withdraw id) accept_kind same kind_is in absurd (omega (arith, wrong))
-    same_accept raw is kind_is body basis (report made) same last = let wrong : 82 ≡ 65 = kind_is_of (report made) accept_kind same kind_is in absurd (omega (arith, wrong))
+    same_accept raw is kind_is body basis last same known =
+        let c = accepts_by last (kind_is_of last accept_kind same kind_is) in
+        let here = subst (λ (k : Kept). IsLast (told basis) log (keep k)) c.1 known in
+        c.1 ∙ same_crash_by raw c.0.id c.0.raw is here.sound.1 (here.told refl).0 (ap body_of (sym c.1) ∙ (body_is_of last same ∙ sym body))
 
     accept_pending : (basis : Basis) (changes : List Change) (new : NewCrash) (raw : Crash) → Tells new raw → (b : Bool) → basis.is_told ≡ b → IsPending basis changes ledger (P.Accept new) (as_told b (accepting raw))
     accept_pending basis changes new raw tells true is = (tells.id, (tells, is), λ is_told. refl)
@@ -237,10 +220,7 @@ module _ (own : Option (List ℕ)) (ledger : LedgerState) (rows : Rows) (start :
                 ∙ (ap (λ (ps : List (List ℕ × Option (List ℕ))). ps ++ kept_pair filed ∷ []) r.crashes_are
                 ∙ (ap (λ (p : List ℕ × Option (List ℕ)). map told_pair (accepted_of log) ++ p ∷ []) filed_pair
                 ∙ sym (map-append told_pair (accepted_of log) (record { id = t.raw.id; raw = Some t.raw } ∷ [])))));
-            holds = λ basis digest begins.
-                pushed basis (log_of (map (as_told basis.is_told) r.kept)) ledger rows (r.legal basis) (r.holds basis digest begins) (P.Accept t.new) (as_told basis.is_told (accepting t.raw)) place ledger' rows'
-                t.fits (accept_pending basis (log_of (map (as_told basis.is_told) r.kept)) t.new t.raw t.tells basis.is_told refl)
-                (λ is_told. placed_by basis (accepting t.raw) basis.is_told is_told (begins is_told) (entry_as accept_kind (record_of t.raw) kind_is (sym t.whole))) t.pushes;
+            holds = holds_by (accepting t.raw) (P.Accept t.new) ledger' rows' (entry_as accept_kind (record_of t.raw) kind_is (sym t.whole)) t.fits (λ basis changes. accept_pending basis changes t.new t.raw t.tells basis.is_told refl) t.pushes;
           }
 
       -- ---- an id
@@ -258,12 +238,6 @@ module _ (own : Option (List ℕ)) (ledger : LedgerState) (rows : Rows) (start :
       ask_pending basis changes number id_is true = id_is
       ask_pending basis changes number id_is false = id_is
 
-      same_ask : entry.kind ≡ ask_kind → (last : Kept) → entry_of last ≡ entry → last ≡ ask entry.body
-      same_ask kind_is (accept crash) same = let wrong : 65 ≡ 81 = kind_is_of (accept crash) ask_kind same kind_is in absurd (omega (arith, wrong))
-      same_ask kind_is (ask id) same = ap ask (body_is_of (ask id) same)
-      same_ask kind_is (withdraw id) same = let wrong : 87 ≡ 81 = kind_is_of (withdraw id) ask_kind same kind_is in absurd (omega (arith, wrong))
-      same_ask kind_is (report made) same = let wrong : 82 ≡ 81 = kind_is_of (report made) ask_kind same kind_is in absurd (omega (arith, wrong))
-
       pub follows_ask : TakesId P.Ask ledger rows entry.body ledger' rows' → entry.kind ≡ ask_kind → MayFollow (ask entry.body) ledger' rows'
       follows_ask t kind_is = record {
         entry_is = entry_as ask_kind entry.body kind_is refl;
@@ -271,23 +245,14 @@ module _ (own : Option (List ℕ)) (ledger : LedgerState) (rows : Rows) (start :
         sound = tt;
         crashes = tt;
         few = few_same;
-        same = λ basis last same is. same_ask kind_is last same;
+        same = λ basis last same is. asks_by last (kind_is_of last ask_kind same kind_is) ∙ ap ask (body_is_of last same);
         pairs = same_pairs (ap (λ (l : LedgerState). l.crashes) (t.pushes place).0);
-        holds = λ basis digest begins.
-            pushed basis (log_of (map (as_told basis.is_told) r.kept)) ledger rows (r.legal basis) (r.holds basis digest begins) (P.Ask t.number) (as_told basis.is_told (ask entry.body)) place ledger' rows'
-            t.fits (ask_pending basis (log_of (map (as_told basis.is_told) r.kept)) t.number t.id_is basis.is_told)
-            (λ is_told. placed_by basis (ask entry.body) basis.is_told is_told (begins is_told) (entry_as ask_kind entry.body kind_is refl)) (t.pushes place);
+        holds = holds_by (ask entry.body) (P.Ask t.number) ledger' rows' (entry_as ask_kind entry.body kind_is refl) t.fits (λ basis changes. ask_pending basis changes t.number t.id_is basis.is_told) (t.pushes place);
       }
 
       withdraw_pending : (basis : Basis) (changes : List Change) (number : ℕ) → id_of ledger number ≡ entry.body → (b : Bool) → IsPending basis changes ledger (P.Withdraw number) (as_told b (withdraw entry.body))
       withdraw_pending basis changes number id_is true = id_is
       withdraw_pending basis changes number id_is false = id_is
-
-      same_withdraw : entry.kind ≡ withdraw_kind → (last : Kept) → entry_of last ≡ entry → last ≡ withdraw entry.body
-      same_withdraw kind_is (accept crash) same = let wrong : 65 ≡ 87 = kind_is_of (accept crash) withdraw_kind same kind_is in absurd (omega (arith, wrong))
-      same_withdraw kind_is (ask id) same = let wrong : 81 ≡ 87 = kind_is_of (ask id) withdraw_kind same kind_is in absurd (omega (arith, wrong))
-      same_withdraw kind_is (withdraw id) same = ap withdraw (body_is_of (withdraw id) same)
-      same_withdraw kind_is (report made) same = let wrong : 82 ≡ 87 = kind_is_of (report made) withdraw_kind same kind_is in absurd (omega (arith, wrong))
 
       pub follows_withdraw : TakesId P.Withdraw ledger rows entry.body ledger' rows' → entry.kind ≡ withdraw_kind → MayFollow (withdraw entry.body) ledger' rows'
       follows_withdraw t kind_is = record {
@@ -296,12 +261,9 @@ module _ (own : Option (List ℕ)) (ledger : LedgerState) (rows : Rows) (start :
         sound = tt;
         crashes = tt;
         few = few_same;
-        same = λ basis last same is. same_withdraw kind_is last same;
+        same = λ basis last same is. withdraws_by last (kind_is_of last withdraw_kind same kind_is) ∙ ap withdraw (body_is_of last same);
         pairs = same_pairs (ap (λ (l : LedgerState). l.crashes) (t.pushes place).0);
-        holds = λ basis digest begins.
-            pushed basis (log_of (map (as_told basis.is_told) r.kept)) ledger rows (r.legal basis) (r.holds basis digest begins) (P.Withdraw t.number) (as_told basis.is_told (withdraw entry.body)) place ledger' rows'
-            t.fits (withdraw_pending basis (log_of (map (as_told basis.is_told) r.kept)) t.number t.id_is basis.is_told)
-            (λ is_told. placed_by basis (withdraw entry.body) basis.is_told is_told (begins is_told) (entry_as withdraw_kind entry.body kind_is refl)) (t.pushes place);
+        holds = holds_by (withdraw entry.body) (P.Withdraw t.number) ledger' rows' (entry_as withdraw_kind entry.body kind_is refl) t.fits (λ basis changes. withdraw_pending basis changes t.number t.id_is basis.is_told) (t.pushes place);
       }
 
       -- ---- a report
@@ -316,10 +278,10 @@ module _ (own : Option (List ℕ)) (ledger : LedgerState) (rows : Rows) (start :
       }
 
       same_report : entry.kind ≡ report_kind → (made : KeptReport) → ((other : KeptReport) → IsReport other entry.body → other ≡ made) → (basis : Basis) (last : Kept) → entry_of last ≡ entry → IsLast (told basis) log (keep last) → last ≡ report made
-      same_report kind_is made only basis (accept crash) same is = let wrong : 65 ≡ 82 = kind_is_of (accept crash) report_kind same kind_is in absurd (omega (arith, wrong))
-      same_report kind_is made only basis (ask id) same is = let wrong : 81 ≡ 82 = kind_is_of (ask id) report_kind same kind_is in absurd (omega (arith, wrong))
-      same_report kind_is made only basis (withdraw id) same is = let wrong : 87 ≡ 82 = kind_is_of (withdraw id) report_kind same kind_is in absurd (omega (arith, wrong))
-      same_report kind_is made only basis (report other) same is = ap report (only other (report_of_sound basis other is (body_is_of (report other) same)))
+      same_report kind_is made only basis last same is =
+          let c = reports_by last (kind_is_of last report_kind same kind_is) in
+          let here = subst (λ (k : Kept). IsLast (told basis) log (keep k)) c.1 is in
+          c.1 ∙ ap report (only c.0 (report_of_sound basis c.0 here (ap body_of (sym c.1) ∙ body_is_of last same)))
 
       report_told : (b : Bool) (made : KeptReport) → as_told b (report made) ≡ report made
       report_told true made = refl
@@ -367,19 +329,17 @@ module _ (own : Option (List ℕ)) (ledger : LedgerState) (rows : Rows) (start :
   no_report : (entry : Entry) (basis : Basis) (made : KeptReport) → AreChanges basis entries r.kept → IsLast (told basis) log (keep (report made)) → body_of (report made) ≡ entry.body → NoReportOf ledger entry.body → ⊥
   no_report entry basis made are is body none =
       none made (record { is_id = held_id (told basis) log made.id is.legal is.next; long = is.sound.0; has_text = is.sound.3; whole = sym body }) (held_is (told basis) made.id ∙ is.next)
-      (λ number within id_is. row_told basis are number within made.id made.row id_is is.sound.1 is.sound.2)
+      (λ number within id_is. row_told basis are number within made.id made.row id_is is.sound.2)
+
+  no_held : (entry : Entry) (basis : Basis) (id : List ℕ) → IsLegal (told basis) log → IsTrue (is_held (events (told basis) log) id) → id ≡ entry.body → NoHeldOf ledger entry.body → ⊥
+  no_held entry basis id legal held body none =
+      none (subst IsId body (held_id (told basis) log id legal held)) (subst (λ x. IsTrue (is_held ledger.log x)) body (held_is (told basis) id ∙ held))
 
   nothing_follows : (entry : Entry) (basis : Basis) (last : Kept) → AreChanges basis entries r.kept → TakesNot ledger entry → entry_of last ≡ entry → IsLast (told basis) log (keep last) → length (accepted_of log) + length (accepted_of (keep last ∷ [])) ≤ 4294967295 → ⊥
   nothing_follows entry basis (accept crash) are none same is few =
       no_accept entry basis crash crash.raw refl is is.sound.1 (is.told refl).0 (ap (λ (e : Entry). e.body) same) few (none.accept (sym (ap (λ (e : Entry). e.kind) same)))
-  nothing_follows entry basis (ask id) are none same is few =
-      let body : id ≡ entry.body = ap (λ (e : Entry). e.body) same in
-      let held : IsTrue (is_held ledger.log id) = held_is (told basis) id ∙ is.next in
-      none.ask (sym (ap (λ (e : Entry). e.kind) same)) (subst IsId body (held_id (told basis) log id is.legal is.next)) (subst (λ x. IsTrue (is_held ledger.log x)) body held)
-  nothing_follows entry basis (withdraw id) are none same is few =
-      let body : id ≡ entry.body = ap (λ (e : Entry). e.body) same in
-      let held : IsTrue (is_held ledger.log id) = held_is (told basis) id ∙ is.next in
-      none.withdraw (sym (ap (λ (e : Entry). e.kind) same)) (subst IsId body (held_id (told basis) log id is.legal is.next)) (subst (λ x. IsTrue (is_held ledger.log x)) body held)
+  nothing_follows entry basis (ask id) are none same is few = no_held entry basis id is.legal is.next (ap (λ (e : Entry). e.body) same) (none.ask (sym (ap (λ (e : Entry). e.kind) same)))
+  nothing_follows entry basis (withdraw id) are none same is few = no_held entry basis id is.legal is.next (ap (λ (e : Entry). e.body) same) (none.withdraw (sym (ap (λ (e : Entry). e.kind) same)))
   nothing_follows entry basis (report made) are none same is few =
       no_report entry basis made are is (ap (λ (e : Entry). e.body) same) (none.report (sym (ap (λ (e : Entry). e.kind) same)))
 
@@ -399,9 +359,7 @@ nothing_yet own ledger rows start empty none =
   where
     no_kept : (others : List Kept) → [] ≡ entries_of others → others ≡ []
     no_kept [] same = refl
-    no_kept (change ∷ others) same = absurd (no_head same) where
-      no_head : [] ≡ entry_of change ∷ entries_of others → ⊥
-      no_head e = cc
+    no_kept (change ∷ others) same = cc
 
     nothing : Recovers own (record { log = []; crashes = []; room = 0 }) [] start []
     nothing = record {

@@ -1,15 +1,9 @@
 -- The body of a kept report's entry, part by part.
 use Rattle.std.proofs.Common.{◌≡◌, ◌≤◌, ℕ, ◌-◌, List, ◌++◌, length, take, drop, refl, sym, ◌∙◌, ap, subst, arith, length-append, take-append-drop}
-use Rattle.std.proofs.lemmas.List.{take_all, take_at, drop_at, drop-drop, length-drop, length-take}
-use Rattle.soc_raw.specs.CrashId.{IsId}
-use Rattle.soc_raw.proofs.Ids.{id_len}
+use Rattle.soc_book.proofs.Words.{take_all, take_at, drop_at, drop-drop, length-drop, length-take, IsId, id_len, Cell, HasText, row_text, KeptReport, IsReport}
 use Rattle.soc_raw.specs.Refusals.{Refuses}
 use Rattle.soc_raw.specs.declared.record_error.RecordError.{RecordError}
 use Rattle.soc_raw.specs.declared.record_error.RecordError.TheVariants.{BadRecord, NoMemory}
-use Rattle.soc_schema.specs.declared.value.Cell.{Cell}
-use Rattle.soc_schema.specs.RowText.{HasText, row_text}
-use Rattle.soc_desk.specs.Log.{KeptReport}
-use Rattle.soc_book.specs.inner.Books.{IsReport}
 
 module _ (made : KeptReport) (body : List ℕ) (is : IsReport made body) where
   id_count : length made.id ≡ 36

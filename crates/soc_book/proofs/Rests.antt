@@ -1,19 +1,9 @@
 -- The crashes whose reports are left to be kept, number by number.
 use Rattle.std.proofs.Common.{◌≡◌, ℕ, zero, suc, ◌+◌, ◌<◌, ◌≤◌, Bool, true, false, not, ◌&&◌, ◌||◌, cond, List, [], ◌∷◌, ◌++◌, length, drop, Some, is_some, refl, sym, ◌∙◌, ap, subst, arith}
-use Rattle.std.specs.Prelude.{bytes_eq, slice_get, filter}
-use Rattle.std.specs.List.{AllByRecursion}
-use Rattle.std.proofs.lemmas.List.{append-nil, drop_all}
-use Rattle.std.proofs.lemmas.List.Elements.{filter_map-append}
-use Rattle.soc_base.proofs.Folk.{or_true, none_is_not_some, some-injective}
-use Rattle.soc_ledger.specs.declared.crash.Standing.{Standing}
-use Rattle.soc_ledger.specs.declared.event.Event.{Event}
+use Rattle.soc_book.proofs.Words.{bytes_eq, slice_get, filter, AllByRecursion, append-nil, drop_all, filter_map-append, or_true, none_is_not_some, some-injective, Standing, Event, accepted_ids, held_ids, is_among, is_held, was_withdrawn, AreDistinct, filter-filter, filter-on, itself, all-weaker, is_to_keep, held_plain, none_passes, is_wanted, rest_ids}
 use Rattle.soc_ledger.specs.declared.event.Event.TheVariants as E
-use Rattle.soc_ledger.specs.Events.{accepted_in, accepted_ids, held_ids, is_among, is_held, was_withdrawn}
-use Rattle.soc_ledger.proofs.Lists.{AreDistinct, filter-filter, filter-on, itself}
+use Rattle.soc_ledger.specs.Events.{accepted_in}
 use Rattle.soc_ledger.proofs.Whole.{standing_others}
-use Rattle.soc_desk.specs.Keeps.{is_to_keep}
-use Rattle.soc_desk.proofs.Logs.{held_plain, none_passes}
-use Rattle.soc_book.specs.inner.Keepings.{is_wanted, rest_ids}
 use Rattle.soc_book.proofs.Filing.{all_got}
 
 -- ---- from one number to the next
@@ -59,10 +49,6 @@ ids_differ (z ∷ ids) (suc m) (suc n) x y distinct first second less = ids_diff
 abbrev keeps_by : Standing → Bool
 keeps_by s = s.has_report && (not (is_some s.due_since) && not s.is_kept)
 
-all_same : {A : Type 0} (P Q : A → Type 0) → ((x : A) → P x → Q x) → (xs : List A) → AllByRecursion P xs → AllByRecursion Q xs
-all_same P Q then [] all = tt
-all_same P Q then (x ∷ xs) all = (then x all.0, all_same P Q then xs all.1)
-
 module _ (log : List Event) (number : ℕ) (id : List ℕ) (at : slice_get (accepted_ids log) number ≡ Some id) (distinct : AreDistinct (accepted_ids log)) where
   abbrev later : List Event
   later = log ++ E.Reported id true ∷ []
@@ -79,7 +65,7 @@ module _ (log : List Event) (number : ℕ) (id : List ℕ) (at : slice_get (acce
   rest_reported =
       ap (λ ids. filter (is_wanted later) (drop (number + 1) ids)) accepted_same
       ∙ filter-on (is_wanted later) (is_wanted log) (drop (number + 1) (accepted_ids log))
-      (all_same (λ x. bytes_eq x id ≡ false) (λ x. is_wanted later x ≡ is_wanted log x) wanted_same (drop (number + 1) (accepted_ids log)) (behind_differ (accepted_ids log) number id distinct at))
+      (all-weaker (λ x. bytes_eq x id ≡ false) (λ x. is_wanted later x ≡ is_wanted log x) wanted_same (drop (number + 1) (accepted_ids log)) (behind_differ (accepted_ids log) number id distinct at))
 
 -- ---- all of them
 
@@ -92,5 +78,5 @@ pub rest_all : (log : List Event) → rest_ids log 0 ≡ filter (is_to_keep log)
 rest_all log =
     sym (filter-filter (λ id. not (was_withdrawn log id)) (is_to_keep log) (accepted_ids log)
     ∙ filter-on (λ id. not (was_withdrawn log id) && is_to_keep log id) (is_wanted log) (accepted_ids log)
-    (all_same (λ x. is_among (accepted_ids log) x ≡ true) (λ x. (not (was_withdrawn log x) && is_to_keep log x) ≡ is_wanted log x) (λ x here. sym (ap (λ b. (b && not (was_withdrawn log x)) && is_to_keep log x) here))
+    (all-weaker (λ x. is_among (accepted_ids log) x ≡ true) (λ x. (not (was_withdrawn log x) && is_to_keep log x) ≡ is_wanted log x) (λ x here. sym (ap (λ b. (b && not (was_withdrawn log x)) && is_to_keep log x) here))
     (accepted_ids log) (all_among (accepted_ids log) (accepted_ids log) (λ x here. here))))

@@ -1,33 +1,24 @@
 -- The rows of a store once more is in the log.
-use Rattle.std.proofs.Common.{◌≡◌, ◌≢◌, ℕ, ◌<◌, ◌≤◌, Bool, true, false, ◌&&◌, ◌||◌, cond, List, [], ◌∷◌, ◌++◌, reverse, Option, Some, None, sym, ap, ◌∙◌, refl, arith}
-use Rattle.std.specs.Prelude.{bytes_eq, is_some, if◌then◌else◌}
-use Rattle.std.specs.List.{AllByRecursion}
-use Rattle.std.specs.Ordering.{MatchOrdering, nat_cmp, is_eq, match_ordering}
+use Rattle.std.proofs.Common.{◌≡◌, ◌≢◌, ℕ, ◌<◌, ◌≤◌, Bool, true, false, ◌&&◌, ◌||◌, cond, List, [], ◌∷◌, ◌++◌, reverse, Option, Some, None, sym, ap, ◌∙◌, refl, arith, IsTrue, length, subst, inl, inr}
+use Rattle.soc_book.proofs.Words.{bytes_eq, is_some, if◌then◌else◌, AllByRecursion, nat_cmp, is_eq, match_ordering, Less, Equal, Greater, Cell, Event, is_due, is_held, was_accepted, has_report, reported_back, reported_after, true_is_not_false, same_text, itself, all-weaker, unknown_crash, PlacesRise, row_at, without_row, with_row, Basis, Change, Accepted, KeptReport, accept, ask, withdraw, report, keep, event_of, events, is_own, row_after, row_in, IsLegal, events-more, row_in-more, reverse-twice, held_plain, held_accept, held_withdraw, has_row, HasRow, HasRows, option_map, cases_eq, LedgerState, id_of}
 use Rattle.std.specs.declared.cmp.Ordering.{Ordering}
-use Rattle.std.specs.declared.cmp.Ordering.TheVariants.{Less, Equal, Greater}
-use Rattle.std.proofs.lemmas.Cmp.{ranked}
-use Rattle.soc_schema.specs.declared.value.Cell.{Cell}
-use Rattle.soc_ledger.specs.declared.event.Event.{Event}
+use Rattle.std.proofs.lemmas.Cmp.{ranked, nat_cmp_total}
 use Rattle.soc_ledger.specs.declared.event.Event.TheVariants as E
-use Rattle.soc_ledger.specs.Due.{is_due}
-use Rattle.soc_ledger.specs.Events.{is_held, was_accepted}
-use Rattle.soc_ledger.specs.Reported.{has_report, reported_back, reported_after}
-use Rattle.soc_ledger.proofs.Lists.{true_is_not_false, same_text, itself, reverse-more}
-use Rattle.soc_ledger.proofs.Logs.{unknown_crash}
-use Rattle.soc_store.specs.Stored.{PlacesRise, row_at, without_row}
-use Rattle.soc_desk.specs.Basis.{Basis}
-use Rattle.soc_desk.specs.Log.{Change, Accepted, KeptReport, accept, ask, withdraw, report, keep, event_of, events, is_own, row_after, row_in, IsLegal}
-use Rattle.soc_desk.proofs.Logs.{events-more, row_in-more, reverse-twice, held_plain, held_accept, held_withdraw}
-use Rattle.soc_desk.proofs.Found.{has_row}
-use Rattle.soc_book.specs.inner.Stands.{HasRow}
+use Rattle.soc_ledger.proofs.Lists.{reverse-more}
+use Rattle.soc_store.proofs.StoreLemmas.{rise_with}
+use Rattle.soc_store.proofs.Tables.{at_key-same, at_key-other, all_made}
 
 and_true : (b : Bool) → (b && true) ≡ b
 and_true true = refl
 and_true false = refl
 
-and_false : (b : Bool) → (b && false) ≡ false
+pub and_false : (b : Bool) → (b && false) ≡ false
 and_false true = refl
 and_false false = refl
+
+and_assoc : (a b c : Bool) → (a && b && c) ≡ (a && (b && c))
+and_assoc true b c = refl
+and_assoc false b c = refl
 
 pub reported-more : (log : List Event) (event : Event) (id : List ℕ) → has_report (log ++ event ∷ []) id ≡ reported_after id event (reverse log) (has_report log id)
 reported-more log event id = ap (λ back. reported_back id back) (reverse-more log event)
@@ -50,6 +41,17 @@ module _ (basis : Basis) (log : List Change) (change : Change) (id : List ℕ) w
         told = λ is_told. has.told is_told ∙ (ap (λ b. if b then row_in basis log id else None) (sym held') ∙ ap (λ r. if is_held (events basis (log ++ change ∷ [])) id then r else None) (sym row'));
       }
 
+  -- it has this row
+  pub row_has : (row : List Cell) → is_held (ev ++ event_of basis change ∷ []) id ≡ true → has_report (ev ++ event_of basis change ∷ []) id ≡ true → (IsTrue basis.is_told → row_after basis id change (reverse log) (row_in basis log id) ≡ Some row)
+      → HasRow basis (log ++ change ∷ []) id (Some row)
+  row_has row held reported is =
+      let held' : is_held (events basis (log ++ change ∷ [])) id ≡ true = ap (λ l. is_held l id) (events-more basis log change) ∙ held in
+      let reported' : has_report (events basis (log ++ change ∷ [])) id ≡ true = ap (λ l. has_report l id) (events-more basis log change) ∙ reported in
+      record {
+        has = sym (ap (λ b. b && has_report (events basis (log ++ change ∷ [])) id) held' ∙ reported');
+        told = λ is_told. sym (ap (λ b. if b then row_in basis (log ++ change ∷ []) id else None) held' ∙ (row_in-more basis log change id ∙ is is_told));
+      }
+
   -- it isn't held any longer
   pub row_gone : is_held (ev ++ event_of basis change ∷ []) id ≡ false → HasRow basis (log ++ change ∷ []) id None
   row_gone gone =
@@ -59,7 +61,7 @@ module _ (basis : Basis) (log : List Change) (change : Change) (id : List ℕ) w
         told = λ is_told. sym (ap (λ b. if b then row_in basis (log ++ change ∷ []) id else None) gone');
       }
 
-none_of : {A : Type 0} (o : Option A) → is_some o ≡ false → o ≡ None
+pub none_of : {A : Type 0} (o : Option A) → is_some o ≡ false → o ≡ None
 none_of None is = refl
 none_of (Some x) is = absurd (true_is_not_false is)
 
@@ -101,55 +103,64 @@ module _ (basis : Basis) (log : List Change) (legal : IsLegal basis log) where
   pub row_withdrawn : (id : List ℕ) → HasRow basis (log ++ keep (withdraw id) ∷ []) id None
   row_withdrawn id = row_gone basis log (keep (withdraw id)) id (held_withdraw now id id true (itself id) ∙ and_false (is_held now id))
 
-  -- a report of a crash that isn't due
-  idle_same : (made : KeptReport) (id : List ℕ) (b : Bool) → bytes_eq made.id id ≡ b → is_due now made.id ≡ false → (b && is_due now id) ≡ false
-  idle_same made id true same idle = ap (λ x. is_due now x) (sym (same_text made.id id same)) ∙ idle
-  idle_same made id false differs idle = refl
+-- ---- a report of a crash
 
-  swap_and : (b own d : Bool) → (b && d) ≡ false → (b && own && d) ≡ false
-  swap_and true true d none = none
-  swap_and true false d none = refl
-  swap_and false own d none = refl
+module _ (basis : Basis) (log : List Change) (made : KeptReport) where
+  abbrev reported : List Change
+  reported = log ++ keep (report made) ∷ []
 
-  swap_and' : (b own d : Bool) → (b && d) ≡ false → (b && (own && d)) ≡ false
-  swap_and' true true d none = none
-  swap_and' true false d none = refl
-  swap_and' false own d none = refl
+  abbrev own : Bool
+  own = is_own basis made.digest
 
-  pub row_report : (made : KeptReport) (id : List ℕ) (row : Option (List Cell)) → is_due now made.id ≡ false → HasRow basis log id row → HasRow basis (log ++ keep (report made) ∷ []) id row
-  row_report made id row idle has =
-      let none = idle_same made id (bytes_eq made.id id) refl idle in
-      let own = is_own basis made.digest in
-      row_same basis log (keep (report made)) id row (held_plain now (E.Reported made.id own) id refl refl)
-      (reported-more now (E.Reported made.id own) id ∙ ap (λ b. b || has_report now id) (swap_and (bytes_eq made.id id) own (is_due now id) none))
-      (ap (λ d. if bytes_eq made.id id && (own && d) then Some made.row else row_in basis log id) (ap (λ l. is_due (events basis l) id) (reverse-twice log))
-      ∙ ap (λ b. if b then Some made.row else row_in basis log id) (swap_and' (bytes_eq made.id id) own (is_due now id) none))
+  abbrev pub counts : Bool
+  counts = own && is_due (events basis log) made.id
+
+  -- where it counts for nothing of the crash of an id, the row of that one stays
+  stays : (id : List ℕ) (row : Option (List Cell)) → (bytes_eq made.id id && (own && is_due (events basis log) id)) ≡ false → HasRow basis log id row → HasRow basis reported id row
+  stays id row none has =
+      row_same basis log (keep (report made)) id row (held_plain (events basis log) (E.Reported made.id own) id refl refl)
+      (reported-more (events basis log) (E.Reported made.id own) id ∙ ap (λ b. b || has_report (events basis log) id) (and_assoc (bytes_eq made.id id) own (is_due (events basis log) id) ∙ none))
+      (ap (λ l. if bytes_eq made.id id && (own && is_due (events basis l) id) then Some made.row else row_in basis log id) (reverse-twice log) ∙ ap (λ b. if b then Some made.row else row_in basis log id) none)
       has
+
+  idle_by : (id : List ℕ) (b : Bool) → bytes_eq made.id id ≡ b → counts ≡ false → (b && (own && is_due (events basis log) id)) ≡ false
+  idle_by id true same idle = ap (λ x. own && is_due (events basis log) x) (sym (same_text made.id id same)) ∙ idle
+  idle_by id false same idle = refl
+
+  pub row_idle : (id : List ℕ) (row : Option (List Cell)) → counts ≡ false → HasRow basis log id row → HasRow basis reported id row
+  row_idle id row idle has = stays id row (idle_by id (bytes_eq made.id id) refl idle) has
+
+  pub row_unreported : (id : List ℕ) (row : Option (List Cell)) → bytes_eq made.id id ≡ false → HasRow basis log id row → HasRow basis reported id row
+  row_unreported id row differs has = stays id row (ap (λ b. b && (own && is_due (events basis log) id)) differs) has
+
+  -- where it counts, its row is the crash's
+  pub row_counts : counts ≡ true → is_held (events basis log) made.id ≡ true → HasRow basis reported made.id (Some made.row)
+  row_counts is held =
+      row_has basis log (keep (report made)) made.id made.row (held_plain (events basis log) (E.Reported made.id own) made.id refl refl ∙ held)
+      (reported-more (events basis log) (E.Reported made.id own) made.id
+      ∙ (ap (λ b. (b && own && is_due (events basis log) made.id) || has_report (events basis log) made.id) (itself made.id) ∙ ap (λ b. b || has_report (events basis log) made.id) is))
+      (λ is_told.
+      ap (λ l. if bytes_eq made.id made.id && (own && is_due (events basis l) made.id) then Some made.row else row_in basis log made.id) (reverse-twice log)
+      ∙ (ap (λ b. if b && (own && is_due (events basis log) made.id) then Some made.row else row_in basis log made.id) (itself made.id) ∙ ap (λ b. if b then Some made.row else row_in basis log made.id) is))
 
 -- ---- the rows at other places
 
-compared : (x y : ℕ) (r : Ordering) → r ≡ nat_cmp x y → MatchOrdering r (x < y) (x ≡ y) (y < x)
-compared x y r is = ranked x y r is
-
 apart_eq : (x y : ℕ) (r : Ordering) → r ≡ nat_cmp x y → x ≢ y → is_eq r ≡ false
 apart_eq x y Less is differs = refl
-apart_eq x y Equal is differs = absurd (differs (compared x y Equal is))
+apart_eq x y Equal is differs = absurd (differs (ranked x y Equal is))
 apart_eq x y Greater is differs = refl
 
--- no row stands at a place past all
-pub no_row_past : (p : ℕ) (rows : List (ℕ × List Cell)) → AllByRecursion (λ s. s.0 < p) rows → row_at p rows ≡ None
-no_row_past p [] all = refl
-no_row_past p (t ∷ ts) all =
-    let below : t.0 < p = all.0 in
-    let differs : p ≢ t.0 = omega arith in
-    ap (λ b. cond b (Some t) (row_at p ts)) (apart_eq p t.0 (nat_cmp p t.0) refl differs) ∙ no_row_past p ts all.1
+pub row_behind : (p : ℕ) (s : ℕ × List Cell) (ss : List (ℕ × List Cell)) → p ≢ s.0 → row_at p (s ∷ ss) ≡ row_at p ss
+row_behind p s ss differs = ap (λ b. cond b (Some s) (row_at p ss)) (apart_eq p s.0 (nat_cmp p s.0) refl differs)
+
+-- no row stands at a place that is none of theirs
+pub no_row : (p : ℕ) (rows : List (ℕ × List Cell)) → AllByRecursion (λ s. p ≢ s.0) rows → row_at p rows ≡ None
+no_row p [] all = refl
+no_row p (t ∷ ts) all = row_behind p t ts all.0 ∙ no_row p ts all.1
 
 no_row_below : (p q : ℕ) (rows : List (ℕ × List Cell)) → p ≤ q → AllByRecursion (λ u. nat_cmp q u.0 ≡ Less) rows → row_at p rows ≡ None
-no_row_below p q [] low all = refl
-no_row_below p q (t ∷ ts) low all =
-    let above : q < t.0 = compared q t.0 Less (sym all.0) in
-    let differs : p ≢ t.0 = omega arith in
-    ap (λ b. cond b (Some t) (row_at p ts)) (apart_eq p t.0 (nat_cmp p t.0) refl differs) ∙ no_row_below p q ts low all.1
+no_row_below p q rows low all =
+    no_row p rows (all-weaker (λ u. nat_cmp q u.0 ≡ Less) (λ u. p ≢ u.0) (λ u less. let above : q < u.0 = ranked q u.0 Less (sym less) in let differs : p ≢ u.0 = omega arith in differs) rows all)
 
 -- the row at a place that another is taken from
 pub row_at-others : (p q : ℕ) (rows : List (ℕ × List Cell)) → q ≢ p → row_at q (without_row p rows) ≡ row_at q rows
@@ -158,9 +169,9 @@ row_at-others p q (t ∷ ts) differs =
     elim (nat_cmp p t.0) as (λ r. nat_cmp p t.0 ≡ r → row_at q (match_ordering r (t ∷ ts) ts (t ∷ without_row p ts)) ≡ row_at q (t ∷ ts)) [
       | Less ↦ λ is. refl
       | Equal ↦ λ is.
-          let here : p ≡ t.0 = compared p t.0 Equal (sym is) in
+          let here : p ≡ t.0 = ranked p t.0 Equal (sym is) in
           let other : q ≢ t.0 = λ same. differs (same ∙ sym here) in
-          sym (ap (λ b. cond b (Some t) (row_at q ts)) (apart_eq q t.0 (nat_cmp q t.0) refl other))
+          sym (row_behind q t ts other)
       | Greater ↦ λ is. ap (λ o. cond (is_eq (nat_cmp q t.0)) (Some t) o) (row_at-others p q ts differs)
     ] refl
 
@@ -170,11 +181,11 @@ row_at-taken p [] rise = refl
 row_at-taken p (t ∷ ts) rise =
     elim (nat_cmp p t.0) as (λ r. nat_cmp p t.0 ≡ r → row_at p (match_ordering r (t ∷ ts) ts (t ∷ without_row p ts)) ≡ None) [
       | Less ↦ λ is.
-          let below : p < t.0 = compared p t.0 Less (sym is) in
+          let below : p < t.0 = ranked p t.0 Less (sym is) in
           let low : p ≤ t.0 = omega arith in
           ap (λ r. cond (is_eq r) (Some t) (row_at p ts)) is ∙ no_row_below p t.0 ts low rise.0
       | Equal ↦ λ is.
-          let here : p ≡ t.0 = compared p t.0 Equal (sym is) in
+          let here : p ≡ t.0 = ranked p t.0 Equal (sym is) in
           let low : p ≤ t.0 = omega arith in
           no_row_below p t.0 ts low rise.0
       | Greater ↦ λ is. ap (λ r. cond (is_eq r) (Some t) (row_at p (without_row p ts))) is ∙ row_at-taken p ts rise.1
@@ -188,3 +199,24 @@ all_left P p (t ∷ ts) all =
       | Equal ↦ all.1
       | Greater ↦ (all.0, all_left P p ts all.1)
     ]
+
+-- ---- a row that is put
+
+row_at-with : (p : ℕ) (row : List Cell) (rows : List (ℕ × List Cell)) → PlacesRise rows → row_at p (with_row (p, row) rows) ≡ Some (p, row)
+row_at-with p row rows rise = at_key-same (λ s. s.0) nat_cmp_total p (λ _. (p, row)) (λ _. refl) rows rise
+
+row_at-with_other : (p : ℕ) (row : List Cell) (q : ℕ) (rows : List (ℕ × List Cell)) → q ≢ p → row_at q (with_row (p, row) rows) ≡ row_at q rows
+row_at-with_other p row q rows other = at_key-other (λ s. s.0) nat_cmp_total p (λ _. (p, row)) (λ _. refl) q rows (apart_eq q p (nat_cmp q p) refl other)
+
+-- the crash of a number has this row, and the others have theirs
+pub rows_put : (basis : Basis) (log log' : List Change) (ledger : LedgerState) (rows : List (ℕ × List Cell)) → HasRows basis log ledger rows → (number : ℕ) (row : List Cell) → number < length ledger.crashes → HasRow basis log' (id_of ledger number) (Some row)
+    → ((other : ℕ) → other < length ledger.crashes → other ≢ number → HasRow basis log' (id_of ledger other) (option_map (λ s. s.1) (row_at other rows))) → HasRows basis log' ledger (with_row (number, row) rows)
+rows_put basis log log' ledger rows are number row within has others = record {
+  rise = rise_with number row rows are.rise;
+  each = λ other less. elim (cases_eq other number) [
+    | inl here ↦ subst (λ n. HasRow basis log' (id_of ledger n) (option_map (λ s. s.1) (row_at n (with_row (number, row) rows)))) (sym here)
+        (subst (HasRow basis log' (id_of ledger number)) (sym (ap (option_map (λ s. s.1)) (row_at-with number row rows are.rise))) has)
+    | inr differs ↦ subst (HasRow basis log' (id_of ledger other)) (sym (ap (option_map (λ s. s.1)) (row_at-with_other number row other rows differs))) (others other less differs)
+  ];
+  no_other = all_made (λ s. s.0) nat_cmp_total number (λ _. (number, row)) (λ _. refl) (λ s. s.0 < length ledger.crashes) rows within (λ s was. within) are.no_other;
+}

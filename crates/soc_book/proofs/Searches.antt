@@ -1,41 +1,19 @@
 -- What searches and top crashers do: they are answered by the rows of the caller's view.
-use Rattle.std.proofs.Common.{◌≡◌, ℕ, ◌+◌, ◌<◌, ◌≤◌, true, false, IsTrue, List, [], ◌∷◌, length, map, Option, Some, sym, ap, subst, ◌∙◌, refl, arith, nat_eq, inl, inr}
-use Rattle.std.specs.Prelude.{◌||◌, filter_map}
-use Rattle.std.specs.List.{AllByRecursion, list_any}
-use Rattle.std.specs.Option.{option_map}
-use Rattle.std.proofs.lemmas.Bool.{eqb-true}
-use Rattle.soc_schema.specs.declared.caller.Caller.{Caller}
-use Rattle.soc_schema.specs.declared.value.Cell.{Cell}
-use Rattle.soc_raw.specs.Record.{Crash}
-use Rattle.soc_schema.specs.Permits.{Granted, is_granted}
-use Rattle.soc_schema.specs.Reports.{TellsCrash}
-use Rattle.soc_store.specs.Stored.{row_at}
+use Rattle.std.proofs.Common.{◌≡◌, ℕ, ◌+◌, ◌<◌, ◌≤◌, true, false, IsTrue, List, [], ◌∷◌, length, map, Option, Some, sym, ap, subst, ◌∙◌, refl, arith, nat_eq, inl}
+use Rattle.soc_book.proofs.Words.{filter_map, AllByRecursion, list_any, option_map, eqb-true, Caller, Cell, Crash, Granted, is_granted, TellsCrash, row_at, HaveOwnIds, ListTheSame, seen_rows, DiskTold, Looks, JournalState, LedgerState, Limits, Basis, RowsTell, IsReplyTo, accepted_of, State, entries_of, kept_of, view_of, rows_in, all_weaker, Pending, Does, Stands, shown_row}
+use Rattle.std.specs.Prelude.{◌||◌}
 use Rattle.soc_query.specs.declared.answer.Answer.{Answer}
 use Rattle.soc_query.specs.Answers.{answer_of, columns_of, facet_of, matching_rows}
 use Rattle.soc_query.specs.Queries.{AreGranted, Asked}
-use Rattle.soc_search.specs.Seen.{HaveOwnIds, ListTheSame, seen_rows}
 use Rattle.soc_tops.specs.declared.query.TopsQuery.{TopsQuery}
 use Rattle.soc_tops.specs.declared.tops.Tops.{Tops}
 use Rattle.soc_tops.specs.Tops.{tops_of}
-use Rattle.soc_edge.specs.Disk.{DiskTold, Looks}
-use Rattle.soc_journal.specs.States.{JournalState}
-use Rattle.soc_ledger.specs.State.{LedgerState}
 use Rattle.soc_desk.specs.declared.desk.Command.TheVariants as C
-use Rattle.soc_desk.specs.declared.desk.Limits.{Limits}
-use Rattle.soc_desk.specs.declared.desk.Refusal.TheVariants as F
 use Rattle.soc_desk.specs.declared.desk.Reply.TheVariants as R
-use Rattle.soc_desk.specs.Basis.{Basis, RowsTell}
-use Rattle.soc_desk.specs.Kinds.{IsReplyTo}
-use Rattle.soc_desk.specs.Log.{accepted_of}
-use Rattle.soc_desk.specs.State.{State, entries_of, kept_of}
-use Rattle.soc_desk.specs.View.{view_of, rows_in}
 use Rattle.soc_desk.proofs.Unseen.{every}
-use Rattle.soc_desk.proofs.Views.{true_is_not_false, all_weaker}
-use Rattle.soc_book.specs.declared.book.Change.{Change as Pending}
-use Rattle.soc_book.specs.inner.Does.{Does}
-use Rattle.soc_book.specs.inner.Stands.{Stands, shown_row}
+use Rattle.soc_desk.proofs.Views.{true_is_not_false}
 use Rattle.soc_book.proofs.Listings.{AreSame, ids_of, listed, same_rows}
-use Rattle.soc_book.proofs.Lookups.{filed_ids}
+use Rattle.soc_book.proofs.Filing.{filed_ids}
 use Rattle.soc_book.proofs.Readings.{all_passing, stays}
 
 -- the rows of a basis are a reporter's, which tell of their crashes

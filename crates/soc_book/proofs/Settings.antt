@@ -2,8 +2,7 @@
 use Rattle.std.proofs.Common.{◌∙◌}
 use Rattle.soc_edge.specs.declared.disk.Disk as disk
 use Rattle.soc_schema.specs.declared.reporter.Reporter as reporter
-use Rattle.soc_book.specs.declared.book.Book.{Book}
-use Rattle.soc_book.specs.Books.{SameSetting}
+use Rattle.soc_book.proofs.Words.{Book, SameSetting}
 
 pub same_setting : {D R : Type 0} {d : disk.Ghosts D} {r : reporter.Ghosts R} {before between after : Book D R d r} → SameSetting before between → SameSetting between after → SameSetting before after
 same_setting first second =

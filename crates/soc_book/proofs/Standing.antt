@@ -1,40 +1,17 @@
 -- What settling, appending and reading leave of a book that stands for a state.
-use Rattle.std.proofs.Common.{◌≡◌, ◌≢◌, ◌⊎◌, inl, inr, ℕ, ◌+◌, ◌-◌, ◌<◌, ◌≤◌, ◌^◌, min, true, false, IsTrue, List, [], ◌∷◌, ◌++◌, length, map, Option, Some, None, IfSome, IsSomeAnd, Result, Ok, Err, sym, ap, subst, ◌∙◌, refl, arith, length-append}
-use Rattle.std.specs.Prelude.{is_some}
-use Rattle.std.proofs.lemmas.Bool.{leb-true}
-use Rattle.std.proofs.lemmas.Bool.Decides.{leb_tells}
-use Rattle.std.proofs.lemmas.List.{map-append}
-use Rattle.soc_schema.specs.declared.value.Cell.{Cell}
-use Rattle.soc_edge.specs.Disk.{DiskTold, IsDisk, GoesOn, LeavesOnly, DiskFailed}
+use Rattle.std.proofs.Common.{◌≡◌, ◌⊎◌, inl, inr, ℕ, ◌+◌, ◌-◌, ◌<◌, ◌≤◌, ◌^◌, min, true, false, IsTrue, List, [], ◌∷◌, ◌++◌, length, map, Option, Some, None, IfSome, IsSomeAnd, Result, Ok, Err, sym, ap, subst, ◌∙◌, refl, arith, length-append}
+use Rattle.soc_book.proofs.Words.{is_some, leb-true, cases_lt, le-leb, false_from_ne_true, map-append, Cell, DiskTold, IsDisk, GoesOn, LeavesOnly, DiskFailed, LeavesOnly-weaker, length-sealed, length-sealed_all, sealed_one, Entry, beside_body, place_behind, sealed_all, JournalState, AtRest, InDoubt, IsKeptAt, journal_after, accepted_ids, is_held, was_accepted, Filed, LedgerState, id_of, with_event, true_is_not_false, accepted_ids-more, Means, settled_entries, Limits, Basis, Change, Kept, keep, IsLegal, State, settled, Settles, entry_of, entries_of, kept_of, body_of, has_room, Allowed, Survives, Pending, NewCrash, AreAppended, AcceptsNone, AreBounds, AreHeld, AreNew, Fits, FitJournal, FitNew, FitReports, HasRoom, IsFiledAt, IsSafe, Pushes, PushesNew, AddsSettled, Holds, ArePending, IsOnDisk, Stands, most_together, with_reports}
 use Rattle.soc_edge.specs.declared.failed.Failed.{Failed}
-use Rattle.soc_edge.proofs.Disks.{LeavesOnly-weaker}
-use Rattle.soc_journal.proofs.Texts.{length-sealed, length-sealed_all, sealed_one}
-use Rattle.soc_journal.specs.Entries.{Entry, beside_body, place_behind, sealed_all}
-use Rattle.soc_journal.specs.States.{JournalState, AtRest, InDoubt, IsKeptAt, journal_after}
 use Rattle.soc_journal.specs.Text.{JournalText, EitherText}
 use Rattle.soc_journal.specs.declared.settled.Settled.{Settled}
 use Rattle.soc_journal.specs.declared.settled.Settled.TheVariants as S
 use Rattle.soc_ledger.specs.declared.event.Event.TheVariants as E
-use Rattle.soc_ledger.specs.declared.event.Event.{Event}
-use Rattle.soc_ledger.specs.Events.{accepted_ids, accepted_in as accepts, withdrawn_in as withdraws, is_among, is_held, was_accepted}
-use Rattle.soc_ledger.specs.declared.crash.Filed.{Filed}
-use Rattle.soc_ledger.specs.State.{LedgerState, id_of, with_event}
-use Rattle.soc_ledger.proofs.Lists.{true_is_not_false}
-use Rattle.soc_ledger.proofs.More.{accepted_ids-more}
-use Rattle.soc_vault.specs.Vaults.{Means, StandsFor as VaultStandsFor, settled_entries}
-use Rattle.soc_desk.specs.declared.desk.Limits.{Limits}
+use Rattle.soc_vault.specs.Vaults.{StandsFor as VaultStandsFor}
 use Rattle.soc_desk.specs.declared.desk.Refusal.TheVariants as F
-use Rattle.soc_desk.specs.Basis.{Basis}
-use Rattle.soc_desk.specs.Log.{Change, Kept, keep, IsLegal}
-use Rattle.soc_desk.specs.State.{State, settled, Settles, entry_of, entries_of, kept_of, body_of, has_room, Allowed, Survives}
-use Rattle.soc_desk.proofs.Logs.{held_plain}
-use Rattle.soc_book.specs.declared.book.Change.{Change as Pending}
 use Rattle.soc_book.specs.declared.book.Change.TheVariants as P
-use Rattle.soc_book.specs.declared.submission.NewCrash.{NewCrash}
-use Rattle.soc_book.specs.inner.Pieces.{AreAppended, IsAppended}
-use Rattle.soc_book.specs.inner.Stands.{AreHeld, AreNew, Fits, FitJournal, FitNew, FitReports, IsFiledAt, IsSafe, Pushes, PushesNew, AddsSettled, Holds, IsPending, ArePending, IsOnDisk, Stands, most_together, with_reports}
-use Rattle.soc_book.proofs.Changes.{entries-all, settled-legal, doubt-legal}
-use Rattle.soc_book.proofs.Pushing.{ArePlaced, pushed_all}
+use Rattle.soc_book.proofs.Changes.{entries-all, settled-legal}
+use Rattle.soc_book.proofs.Pushing.{ArePlaced, held_behind, pushed_all}
+use Rattle.soc_book.proofs.Rows.{none_of}
 
 -- ---- the gate of a journal that means these entries
 
@@ -81,13 +58,13 @@ abbrev pub IsClean : Result Settled Failed → Type 0
 IsClean result = result ≡ Ok S.Clean
 
 limit-kept : (journal : JournalState) (result : Result Settled Failed) → (journal_after journal result).limit ≡ journal.limit
+limit-kept journal (Err failed) = refl
 limit-kept journal (Ok S.Clean) = refl
 limit-kept journal (Ok (S.Kept place)) = refl
 limit-kept journal (Ok S.Dropped) = refl
-limit-kept journal (Err failed) = refl
 
 -- nothing waits without a doubt
-none_pending_of : (basis : Basis) (log : List Change) (ledger : LedgerState) (pending : Pending) → ArePending basis log ledger (Some pending) [] → ⊥
+pub none_pending_of : (basis : Basis) (log : List Change) (ledger : LedgerState) (pending : Pending) → ArePending basis log ledger (Some pending) [] → ⊥
 none_pending_of basis log ledger (P.Accept new) are = are
 none_pending_of basis log ledger (P.Accepts news) are = are
 none_pending_of basis log ledger (P.Ask number) are = are
@@ -102,10 +79,7 @@ module _ (basis : Basis) (limits : Limits) (ledger : LedgerState) (rows : List (
     legal = stands.legal;
     holds = stands.holds;
     doubt = stands.doubt;
-    crashes = stands.crashes;
-    bytes = stands.bytes;
-    limit = ap (λ (j : JournalState). j.limit) same ∙ stands.limit;
-    short = stands.short;
+    bounds = subst (AreBounds basis limits) (sym (ap (λ (j : JournalState). j.limit) same)) stands.bounds;
     told = λ is_told. let on = stands.told is_told in record { means = moves (entries_of (kept_of state.log)) (entries_of state.doubt) on.means; fits = on.fits };
   }
 
@@ -119,10 +93,7 @@ module _ (basis : Basis) (limits : Limits) (ledger : LedgerState) (rows : List (
       legal = settled-legal basis log legal;
       holds = holds;
       doubt = tt;
-      crashes = stands.crashes;
-      bytes = stands.bytes;
-      limit = ap (λ (j : JournalState). j.limit) after ∙ (limit-kept journal (Ok outcome) ∙ stands.limit);
-      short = stands.short;
+      bounds = subst (AreBounds basis limits) (sym (ap (λ (j : JournalState). j.limit) after ∙ limit-kept journal (Ok outcome))) stands.bounds;
       told = λ is_told. record {
         means = subst (λ (es : List Entry). Means disk' journal' es []) (same is_told) (moves (entries_of (kept_of state.log)) (entries_of state.doubt) (stands.told is_told).means);
         fits = tt;
@@ -133,43 +104,8 @@ module _ (basis : Basis) (limits : Limits) (ledger : LedgerState) (rows : List (
     stays log holds same_ledger same_rows = subst (λ (l : LedgerState). Holds basis log l rows') (sym same_ledger) (subst (λ (r : List (ℕ × List Cell)). Holds basis log ledger r) (sym same_rows) holds)
 
 -- where the entries of changes of the log stand
-placed : (basis : Basis) (journal : JournalState) (log : List Change) (first : Kept) (more : List Kept) (place : ℕ) → basis.journal_bytes < 2 ^ 64 → place ≡ journal.gate → journal.gate ≡ place_behind (entries_of (kept_of log))
-    → FitJournal basis log (first ∷ more) → ArePlaced basis log (first ∷ more) place
-placed basis journal log first more place short at gate fits = record { place_is = at ∙ gate; ends = omega (arith, at, gate, fits, length-sealed_all (entries_of (first ∷ more)), short) }
-
--- whether the entry of a change fits
-module _ (basis : Basis) (journal : JournalState) (disk : DiskTold) (log : List Change) (change : Kept) (limit : journal.limit ≡ basis.journal_bytes) (short : basis.journal_bytes < 2 ^ 64) where
-  abbrev behind : ℕ
-  behind = place_behind (entries_of (kept_of log))
-
-  size_one : length (sealed_all (entries_of (change ∷ []))) ≡ beside_body + length (body_of change)
-  size_one = ap (λ (x : List ℕ). length x) (sealed_one (entry_of change)) ∙ length-sealed (entry_of change)
-
-  pub fit_one : has_room basis log change ≡ true → FitJournal basis log (change ∷ [])
-  fit_one room =
-      let fits : behind + beside_body + length (body_of change) ≤ basis.journal_bytes = leb-true (behind + beside_body + length (body_of change)) basis.journal_bytes room in
-      omega (arith, fits, size_one)
-
-  pub has_its_room : (body : List ℕ) → body ≡ body_of change → journal.gate ≡ behind → (journal.limit < journal.gate + beside_body + length body → ⊥) → has_room basis log change ≡ true
-  has_its_room body same gate not_full =
-      elim (leb_tells (behind + beside_body + length (body_of change)) basis.journal_bytes) [
-        | inl both ↦ both.0
-        | inr both ↦
-            let long : length body ≡ length (body_of change) = ap (λ (b : List ℕ). length b) same in
-            let over : basis.journal_bytes < behind + beside_body + length (body_of change) = both.1 in
-            let full : journal.limit < journal.gate + beside_body + length body = omega arith in
-            absurd (not_full full)
-      ]
-
-  pub has_no_room : (body : List ℕ) → body ≡ body_of change → journal.gate ≡ behind → journal.limit < journal.gate + beside_body + length body → has_room basis log change ≡ false
-  has_no_room body same gate full =
-      elim (leb_tells (behind + beside_body + length (body_of change)) basis.journal_bytes) [
-        | inl both ↦
-            let long : length body ≡ length (body_of change) = ap (λ (b : List ℕ). length b) same in
-            let under : behind + beside_body + length (body_of change) ≤ basis.journal_bytes = both.1 in
-            absurd (omega arith)
-        | inr both ↦ both.0
-      ]
+placed : (basis : Basis) (journal : JournalState) (log : List Change) (changes : List Kept) (place : ℕ) → basis.journal_bytes < 2 ^ 64 → place ≡ journal.gate → journal.gate ≡ place_behind (entries_of (kept_of log)) → HasRoom basis log changes → ArePlaced basis log changes place
+placed basis journal log changes place short at gate room = record { place_is = at ∙ gate; ends = omega (arith, at, gate, room, length-sealed_all (entries_of changes), short) }
 
 module _ (basis : Basis) (limits : Limits) (ledger ledger' : LedgerState) (rows rows' : List (ℕ × List Cell)) (journal journal' : JournalState) (disk disk' : DiskTold) where
   -- a settled doubt: the changes are in the log, all of them, or they are forgotten
@@ -200,193 +136,129 @@ module _ (basis : Basis) (limits : Limits) (ledger ledger' : LedgerState) (rows 
         inl refl,
         settles_to basis limits ledger rows (Some pending) journal disk ledger' rows' journal' disk' (S.Kept place) safe clean at after moves (log ++ map keep (first ∷ more)) (record { log = log; doubt = first ∷ more }) stands stands.legal.doubt
             (pushed_all basis log ledger rows stands.legal.log stands.holds pending (first ∷ more) place ledger' rows' stands.legal.doubt safe.fits stands.doubt
-            (λ is_told. placed basis journal log first more place stands.short at (gate is_told) (room is_told)) adds)
+            (λ is_told. placed basis journal log (first ∷ more) place stands.bounds.short at (gate is_told) (room is_told)) adds)
             (λ is_told. sym (entries-all log (first ∷ more))),
       )
 
 -- ---- appending
 
+image_of : (entries more : List Entry) (image : List ℕ) → VaultStandsFor entries more image → EitherText entries more image
+image_of entries [] image stands = inl stands
+image_of entries (first ∷ more) image stands = stands
+
 -- changes of which entries were to be kept together
 module _ {basis : Basis} {limits : Limits} {ledger : LedgerState} {rows : List (ℕ × List Cell)} {pending : Option Pending} {journal : JournalState} {disk : DiskTold} {log : List Change}
-    (stands : Stands basis limits ledger rows pending journal disk (settled log)) (none : pending ≡ None) (own : Pending) (fits : Fits ledger own) (first : Kept) (more : List Kept) (are : ArePending basis log ledger (Some own) (first ∷ more))
-    (next : IsLegal basis (log ++ map keep (first ∷ more))) (given : List Entry) (same : IsTrue basis.is_told → given ≡ entries_of (first ∷ more)) (disk' : DiskTold)
+    (stands : Stands basis limits ledger rows pending journal disk (settled log)) (none : pending ≡ None) (own : Pending) (fits : Fits ledger own) (changes : List Kept) (are : ArePending basis log ledger (Some own) changes)
+    (next : IsLegal basis (log ++ map keep changes)) (given : List Entry) (same : IsTrue basis.is_told → given ≡ entries_of changes) (disk' : DiskTold) (goes_on : GoesOn disk disk')
     (any_moment : (entries : List Entry) → Means disk journal entries [] → LeavesOnly disk disk' (VaultStandsFor entries given)) where
   abbrev entries : List Entry
   entries = entries_of (kept_of log)
 
-  abbrev changes : List Kept
-  changes = first ∷ more
-
   means_now : IsTrue basis.is_told → Means disk journal entries []
   means_now is_told = (stands.told is_told).means
 
-  pub gate_now : IsTrue basis.is_told → journal.gate ≡ place_behind entries
+  gate_now : IsTrue basis.is_told → journal.gate ≡ place_behind entries
   gate_now is_told = gate_behind disk journal entries [] (means_now is_told)
 
   survives_as : (after : State) → ((image : List ℕ) → JournalText (entries ++ entries_of changes) image → Allowed after image) → IsTrue basis.is_told → Survives disk disk' (settled log) after
   survives_as after with_them is_told =
-      LeavesOnly-weaker disk disk' (EitherText entries (entries_of changes)) (λ image. Allowed (settled log) image ⊎ Allowed after image)
-      (λ image left. elim left [
+      LeavesOnly-weaker disk disk' (VaultStandsFor entries (entries_of changes)) (λ image. Allowed (settled log) image ⊎ Allowed after image)
+      (λ image left. elim (image_of entries (entries_of changes) image left) [
         | inl before ↦ inl (inl before)
         | inr kept ↦ inr (with_them image kept)
       ])
       (subst (λ (es : List Entry). LeavesOnly disk disk' (VaultStandsFor entries es)) (same is_told) (any_moment entries (means_now is_told)))
 
-  none_pending : (log' : List Change) (ledger' : LedgerState) → ArePending basis log' ledger' pending []
-  none_pending log' ledger' = subst (λ (p : Option Pending). ArePending basis log' ledger' p []) (sym none) tt
+  size_now : IsTrue basis.is_told → length (sealed_all given) ≡ length (sealed_all (entries_of changes))
+  size_now is_told = ap (λ (es : List Entry). length (sealed_all es)) (same is_told)
+
+  room_now : (journal.limit < journal.gate + length (sealed_all given) → ⊥) → IsTrue basis.is_told → HasRoom basis log changes
+  room_now not_full is_told =
+      elim (cases_lt journal.limit (journal.gate + length (sealed_all given))) [
+        | inl full ↦ absurd (not_full full)
+        | inr fits ↦ let limit = stands.bounds.limit in omega (arith, gate_now is_told, size_now is_told, limit, fits)
+      ]
+
+  fit : (some : List Kept) → HasRoom basis log some → FitJournal basis log some
+  fit [] room = tt
+  fit (first ∷ more) room = room
 
   -- all are written
-  pub written_stands : (place : ℕ) (ledger' : LedgerState) (rows' : List (ℕ × List Cell)) (journal' : JournalState) (count : ℕ) → place ≡ journal.gate → (IsTrue basis.is_told → FitJournal basis log changes)
-      → journal' ≡ record journal { gate = journal.gate + count } → Pushes ledger rows own place ledger' rows' → ((es : List Entry) → Means disk journal es [] → Means disk' journal' (es ++ given) [])
-      → Stands basis limits ledger' rows' pending journal' disk' (settled (log ++ map keep changes))
-  written_stands place ledger' rows' journal' count at room after pushes kept =
-      let log' = log ++ map keep changes in
-      record {
-        legal = settled-legal basis log' next;
-        holds = pushed_all basis log ledger rows stands.legal.log stands.holds own changes place ledger' rows' next fits are
-            (λ is_told. placed basis journal log first more place stands.short at (gate_now is_told) (room is_told)) pushes;
-        doubt = none_pending log' ledger';
-        crashes = stands.crashes;
-        bytes = stands.bytes;
-        limit = ap (λ (j : JournalState). j.limit) after ∙ stands.limit;
-        short = stands.short;
-        told = λ is_told. record {
-          means = subst (λ (es : List Entry). Means disk' journal' es []) (ap (λ (es : List Entry). entries ++ es) (same is_told) ∙ sym (entries-all log changes)) (kept entries (means_now is_told));
-          fits = tt;
-        };
-      }
-
-  pub written_survives : IsTrue basis.is_told → Survives disk disk' (settled log) (settled (log ++ map keep changes))
-  written_survives = survives_as (settled (log ++ map keep changes)) (λ image text. inl (subst (λ (es : List Entry). JournalText es image) (sym (entries-all log changes)) text))
-
-  -- the write failed
-  abbrev doubtful : State
-  doubtful = record { log = log; doubt = changes }
-
-  pub failed_stands : (journal' : JournalState) (count : ℕ) → (IsTrue basis.is_told → FitJournal basis log changes) → journal' ≡ record journal { doubt = Some count }
-      → ((es : List Entry) → Means disk journal es [] → Means disk' journal' es given) → Stands basis limits ledger rows (Some own) journal' disk' doubtful
-  failed_stands journal' count room after in_doubt = record {
-    legal = doubt-legal basis log changes stands.legal.log next;
-    holds = stands.holds;
-    doubt = are;
-    crashes = stands.crashes;
-    bytes = stands.bytes;
-    limit = ap (λ (j : JournalState). j.limit) after ∙ stands.limit;
-    short = stands.short;
-    told = λ is_told. record {
-      means = subst (λ (es : List Entry). Means disk' journal' entries es) (same is_told) (in_doubt entries (means_now is_told));
-      fits = room is_told;
-    };
-  }
-
-  pub failed_survives : IsTrue basis.is_told → Survives disk disk' (settled log) doubtful
-  failed_survives = survives_as doubtful (λ image text. inr (subst (λ (es : List Entry). JournalText es image) (sym (map-append entry_of (kept_of log) changes)) text))
-
-  -- there was no room for them
-  pub full_stands : (journal' : JournalState) → journal' ≡ journal → disk' ≡ disk → Stands basis limits ledger rows pending journal' disk' (settled log)
-  full_stands journal' same_journal same_disk =
-      subst (λ (j : JournalState). Stands basis limits ledger rows pending j disk' (settled log)) (sym same_journal) (subst (λ (d : DiskTold). Stands basis limits ledger rows pending journal d (settled log)) (sym same_disk) stands)
-
-  pub full_survives : IsDisk disk → disk' ≡ disk → IsTrue basis.is_told → Survives disk disk' (settled log) (settled log)
-  full_survives sound same_disk is_told = subst (λ (d : DiskTold). Survives disk d (settled log) (settled log)) (sym same_disk)
-      (record { each = λ image left. inl (allowed_in stands is_told image (sound.only_now image left)) })
-
-  -- where the journal had room for their entries
-  fits_given : journal.gate + length (sealed_all given) ≤ journal.limit → IsTrue basis.is_told → FitJournal basis log changes
-  fits_given room is_told =
-      let gate = gate_now is_told in
-      let size = ap (λ (es : List Entry). length (sealed_all es)) (same is_told) in
-      let limit = stands.limit in
-      omega (arith, gate, size, limit, room)
-
-  pub all_ok : journal.gate + length (sealed_all given) ≤ journal.limit → GoesOn disk disk' → (place : ℕ) (ledger' : LedgerState) (rows' : List (ℕ × List Cell)) (journal' : JournalState) (count : ℕ) → place ≡ journal.gate
+  pub append_ok : (place : ℕ) (ledger' : LedgerState) (rows' : List (ℕ × List Cell)) (journal' : JournalState) (count : ℕ) → place ≡ journal.gate → (journal.limit < journal.gate + length (sealed_all given) → ⊥)
       → journal' ≡ record journal { gate = journal.gate + count } → Pushes ledger rows own place ledger' rows' → ((es : List Entry) → Means disk journal es [] → Means disk' journal' (es ++ given) [])
       → (after : State) × Stands basis limits ledger' rows' pending journal' disk' after × AreAppended basis log disk changes (Ok tt) after disk'
-  all_ok room goes_on place ledger' rows' journal' count at after pushes kept = (
-    settled (log ++ map keep changes),
-    written_stands place ledger' rows' journal' count at (fits_given room) after pushes kept,
-    record { ends = refl; goes_on = goes_on; survives = written_survives },
-  )
+  append_ok place ledger' rows' journal' count at not_full after pushes kept =
+      let log' = log ++ map keep changes in (
+        settled log',
+        record {
+          legal = settled-legal basis log' next;
+          holds = pushed_all basis log ledger rows stands.legal.log stands.holds own changes place ledger' rows' next fits are
+              (λ is_told. placed basis journal log changes place stands.bounds.short at (gate_now is_told) (room_now not_full is_told)) pushes;
+          doubt = subst (λ (p : Option Pending). ArePending basis log' ledger' p []) (sym none) tt;
+          bounds = subst (AreBounds basis limits) (sym (ap (λ (j : JournalState). j.limit) after)) stands.bounds;
+          told = λ is_told. record {
+            means = subst (λ (es : List Entry). Means disk' journal' es []) (ap (λ (es : List Entry). entries ++ es) (same is_told) ∙ sym (entries-all log changes)) (kept entries (means_now is_told));
+            fits = tt;
+          };
+        },
+        record {
+          ends = (refl, room_now not_full);
+          goes_on = goes_on;
+          survives = survives_as (settled log') (λ image text. inl (subst (λ (es : List Entry). JournalText es image) (sym (entries-all log changes)) text));
+        },
+      )
 
-  pub all_fail : journal.gate + length (sealed_all given) ≤ journal.limit → GoesOn disk disk' → (journal' : JournalState) (count : ℕ) → journal' ≡ record journal { doubt = Some count } → DiskFailed disk disk'
+  -- their write failed
+  pub append_fails : (journal' : JournalState) (count : ℕ) → (journal.limit < journal.gate + length (sealed_all given) → ⊥) → journal' ≡ record journal { doubt = Some count } → DiskFailed disk disk'
       → ((es : List Entry) → Means disk journal es [] → Means disk' journal' es given)
       → (after : State) × Stands basis limits ledger rows (Some own) journal' disk' after × AreAppended basis log disk changes (Err F.StoreFault) after disk'
-  all_fail room goes_on journal' count after failed in_doubt = (
-    doubtful,
-    failed_stands journal' count (fits_given room) after in_doubt,
-    record { ends = (refl, failed); goes_on = goes_on; survives = failed_survives },
-  )
+  append_fails journal' count not_full after failed in_doubt =
+      let doubtful : State = record { log = log; doubt = changes } in (
+        doubtful,
+        record {
+          legal = record { log = stands.legal.log; doubt = next };
+          holds = stands.holds;
+          doubt = are;
+          bounds = subst (AreBounds basis limits) (sym (ap (λ (j : JournalState). j.limit) after)) stands.bounds;
+          told = λ is_told. record {
+            means = subst (λ (es : List Entry). Means disk' journal' entries es) (same is_told) (in_doubt entries (means_now is_told));
+            fits = fit changes (room_now not_full is_told);
+          };
+        },
+        record {
+          ends = (refl, failed, room_now not_full);
+          goes_on = goes_on;
+          survives = survives_as doubtful (λ image text. inr (subst (λ (es : List Entry). JournalText es image) (sym (map-append entry_of (kept_of log) changes)) text));
+        },
+      )
 
--- one change
-one_pending : (basis : Basis) (log : List Change) (ledger : LedgerState) (own : Pending) (change : Kept) → IsPending basis log ledger own change → ArePending basis log ledger (Some own) (change ∷ [])
-one_pending basis log ledger (P.Accept new) change is = is
-one_pending basis log ledger (P.Accepts news) change is = absurd is
-one_pending basis log ledger (P.Ask number) change is = is
-one_pending basis log ledger (P.Withdraw number) change is = is
-one_pending basis log ledger (P.Reports numbers) change is = absurd is
-
-module _ {basis : Basis} {limits : Limits} {ledger : LedgerState} {rows : List (ℕ × List Cell)} {pending : Option Pending} {journal : JournalState} {disk : DiskTold} {log : List Change}
-    (stands : Stands basis limits ledger rows pending journal disk (settled log)) (none : pending ≡ None) (own : Pending) (fits : Fits ledger own) (change : Kept) (is : IsPending basis log ledger own change)
-    (next : IsLegal basis (log ++ keep change ∷ [])) (entry : Entry) (same : IsTrue basis.is_told → entry ≡ entry_of change) (disk' : DiskTold) (goes_on : GoesOn disk disk')
-    (any_moment : (entries : List Entry) → Means disk journal entries [] → LeavesOnly disk disk' (VaultStandsFor entries (entry ∷ []))) where
-  abbrev waits : ArePending basis log ledger (Some own) (change ∷ [])
-  waits = one_pending basis log ledger own change is
-
-  same_one : IsTrue basis.is_told → entry ∷ [] ≡ entries_of (change ∷ [])
-  same_one is_told = ap (λ (e : Entry). e ∷ []) (same is_told)
-
-  gate_here : IsTrue basis.is_told → journal.gate ≡ place_behind (entries_of (kept_of log))
-  gate_here = gate_now stands none own fits change [] waits next (entry ∷ []) same_one disk' any_moment
-
-  body_same : IsTrue basis.is_told → entry.body ≡ body_of change
-  body_same is_told = ap (λ (e : Entry). e.body) (same is_told)
-
-  room_now : (journal.limit < journal.gate + beside_body + length entry.body → ⊥) → IsTrue basis.is_told → has_room basis log change ≡ true
-  room_now not_full is_told = has_its_room basis journal disk log change stands.limit stands.short entry.body (body_same is_told) (gate_here is_told) not_full
-
-  fit_now : (journal.limit < journal.gate + beside_body + length entry.body → ⊥) → IsTrue basis.is_told → FitJournal basis log (change ∷ [])
-  fit_now not_full is_told = fit_one basis journal disk log change stands.limit stands.short (room_now not_full is_told)
-
-  -- the change is written
-  pub append_ok : (place : ℕ) (ledger' : LedgerState) (rows' : List (ℕ × List Cell)) (journal' : JournalState) (count : ℕ) → place ≡ journal.gate → (journal.limit < journal.gate + beside_body + length entry.body → ⊥)
-      → journal' ≡ record journal { gate = journal.gate + count } → Pushes ledger rows own place ledger' rows' → ((es : List Entry) → Means disk journal es [] → Means disk' journal' (es ++ entry ∷ []) [])
-      → (after : State) × Stands basis limits ledger' rows' pending journal' disk' after × IsAppended basis log disk change (Ok tt) after disk'
-  append_ok place ledger' rows' journal' count at not_full after pushes kept = (
-    settled (log ++ keep change ∷ []),
-    written_stands stands none own fits change [] waits next (entry ∷ []) same_one disk' any_moment place ledger' rows' journal' count at (fit_now not_full) after pushes kept,
-    record {
-      ends = (refl, room_now not_full);
-      goes_on = goes_on;
-      survives = written_survives stands none own fits change [] waits next (entry ∷ []) same_one disk' any_moment;
-    },
-  )
-
-  -- its write failed
-  pub append_fails : (journal' : JournalState) (count : ℕ) → (journal.limit < journal.gate + beside_body + length entry.body → ⊥) → journal' ≡ record journal { doubt = Some count } → DiskFailed disk disk'
-      → ((es : List Entry) → Means disk journal es [] → Means disk' journal' es (entry ∷ []))
-      → (after : State) × Stands basis limits ledger rows (Some own) journal' disk' after × IsAppended basis log disk change (Err F.StoreFault) after disk'
-  append_fails journal' count not_full after failed in_doubt = (
-    record { log = log; doubt = change ∷ [] },
-    failed_stands stands none own fits change [] waits next (entry ∷ []) same_one disk' any_moment journal' count (fit_now not_full) after in_doubt,
-    record {
-      ends = (refl, failed, room_now not_full);
-      goes_on = goes_on;
-      survives = failed_survives stands none own fits change [] waits next (entry ∷ []) same_one disk' any_moment;
-    },
-  )
-
-  -- there is no room for it
-  pub append_full : (journal' : JournalState) → IsDisk disk → journal.limit < journal.gate + beside_body + length entry.body → journal' ≡ journal → disk' ≡ disk
-      → (after : State) × Stands basis limits ledger rows pending journal' disk' after × IsAppended basis log disk change (Err F.JournalFull) after disk'
+  -- there is no room for them
+  pub append_full : (journal' : JournalState) → IsDisk disk → journal.limit < journal.gate + length (sealed_all given) → journal' ≡ journal → disk' ≡ disk
+      → (after : State) × Stands basis limits ledger rows pending journal' disk' after × AreAppended basis log disk changes (Err F.JournalFull) after disk'
   append_full journal' sound full same_journal same_disk = (
     settled log,
-    full_stands stands none own fits change [] waits next (entry ∷ []) same_one disk' any_moment journal' same_journal same_disk,
+    subst (λ (j : JournalState). Stands basis limits ledger rows pending j disk' (settled log)) (sym same_journal) (subst (λ (d : DiskTold). Stands basis limits ledger rows pending journal d (settled log)) (sym same_disk) stands),
     record {
-      ends = (refl, λ is_told. has_no_room basis journal disk log change stands.limit stands.short entry.body (body_same is_told) (gate_here is_told) full);
+      ends = (refl, λ is_told room. let limit = stands.bounds.limit in omega (arith, gate_now is_told, size_now is_told, limit, full, room));
       goes_on = goes_on;
-      survives = full_survives stands none own fits change [] waits next (entry ∷ []) same_one disk' any_moment sound same_disk;
+      survives = λ is_told. subst (λ (d : DiskTold). Survives disk d (settled log) (settled log)) (sym same_disk) (record { each = λ image left. inl (allowed_in stands is_told image (sound.only_now image left)) });
     },
   )
+
+-- whether the entry of one change fits
+module _ (basis : Basis) (log : List Change) (change : Kept) where
+  abbrev behind : ℕ
+  behind = place_behind (entries_of (kept_of log))
+
+  size_one : length (sealed_all (entries_of (change ∷ []))) ≡ beside_body + length (body_of change)
+  size_one = ap (λ (x : List ℕ). length x) (sealed_one (entry_of change)) ∙ length-sealed (entry_of change)
+
+  pub room_one : HasRoom basis log (change ∷ []) → has_room basis log change ≡ true
+  room_one room = le-leb (behind + beside_body + length (body_of change)) basis.journal_bytes (omega (arith, room, size_one))
+
+  pub no_room_one : ¬ (HasRoom basis log (change ∷ [])) → has_room basis log change ≡ false
+  no_room_one full = false_from_ne_true (has_room basis log change) (λ room.
+      full (let fits = leb-true (behind + beside_body + length (body_of change)) basis.journal_bytes room in omega (arith, fits, size_one)))
 
 -- the same of a doubt that was taken out
 pub settle_taken : (basis : Basis) (limits : Limits) (ledger ledger' : LedgerState) (rows rows' : List (ℕ × List Cell)) (pending taken left : Option Pending) (journal journal' : JournalState) (disk disk' : DiskTold) (state : State) (outcome : Settled)
@@ -401,16 +273,19 @@ settle_taken basis limits ledger ledger' rows rows' pending taken left journal j
 
 -- no change waits where the journal isn't in doubt
 pub none_waits : (ledger : LedgerState) (journal : JournalState) (pending : Option Pending) → IsSafe ledger journal pending → journal.doubt ≡ None → pending ≡ None
-none_waits ledger journal pending safe none = none_of pending (sym safe.unsettled ∙ ap (λ (o : Option ℕ). is_some o) none) where
-  none_of : {A : Type 0} (o : Option A) → is_some o ≡ false → o ≡ None
-  none_of None is = refl
-  none_of (Some x) is = absurd (true_is_not_false is)
+none_waits ledger journal pending safe none = none_of pending (sym safe.unsettled ∙ ap (λ (o : Option ℕ). is_some o) none)
 
 -- ---- what the tables owe each other, once reports are added
 
 pub reports-crashes : (numbers : List ℕ) (ledger : LedgerState) → (with_reports ledger numbers).crashes ≡ ledger.crashes
 reports-crashes [] ledger = refl
 reports-crashes (number ∷ numbers) ledger = reports-crashes numbers (with_event ledger (E.Reported (id_of ledger number) true))
+
+pub pushed_crashes : (ledger : LedgerState) (rows : List (ℕ × List Cell)) (place : ℕ) (ledger' : LedgerState) (rows' : List (ℕ × List Cell)) (pending : Pending) → AcceptsNone pending → Pushes ledger rows pending place ledger' rows' → ledger'.crashes ≡ ledger.crashes
+pushed_crashes ledger rows place ledger' rows' (P.Ask number) none (same, same_rows) = ap (λ (l : LedgerState). l.crashes) same
+pushed_crashes ledger rows place ledger' rows' (P.Withdraw number) none (same, same_rows) = ap (λ (l : LedgerState). l.crashes) same
+pushed_crashes ledger rows place ledger' rows' (P.Reports numbers) none (same, same_rows) = ap (λ (l : LedgerState). l.crashes) same ∙ reports-crashes numbers.items ledger
+pushed_crashes ledger rows place ledger' rows' _ never pushes = absurd never
 
 pub reports-room : (numbers : List ℕ) (ledger : LedgerState) → ledger.room ≤ (with_reports ledger numbers).room + length numbers
 reports-room [] ledger = omega arith
@@ -452,11 +327,6 @@ adding_begins ledger numbers fits =
     let few : length numbers ≤ most_together = fits.1 in
     record { all = refl; room = omega (arith, large, few); held = fits.2 }
 
-held_reported : (ledger : LedgerState) (event : Event) (numbers : List ℕ) → accepts event ≡ None → withdraws event ≡ None → AreHeld ledger numbers → AreHeld (with_event ledger event) numbers
-held_reported ledger event [] none none_too held = tt
-held_reported ledger event (number ∷ numbers) none none_too held =
-    ((held.0.0, held_plain ledger.log event (id_of ledger number) none none_too ∙ held.0.1), held_reported ledger event numbers none none_too held.1)
-
 pub adding_one : (first : LedgerState) (numbers : List ℕ) (ledger ledger' : LedgerState) (rest : List ℕ) (number : ℕ) (behind : List ℕ) → rest ≡ number ∷ behind → ledger' ≡ with_event ledger (E.Reported (id_of ledger number) true) → IsAdding first numbers ledger rest
     → IsAdding first numbers ledger' behind
 adding_one first numbers ledger ledger' rest number behind is same adding =
@@ -464,7 +334,7 @@ adding_one first numbers ledger ledger' rest number behind is same adding =
     let here = subst (λ ns. IsAdding first numbers ledger ns) is adding in
     let room = here.room in
     subst (λ (l : LedgerState). IsAdding first numbers l behind) (sym same)
-    (record { all = here.all; room = omega (arith, room); held = held_reported ledger event behind refl refl here.held.1 })
+    (record { all = here.all; room = omega (arith, room); held = held_behind ledger event ledger.room behind refl refl here.held.1 })
 
 -- the next one may be added
 pub adding_next : (first : LedgerState) (numbers : List ℕ) (ledger : LedgerState) (rest : List ℕ) (number : ℕ) (behind : List ℕ) → rest ≡ number ∷ behind → IsAdding first numbers ledger rest

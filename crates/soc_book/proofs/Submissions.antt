@@ -1,8 +1,6 @@
 -- Where the content of a crash stands in its record.
 use Rattle.std.proofs.Common.{◌≡◌, ◌≤◌, ℕ, ◌-◌, min, List, length, take, drop, ◌∙◌, ap, arith}
-use Rattle.std.proofs.lemmas.List.{length-drop, take_all}
-use Rattle.soc_raw.specs.Record.{Crash, head_text, content_text, record_of}
-use Rattle.soc_raw.proofs.Lengths.{record_length, content_at}
+use Rattle.soc_book.proofs.Words.{length-drop, take_all, Crash, head_text, content_text, record_of, record_length, content_at}
 
 pub head_within : (raw : Crash) (text : List ℕ) → text ≡ record_of raw → length (head_text raw) ≤ length text
 head_within raw text whole =

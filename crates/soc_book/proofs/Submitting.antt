@@ -1,55 +1,19 @@
 -- What submissions decide over a settled log.
-use Rattle.std.proofs.Common.{◌≡◌, ◌↔◌, inl, inr, ℕ, ◌+◌, ◌<◌, ◌≤◌, Bool, true, false, not, ◌&&◌, IsTrue, List, [], ◌∷◌, ◌++◌, length, take, drop, Option, Some, None, IfSome, IsSomeAnd, sym, ap, subst, ◌∙◌, refl, arith}
-use Rattle.std.specs.Prelude.{bytes_eq, is_some, nat_le, slice_get, if◌then◌else◌}
-use Rattle.std.specs.Option.{option_map_or}
+use Rattle.std.proofs.Common.{◌≡◌, ◌↔◌, inl, inr, ℕ, ◌+◌, ◌<◌, ◌≤◌, Bool, true, false, not, ◌&&◌, IsTrue, List, [], ◌++◌, length, take, drop, Option, Some, None, IsSomeAnd, sym, ap, subst, ◌∙◌, refl, arith}
+use Rattle.soc_book.proofs.Words.{bytes_eq, nat_le, slice_get, if◌then◌else◌, option_map_or, le-leb, false_from_ne_true, leb_tells, length-map, bytes_eq-Decides, crash_of, Crash, IsCrash, head_text, record_of, pairs_text, RawCrash, content_at, record_length, same_content, Cell, DiskTold, IsDisk, Looks, DiskFailed, Looks-none, Entry, head_size, JournalState, Filed, Event, is_due_at_once, is_held, was_accepted, was_withdrawn, accepted_ids, LedgerState, id_of, true_is_not_false, unknown_crash, IsAt, Means, Limits, Reply, Basis, Decision, answers, appends, accepting, decide_new, decide_repeated, decide_submission, Change, events, raw_of, State, settled, entry_of, entries_of, kept_of, found_accepted, Pending, NewCrash, Tells, IsDecided, IsWritten, Stands}
 use Rattle.std.proofs.Math.Seq.{take-append_seam}
-use Rattle.std.proofs.lemmas.Bool.{le-leb}
-use Rattle.std.proofs.lemmas.Bool.Decides.{leb_tells}
-use Rattle.std.proofs.lemmas.List.{take-append-drop, length-map}
-use Rattle.std.proofs.lemmas.Slice.Eq.{bytes_eq-Decides}
+use Rattle.std.proofs.lemmas.List.{take-append-drop}
 use Rattle.sha2.specs.Sha256.{sha256}
-use Rattle.soc_raw.specs.RawCrash.{crash_of}
-use Rattle.soc_raw.specs.Record.{Crash, IsCrash, head_text, content_text, record_of, pairs_text}
-use Rattle.soc_raw.specs.declared.raw_crash.RawCrash.{RawCrash}
-use Rattle.soc_raw.proofs.Lengths.{content_at, record_length}
-use Rattle.soc_raw.proofs.Records.{same_content}
-use Rattle.soc_schema.specs.declared.value.Cell.{Cell}
-use Rattle.soc_edge.specs.Disk.{DiskTold, IsDisk, Looks, DiskFailed}
-use Rattle.soc_edge.proofs.Disks.{Looks-none}
-use Rattle.soc_journal.specs.Entries.{Entry, accept_kind, head_size}
-use Rattle.soc_journal.specs.States.{JournalState}
-use Rattle.soc_ledger.specs.declared.crash.Filed.{Filed}
-use Rattle.soc_ledger.specs.declared.event.Event.{Event}
-use Rattle.soc_ledger.specs.Due.{is_due_at_once}
-use Rattle.soc_ledger.specs.Events.{is_held, was_accepted, was_withdrawn, accepted_ids}
-use Rattle.soc_ledger.specs.State.{LedgerState, id_of}
-use Rattle.soc_ledger.proofs.Lists.{true_is_not_false}
-use Rattle.soc_ledger.proofs.Logs.{unknown_crash}
-use Rattle.soc_vault.specs.Vaults.{IsAt, Means}
+use Rattle.soc_raw.specs.Record.{content_text}
 use Rattle.soc_desk.specs.declared.desk.Command.TheVariants as C
-use Rattle.soc_desk.specs.declared.desk.Limits.{Limits}
-use Rattle.soc_desk.specs.declared.desk.Reply.{Reply}
 use Rattle.soc_desk.specs.declared.desk.Reply.TheVariants as R
 use Rattle.soc_desk.specs.declared.desk.Refusal.TheVariants as F
-use Rattle.soc_desk.specs.Basis.{Basis}
-use Rattle.soc_desk.specs.Decisions.{Decision, answers, appends, accepting, decide_new, decide_repeated, decide_submission}
-use Rattle.soc_desk.specs.Log.{Accepted, Change, accept, keep, events, raw_of, IsLegal}
-use Rattle.soc_desk.specs.State.{State, settled, entry_of, entries_of, kept_of}
-use Rattle.soc_desk.proofs.Found.{found_accepted}
-use Rattle.soc_book.specs.declared.book.Change.{Change as Pending}
-use Rattle.soc_book.specs.declared.book.Change.TheVariants as P
-use Rattle.soc_book.specs.declared.submission.NewCrash.{NewCrash}
-use Rattle.soc_book.specs.inner.Books.{Tells}
-use Rattle.soc_book.specs.inner.Does.{IsDecided}
-use Rattle.soc_book.specs.inner.Pieces.{IsWritten}
-use Rattle.soc_book.specs.inner.Stands.{IsPending, Stands}
 use Rattle.soc_book.proofs.Accepting.{accepted_as, accepted_told}
 use Rattle.soc_book.proofs.Asking.{allowed}
-use Rattle.soc_book.proofs.Changes.{legal-next}
-use Rattle.soc_book.proofs.Deciding.{answered, decided_as, written_decides}
+use Rattle.soc_book.proofs.Deciding.{answered, written_decides, says}
 use Rattle.soc_book.proofs.Filing.{IsKnown, id_of-got}
 use Rattle.soc_book.proofs.Pushing.{ids, was}
-use Rattle.soc_book.proofs.Sights.{known_at}
+use Rattle.soc_book.proofs.Lookups.{known_at}
 use Rattle.soc_book.proofs.Standing.{stands_moved}
 
 -- ---- contents
@@ -116,15 +80,13 @@ module _ {basis : Basis} {limits : Limits} {ledger : LedgerState} {rows : List (
     pub too_many : limits.crashes ≤ length ledger.crashes
         → (after : State) × Stands basis limits ledger rows pending journal disk after × IsDecided basis log disk (C.Submit raw) (R.Refused F.TooManyCrashes) after disk
     too_many full =
-        let same : basis.crashes ≡ limits.crashes = stands.crashes in
+        let same : basis.crashes ≡ limits.crashes = stands.bounds.crashes in
         let count = crash_count in
         let most : basis.crashes ≤ length (accepted_ids now) = omega arith in (
           settled log,
           stands,
-          answered basis log disk disk (C.Submit raw) (R.Refused F.TooManyCrashes) (Looks-none disk sound) (allowed stands)
-              (refl, tt) tt (λ never. absurd never) ((is_new_now, le-leb basis.crashes (length (accepted_ids now)) most, refl), refl)
-              (λ is_told. decided_as basis log disk disk (C.Submit raw) (answers (R.Refused F.TooManyCrashes)) (R.Refused F.TooManyCrashes) (settled log)
-              (ap (λ (d : Decision). Some d) (decides_by true (le-leb basis.crashes (length (accepted_ids now)) most))) (refl, refl)),
+          says basis log disk disk (C.Submit raw) (R.Refused F.TooManyCrashes) (Looks-none disk sound) (allowed stands) (refl, tt) tt (λ never. never) ((is_new_now, le-leb basis.crashes (length (accepted_ids now)) most, refl), refl)
+              (λ is_told. ap (λ (d : Decision). Some d) (decides_by true (le-leb basis.crashes (length (accepted_ids now)) most))),
         )
 
     -- it is kept
@@ -150,7 +112,7 @@ module _ {basis : Basis} {limits : Limits} {ledger : LedgerState} {rows : List (
           few_left =
               elim (leb_tells basis.crashes (length (accepted_ids now))) [
                 | inl both ↦
-                    let same : basis.crashes ≡ limits.crashes = stands.crashes in
+                    let same : basis.crashes ≡ limits.crashes = stands.bounds.crashes in
                     let count = crash_count in
                     let most : basis.crashes ≤ length (accepted_ids now) = both.1 in
                     absurd (omega arith)
@@ -177,10 +139,8 @@ module _ {basis : Basis} {limits : Limits} {ledger : LedgerState} {rows : List (
           settled log,
           stands,
           subst (λ x. IsDecided basis log disk (C.Submit raw) (R.Refused (F.Withdrawn x)) (settled log) disk) (sym tells.id)
-              (answered basis log disk disk (C.Submit raw) (R.Refused (F.Withdrawn raw.id)) (Looks-none disk sound) (allowed stands)
-              (refl, refl) tt (λ never. absurd never) ((was_gone, refl), refl)
-              (λ is_told. decided_as basis log disk disk (C.Submit raw) (answers (R.Refused (F.Withdrawn raw.id))) (R.Refused (F.Withdrawn raw.id)) (settled log)
-              (ap (λ (d : Decision). Some d) (ap (λ b. if b then answers (R.Refused (F.Withdrawn raw.id)) else option_map_or (decide_repeated crash) (raw_of log raw.id) (decide_new basis log crash)) was_gone)) (refl, refl))),
+              (says basis log disk disk (C.Submit raw) (R.Refused (F.Withdrawn raw.id)) (Looks-none disk sound) (allowed stands) (refl, refl) tt (λ never. never) ((was_gone, refl), refl)
+              (λ is_told. ap (λ (d : Decision). Some d) (ap (λ b. if b then answers (R.Refused (F.Withdrawn raw.id)) else option_map_or (decide_repeated crash) (raw_of log raw.id) (decide_new basis log crash)) was_gone))),
         )
 
     module _ (kept : was_withdrawn ledger.log f.id ≡ false) where
@@ -188,7 +148,7 @@ module _ {basis : Basis} {limits : Limits} {ledger : LedgerState} {rows : List (
       held_now = ap (λ b. b && not (was_withdrawn now raw.id)) accepted_now ∙ ap (λ b. not b) (gone_now false kept)
 
       known_now : IsTrue basis.is_told → IsKnown (entries_of (kept_of log)) log f
-      known_now is_told = known_at basis log ledger rows stands.legal.log stands.holds is_told number f there
+      known_now is_told = known_at stands is_told number f there
 
       raw_now : (is_told : IsTrue basis.is_told) → raw_of log raw.id ≡ Some (known_now is_told).raw
       raw_now is_told = ap (λ x. raw_of log x) (sym raw_id) ∙ (known_now is_told).is
@@ -201,19 +161,11 @@ module _ {basis : Basis} {limits : Limits} {ledger : LedgerState} {rows : List (
           ∙ (ap (λ (o : Option Crash). option_map_or (decide_repeated crash) o (decide_new basis log crash)) (raw_now is_told)
           ∙ ap (λ x. if x then answers (R.Repeated raw.id) else answers (R.Refused (F.OtherContent raw.id))) same)
 
-      differs : (a b : List ℕ) → (a ≡ b → ⊥) → bytes_eq a b ≡ false
-      differs a b other = elim (bytes_eq a b) as (λ x. bytes_eq a b ≡ x → x ≡ false) [
-        | true ↦ λ same. absurd (other ((bytes_eq-Decides a b).0 same))
-        | false ↦ λ same. refl
-      ] refl
-
       -- other content, for one reason or another
       other : (disk' : DiskTold) → Looks disk disk' → ((is_told : IsTrue basis.is_told) → content_text (known_now is_told).raw ≡ content_text crash → ⊥)
           → IsDecided basis log disk (C.Submit raw) (R.Refused (F.OtherContent raw.id)) (settled log) disk'
-      other disk' looks apart = answered basis log disk disk' (C.Submit raw) (R.Refused (F.OtherContent raw.id)) looks (allowed stands)
-          (refl, refl) tt (λ never. absurd never) ((held_now, refl), refl)
-          (λ is_told. decided_as basis log disk disk' (C.Submit raw) (answers (R.Refused (F.OtherContent raw.id))) (R.Refused (F.OtherContent raw.id)) (settled log)
-          (ap (λ (d : Decision). Some d) (decides_held is_told false (differs _ _ (apart is_told)))) (refl, refl))
+      other disk' looks apart = says basis log disk disk' (C.Submit raw) (R.Refused (F.OtherContent raw.id)) looks (allowed stands) (refl, refl) tt (λ never. never) ((held_now, refl), refl)
+          (λ is_told. ap (λ (d : Decision). Some d) (decides_held is_told false (false_from_ne_true _ (λ same. apart is_told ((bytes_eq-Decides _ _).0 same)))))
 
       -- the digests differ
       pub other_digest : (f.digest ≡ new.digest → ⊥)
@@ -264,13 +216,11 @@ module _ {basis : Basis} {limits : Limits} {ledger : LedgerState} {rows : List (
             settled log,
             moved,
             subst (λ x. IsDecided basis log disk (C.Submit raw) (R.Repeated x) (settled log) disk') (sym tells.id)
-                (answered basis log disk disk' (C.Submit raw) (R.Repeated raw.id) looks (allowed stands)
-                (refl, refl) tt (λ never. absurd never) (held_now, refl, refl)
+                (says basis log disk disk' (C.Submit raw) (R.Repeated raw.id) looks (allowed stands) (refl, refl) tt (λ never. never) (held_now, refl, refl)
                 (λ is_told.
                 let k = known_now is_told in
                 let told = tells_content is_told in
-                decided_as basis log disk disk' (C.Submit raw) (answers (R.Repeated raw.id)) (R.Repeated raw.id) (settled log)
-                (ap (λ (d : Decision). Some d) (decides_held is_told true ((bytes_eq-Decides (content_text k.raw) (content_text crash)).1 (fits_content k.raw crash told.0 k.crash is (told.1.0 agrees))))) (refl, refl))),
+                ap (λ (d : Decision). Some d) (decides_held is_told true ((bytes_eq-Decides (content_text k.raw) (content_text crash)).1 (fits_content k.raw crash told.0 k.crash is (told.1.0 agrees)))))),
           )
 
           pub differs_on_disk : holds ≡ false → (after : State) × Stands basis limits ledger rows pending journal' disk' after × IsDecided basis log disk (C.Submit raw) (R.Refused (F.OtherContent new.id)) after disk'
@@ -291,4 +241,4 @@ pub texts_agree : (a b : List ℕ) → false ≡ not (bytes_eq a b) → a ≡ b
 texts_agree a b is = (bytes_eq-Decides a b).0 (at (bytes_eq a b) is) where
   at : (x : Bool) → false ≡ not x → x ≡ true
   at true same = refl
-  at false same = absurd (true_is_not_false (sym same))
+  at false same = cc

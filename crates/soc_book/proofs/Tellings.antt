@@ -1,24 +1,8 @@
 -- The rows of a legal log tell of its raw crashes, where the disk tells its content.
-use Rattle.std.proofs.Common.{◌≡◌, ℕ, Bool, true, false, ◌&&◌, IsTrue, List, [], ◌∷◌, ◌++◌, map, reverse, Option, Some, None, IfSome, IsSomeAnd, cond, sym, ap, subst, ◌∙◌, refl}
-use Rattle.std.specs.Prelude.{bytes_eq, filter_map, is_some, if◌then◌else◌}
-use Rattle.std.specs.List.{find}
-use Rattle.std.specs.Option.{option_map, option_and_then}
-use Rattle.std.proofs.lemmas.List.Elements.{filter_map-append}
-use Rattle.std.proofs.lemmas.Slice.Eq.{bytes_eq-Decides}
-use Rattle.soc_raw.specs.Record.{Crash}
-use Rattle.soc_schema.specs.declared.value.Cell.{Cell}
-use Rattle.soc_schema.specs.Reports.{TellsCrash}
-use Rattle.soc_ledger.specs.Due.{is_due}
-use Rattle.soc_ledger.specs.Legal.{IsLegalBack, IsLegal as AreLegal}
-use Rattle.soc_desk.specs.Basis.{Basis, RowsTell}
-use Rattle.soc_desk.specs.Log.{Change, Accepted, KeptReport, accept, ask, withdraw, report, keep, done, stop, accepted_in, accepted_of, event_of, events, is_own, raw_of, row_back, row_in, AreSoundBack, IsLegal}
-use Rattle.soc_desk.proofs.Found.{AreTold, accepted_found, due_accepted}
-use Rattle.soc_desk.proofs.Logs.{has_id, events_back, reverse-cons, reverse-map, reverse-twice}
+use Rattle.std.proofs.Common.{◌≡◌, ℕ, Bool, true, false, ◌&&◌, IsTrue, List, [], ◌∷◌, ◌++◌, map, reverse, Option, Some, None, IfSome, IsSomeAnd, cond, sym, ap, subst, ◌∙◌, refl, IsSome}
+use Rattle.soc_book.proofs.Words.{bytes_eq, filter_map, is_some, if◌then◌else◌, find, option_map, option_and_then, filter_map-append, bytes_eq-Decides, Crash, Cell, TellsCrash, is_due, IsLegalBack, AreLegal, Basis, RowsTell, Change, Accepted, KeptReport, report, keep, done, accepted_in, accepted_of, event_of, events, is_own, raw_of, row_back, row_in, AreSoundBack, IsLegal, AreTold, accepted_found, due_accepted, has_id, events_back, reverse-cons, reverse-map, reverse-twice, and_parts}
 use Rattle.soc_desk.proofs.Views.{true_is_not_false}
-
-told_front : (xs ys : List Accepted) → AreTold (xs ++ ys) → AreTold xs
-told_front [] ys all = tt
-told_front (x ∷ xs) ys all = (all.0, told_front xs ys all.1)
+use Rattle.soc_book.proofs.Changes.{all_front}
 
 found_front : (id : List ℕ) (xs ys : List Accepted) (raw : Crash) → option_and_then (λ crash. crash.raw) (find (has_id id) xs) ≡ Some raw → option_and_then (λ crash. crash.raw) (find (has_id id) (xs ++ ys)) ≡ Some raw
 found_front id [] ys raw is = cc
@@ -28,12 +12,6 @@ found_front id (x ∷ xs) ys raw is =
       | false ↦ λ later. found_front id xs ys raw later
     ] is
 
-and_parts : (a b c : Bool) → (a && (b && c)) ≡ true → (a ≡ true) × (c ≡ true)
-and_parts true true true is = (refl, refl)
-and_parts true true false is = absurd (true_is_not_false (sym is))
-and_parts true false c is = absurd (true_is_not_false (sym is))
-and_parts false b c is = absurd (true_is_not_false (sym is))
-
 module _ (basis : Basis) (tells : RowsTell basis) (id : List ℕ) where
   -- the row tells of the raw crash of the id
   abbrev Tells : List Change → List Cell → Type 0
@@ -41,7 +19,7 @@ module _ (basis : Basis) (tells : RowsTell basis) (id : List ℕ) where
 
   told_older : (change : Change) (older : List Change) → AreTold (accepted_of (reverse (change ∷ older))) → AreTold (accepted_of (reverse older))
   told_older change older told =
-      told_front (accepted_of (reverse older)) (filter_map accepted_in (change ∷ []))
+      all_front (λ (crash : Accepted). IsSome crash.raw) (accepted_of (reverse older)) (filter_map accepted_in (change ∷ []))
       (subst AreTold (ap accepted_of (reverse-cons change older) ∙ filter_map-append accepted_in (reverse older) (change ∷ [])) told)
 
   still_found : (change : Change) (older : List Change) (raw : Crash) → raw_of (reverse older) id ≡ Some raw → raw_of (reverse (change ∷ older)) id ≡ Some raw
@@ -84,14 +62,6 @@ module _ (basis : Basis) (tells : RowsTell basis) (id : List ℕ) where
 
   tells_back : (back : List Change) → IsLegalBack (map (event_of basis) back) → AreSoundBack back → AreTold (accepted_of (reverse back)) → IfSome (row_back basis id back) (Tells (reverse back))
   tells_back [] legal sound told = tt
-  tells_back (keep (accept crash) ∷ older) legal sound told =
-      still_all (keep (accept crash)) older (row_back basis id older) (tells_back older legal.1 sound.1 (told_older (keep (accept crash)) older told))
-  tells_back (keep (ask other) ∷ older) legal sound told =
-      still_all (keep (ask other)) older (row_back basis id older) (tells_back older legal.1 sound.1 (told_older (keep (ask other)) older told))
-  tells_back (keep (withdraw other) ∷ older) legal sound told =
-      still_all (keep (withdraw other)) older (row_back basis id older) (tells_back older legal.1 sound.1 (told_older (keep (withdraw other)) older told))
-  tells_back (stop ∷ older) legal sound told =
-      still_all stop older (row_back basis id older) (tells_back older legal.1 sound.1 (told_older stop older told))
   tells_back (done other ∷ older) legal sound told =
       let before = tells_back older legal.1 sound.1 (told_older (done other) older told) in
       elim (bytes_eq other id) as (λ b. IfSome (if b then option_map basis.row_of (raw_of (reverse older) id) else row_back basis id older) (Tells (reverse (done other ∷ older)))) [
@@ -105,10 +75,12 @@ module _ (basis : Basis) (tells : RowsTell basis) (id : List ℕ) where
       let counts : Bool = bytes_eq made.id id && (is_own basis made.digest && is_due (events basis (reverse older)) id) in
       elim counts as (λ b. counts ≡ b → IfSome (if b then Some made.row else row_back basis id older) (Tells (reverse (keep (report made) ∷ older)))) [
         | true ↦ λ is.
-            let parts = and_parts (bytes_eq made.id id) (is_own basis made.digest) (is_due (events basis (reverse older)) id) is in
-            still_tells (keep (report made)) older made.row (reported older made legal_before told_before ((bytes_eq-Decides made.id id).0 parts.0) parts.1 sound.0.2)
+            let parts = and_parts (bytes_eq made.id id) (is_own basis made.digest && is_due (events basis (reverse older)) id) is in
+            let due = (and_parts (is_own basis made.digest) (is_due (events basis (reverse older)) id) parts.1).1 in
+            still_tells (keep (report made)) older made.row (reported older made legal_before told_before ((bytes_eq-Decides made.id id).0 parts.0) due sound.0.2)
         | false ↦ λ is. still_all (keep (report made)) older (row_back basis id older) before
       ] refl
+  tells_back (change ∷ older) legal sound told = still_all change older (row_back basis id older) (tells_back older legal.1 sound.1 (told_older change older told))
 
   -- the row of a crash tells of the log's raw crash
   pub rows_tell : (log : List Change) → IsLegal basis log → IsTrue basis.is_told → IfSome (row_in basis log id) (λ row. IsSomeAnd (raw_of log id) (λ raw. TellsCrash raw row))

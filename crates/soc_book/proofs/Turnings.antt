@@ -1,124 +1,41 @@
 -- What turns, drains, fetches, finishes and stops do.
-use Rattle.std.proofs.Common.{◌≡◌, ◌≢◌, ℕ, zero, suc, ◌+◌, ◌-◌, ◌^◌, ◌<◌, ◌≤◌, eqb, Bool, true, false, not, ◌&&◌, IsTrue, List, [], ◌∷◌, ◌++◌, length, map, take, drop, Option, Some, None, cond, sym, ap, subst, ◌∙◌, refl, arith, inl, inr, ⊎_elim, add-one}
-use Rattle.std.specs.Prelude.{bytes_eq, filter, filter_map, is_some, slice_get, Result, Ok, Err, if◌then◌else◌}
-use Rattle.std.specs.List.{AllByRecursion, cons_option, enumerate_from}
-use Rattle.std.specs.Option.{option_map, option_map_or}
-use Rattle.std.proofs.lemmas.Bool.{eqb-true, ne_eqb, eq-eqb}
-use Rattle.std.proofs.lemmas.List.{append-nil, append_assoc, map-append, length-drop, drop-drop}
-use Rattle.std.proofs.lemmas.Slice.Eq.{bytes_eq-Decides}
-use Rattle.soc_raw.specs.declared.raw_crash.RawCrash.{RawCrash}
-use Rattle.soc_schema.specs.declared.caller.Caller.{Caller}
-use Rattle.soc_schema.specs.declared.permission.Permission.TheVariants.{Operate}
-use Rattle.soc_schema.specs.declared.value.Cell.{Cell}
-use Rattle.soc_schema.specs.Reports.{Report}
-use Rattle.soc_edge.specs.Disk.{DiskTold, IsDisk, Looks, GoesOn, DiskFailed}
-use Rattle.soc_edge.proofs.Disks.{Looks-none}
-use Rattle.soc_journal.specs.States.{JournalState}
-use Rattle.soc_ledger.specs.declared.crash.Filed.{Filed}
-use Rattle.soc_ledger.specs.declared.event.Event.{Event}
+use Rattle.std.proofs.Common.{◌≡◌, ◌≢◌, ℕ, zero, suc, ◌+◌, ◌-◌, ◌<◌, ◌≤◌, eqb, Bool, true, false, not, ◌&&◌, IsTrue, List, [], ◌∷◌, ◌++◌, length, map, take, drop, Option, Some, None, cond, sym, ap, subst, ◌∙◌, refl, arith, inl, inr, add-one}
+use Rattle.soc_book.proofs.Words.{bytes_eq, filter, filter_map, is_some, slice_get, if◌then◌else◌, AllByRecursion, cons_option, enumerate_from, option_map, option_map_or, eqb-true, ne_eqb, eq-eqb, append-nil, map-append, length-drop, drop-drop, take_all, bytes_eq-Decides, RawCrash, Caller, Operate, Cell, Report, DiskTold, IsDisk, Looks, GoesOn, DiskFailed, Looks-none, JournalState, Filed, Event, due_ids, due_since, is_due, is_since, urged, urged_by, urged_in, waiting, is_held, has_stop, AreLegal, Standing, LedgerState, id_of, standing_of, with_event, turned, due_since-more, with_row, Command, Limits, Refusal, Reply, IsStoreFault, IsAltered, Basis, without, IfElse, IsOfLog, Step, TurnsFirst, with_done, Grows, IsDueAt, IsReplyTo, done, stop, events, raw_of, State, doubted, events-more, all_weaker, Pending, Does, IsHeldAs, IsRead, Stands, IsTurned, TurnsTo, due_of, slice_get_within, none_is_not_some, some-injective}
+use Rattle.std.specs.Prelude.{Result, Ok, Err}
+use Rattle.std.proofs.lemmas.List.{append_assoc}
 use Rattle.soc_ledger.specs.declared.event.Event.TheVariants as E
-use Rattle.soc_ledger.specs.Due.{due_ids, due_since, is_due, is_since, urged, urged_by, urged_in, waiting}
-use Rattle.soc_ledger.specs.Events.{is_held, has_stop}
-use Rattle.soc_ledger.specs.Legal.{IsLegal as AreLegal}
-use Rattle.soc_ledger.specs.declared.crash.Standing.{Standing}
-use Rattle.soc_ledger.specs.State.{LedgerState, id_of, standing_of, with_event}
-use Rattle.soc_ledger.proofs.Lists.{turned}
-use Rattle.soc_ledger.proofs.More.{due_since-more}
 use Rattle.soc_ledger.proofs.Waiting.{waiting-done}
-use Rattle.soc_store.specs.Stored.{with_row}
-use Rattle.soc_desk.specs.declared.desk.Command.{Command}
 use Rattle.soc_desk.specs.declared.desk.Command.TheVariants as C
-use Rattle.soc_desk.specs.declared.desk.Limits.{Limits}
-use Rattle.soc_desk.specs.declared.desk.Refusal.{Refusal}
 use Rattle.soc_desk.specs.declared.desk.Refusal.TheVariants as F
-use Rattle.soc_desk.specs.declared.desk.Reply.{Reply}
 use Rattle.soc_desk.specs.declared.desk.Reply.TheVariants as R
-use Rattle.soc_desk.specs.Asks.{IsStoreFault, IsAltered}
-use Rattle.soc_desk.specs.Basis.{Basis}
-use Rattle.soc_desk.specs.Decisions.{without}
-use Rattle.soc_desk.specs.Desk.{IfElse, IsOfLog, Step, TurnsFirst, with_done}
-use Rattle.soc_desk.specs.Grows.{Grows, IsDueAt}
-use Rattle.soc_desk.specs.Kinds.{IsReplyTo}
-use Rattle.soc_desk.specs.Log.{Accepted, done, stop, accepted_of, events, raw_of}
-use Rattle.soc_desk.specs.State.{State, doubted, entries_of, kept_of}
 use Rattle.soc_desk.proofs.Dues.{due_by_history}
-use Rattle.soc_desk.proofs.Logs.{IsApart, accepted_apart, events-more}
-use Rattle.soc_desk.proofs.Views.{true_is_not_false, all_weaker}
-use Rattle.soc_book.specs.declared.book.Change.{Change as Pending}
-use Rattle.soc_book.specs.inner.Does.{Does}
-use Rattle.soc_book.specs.inner.Pieces.{IsHeldAs, IsRead}
-use Rattle.soc_book.specs.inner.Stands.{Stands}
-use Rattle.soc_book.specs.inner.Turns.{IsTurned, TurnsTo, due_of}
-use Rattle.soc_book.proofs.Lookups.{FiledAt, all_at, filed_at, held_is, survives_looking}
+use Rattle.soc_desk.proofs.Views.{true_is_not_false}
+use Rattle.soc_book.proofs.Lookups.{held_is, survives_looking}
 use Rattle.soc_book.proofs.Quiets.{done_quiet, done_rows, stands_behind, stands_room, stop_quiet, stop_rows}
 use Rattle.soc_book.proofs.Readings.{all_passing, forbidden, permitted, stays}
+use Rattle.soc_book.proofs.Filing.{all_got}
+use Rattle.soc_book.proofs.Deciding.{failed_later}
+use Rattle.soc_book.proofs.Kept.{heads, tails}
 
 -- ---- lists
 
 first_of : {A : Type 0} (xs : List A) (x : A) → slice_get xs 0 ≡ Some x → (later : List A) × (xs ≡ x ∷ later)
-first_of [] x is = absurd (none_some is) where
-  none_some : None ≡ Some x → ⊥
-  none_some e = cc
-first_of (y ∷ ys) x is = (ys, ap (λ z. z ∷ ys) (some_same is)) where
-  some_same : Some y ≡ Some x → y ≡ x
-  some_same e = cc
+first_of [] x is = absurd (none_is_not_some is)
+first_of (y ∷ ys) x is = (ys, ap (λ z. z ∷ ys) (some-injective is))
 
 some_first : {A : Type 0} (xs : List A) → 0 < length xs → (x : A) × (later : List A) × (xs ≡ x ∷ later)
 some_first [] some = absurd (omega arith)
 some_first (x ∷ xs) some = (x, xs, refl)
 
-take_whole : {A : Type 0} (xs : List A) → take (length xs) xs ≡ xs
-take_whole [] = refl
-take_whole (x ∷ xs) = ap (λ l. x ∷ l) (take_whole xs)
-
 drop_front : {A : Type 0} (n : ℕ) (xs : List A) → slice_get (drop n xs) 0 ≡ slice_get xs n
-drop_front zero [] = refl
-drop_front zero (x ∷ xs) = refl
+drop_front zero xs = refl
 drop_front (suc n) [] = refl
 drop_front (suc n) (x ∷ xs) = drop_front n xs
 
 take_next : {A : Type 0} (n : ℕ) (xs : List A) (x : A) → slice_get xs n ≡ Some x → take (suc n) xs ≡ take n xs ++ x ∷ []
-take_next n [] x is = absurd (none_some is) where
-  none_some : None ≡ Some x → ⊥
-  none_some e = cc
-take_next zero (y ∷ ys) x is = zero_take ys ∙ ap (λ z. z ∷ []) (some_same is) where
-  zero_take : (l : List _) → y ∷ take 0 l ≡ y ∷ []
-  zero_take [] = refl
-  zero_take (z ∷ zs) = refl
-
-  some_same : Some y ≡ Some x → y ≡ x
-  some_same e = cc
+take_next n [] x is = absurd (none_is_not_some is)
+take_next zero (y ∷ ys) x is = ap (λ z. z ∷ []) (some-injective is)
 take_next (suc n) (y ∷ ys) x is = ap (λ l. y ∷ l) (take_next n ys x is)
-
-within_get : {A : Type 0} (n : ℕ) (xs : List A) (x : A) → slice_get xs n ≡ Some x → n < length xs
-within_get n [] x is = absurd (none_some is) where
-  none_some : None ≡ Some x → ⊥
-  none_some e = cc
-within_get zero (y ∷ ys) x is = omega arith
-within_get (suc n) (y ∷ ys) x is = let h : n < length ys = within_get n ys x is in omega (arith, h)
-
--- ---- numbers
-
-apart_at : (crashes : List Accepted) (i j : ℕ) (a b : Accepted) → IsApart crashes → slice_get crashes i ≡ Some a → slice_get crashes j ≡ Some b → bytes_eq a.id b.id ≡ true → i ≡ j
-apart_at [] i j a b apart here there same = absurd (none_some here) where
-  none_some : None ≡ Some a → ⊥
-  none_some e = cc
-apart_at (crash ∷ crashes) zero zero a b apart here there same = refl
-apart_at (crash ∷ crashes) zero (suc j) a b apart here there same =
-    let own : crash ≡ a = some_same here in
-    let differs : bytes_eq b.id crash.id ≡ false = all_at (λ other. bytes_eq other.id crash.id ≡ false) crashes j b apart.0 there in
-    absurd (true_is_not_false (sym ((bytes_eq-Decides b.id crash.id).1 (sym ((bytes_eq-Decides a.id b.id).0 same) ∙ ap (λ c. c.id) (sym own))) ∙ differs))
-  where
-    some_same : Some crash ≡ Some a → crash ≡ a
-    some_same e = cc
-apart_at (crash ∷ crashes) (suc i) zero a b apart here there same =
-    let own : crash ≡ b = some_same there in
-    let differs : bytes_eq a.id crash.id ≡ false = all_at (λ other. bytes_eq other.id crash.id ≡ false) crashes i a apart.0 here in
-    absurd (true_is_not_false (sym ((bytes_eq-Decides a.id crash.id).1 ((bytes_eq-Decides a.id b.id).0 same ∙ ap (λ c. c.id) (sym own))) ∙ differs))
-  where
-    some_same : Some crash ≡ Some b → crash ≡ b
-    some_same e = cc
-apart_at (crash ∷ crashes) (suc i) (suc j) a b apart here there same = ap suc (apart_at crashes i j a b apart.1 here there same)
 
 -- ---- due crashes
 
@@ -139,7 +56,7 @@ due_each : (log : List Event) → AllByRecursion (λ id. is_due log id ≡ true)
 due_each log = all_second (λ id. is_due log id ≡ true) (waiting log) (all_weaker (λ here. due_since log here.1 ≡ Some here.0) (λ here. is_due log here.1 ≡ true) (waiting log) (λ here is. ap is_some is) (waiting_since log))
 
 pub listed_due : (log : List Event) (place : ℕ) (id : List ℕ) → slice_get (due_ids log) place ≡ Some id → is_due log id ≡ true
-listed_due log place id is = all_at (λ x. is_due log x ≡ true) (due_ids log) place id (due_each log) is
+listed_due log place id is = all_got (λ x. is_due log x ≡ true) (due_ids log) place id (due_each log) is
 
 -- a due crash is held
 pub due_held : (log : List Event) (id : List ℕ) → AreLegal log → is_due log id ≡ true → is_held log id ≡ true
@@ -204,30 +121,13 @@ next_waiting log place id later is =
 next_due : (log : List Event) (id : List ℕ) (later : List (List ℕ)) → due_ids log ≡ id ∷ later → due_ids (log ++ E.Done id ∷ []) ≡ later
 next_due log id later is =
     elim (waiting log) as (λ w. waiting log ≡ w → map (λ here. here.1) w ≡ id ∷ later → due_ids (log ++ E.Done id ∷ []) ≡ later) [
-      | [] ↦ λ whole none. absurd (nothing none)
-      | here ∷ others ↦ λ whole listed.
-          let first : here.1 ≡ id = same_head listed in
-          let rest : map (λ h. h.1) others ≡ later = same_tail listed in
-          ap (λ x. due_ids (log ++ E.Done x ∷ [])) (sym first) ∙ (ap (map (λ h. h.1)) (next_waiting log here.0 here.1 others whole) ∙ rest)
+      | [] ↦ λ whole none. cc
+      | here ∷ others ↦ λ whole listed. ap (λ x. due_ids (log ++ E.Done x ∷ [])) (sym (heads listed)) ∙ (ap (map (λ h. h.1)) (next_waiting log here.0 here.1 others whole) ∙ tails listed)
     ] refl is
-  where
-    nothing : [] ≡ id ∷ later → ⊥
-    nothing e = cc
-
-    same_head : {x y : List ℕ} {xs ys : List (List ℕ)} → x ∷ xs ≡ y ∷ ys → x ≡ y
-    same_head e = cc
-
-    same_tail : {x y : List ℕ} {xs ys : List (List ℕ)} → x ∷ xs ≡ y ∷ ys → xs ≡ ys
-    same_tail e = cc
 
 events_done : (basis : Basis) (ids : List (List ℕ)) → events basis (map done ids) ≡ map E.Done ids
 events_done basis [] = refl
 events_done basis (id ∷ ids) = ap (λ l. E.Done id ∷ l) (events_done basis ids)
-
-rose_later : (before middle after : DiskTold) → GoesOn before middle → DiskFailed middle after → DiskFailed before after
-rose_later before middle after goes_on rose =
-    let le : before.faults ≤ middle.faults = goes_on.faults_never_fall in
-    ⊎_elim (λ (more : middle.faults < after.faults). inl (omega (arith, le, more))) (λ (most : 2 ^ 64 - 1 ≤ after.faults). inr most) rose
 
 -- a disk that is as it was
 pub looks_same : (disk disk' : DiskTold) → IsDisk disk → disk' ≡ disk → Looks disk disk'
@@ -242,39 +142,23 @@ due_by ledger id number filed standing due known at is test =
 
 -- ---- turns one after another
 
-pub no_turn : (basis : Basis) (state : State) → IsTurned basis state 0 state
-no_turn basis state = record {
-  few = omega arith;
-  after_is = ap (λ l. record state { log = l }) (sym (append-nil state.log) ∙ ap (λ ids. state.log ++ map done ids) (sym (none_taken (due_of basis state))));
-  left = sym (none_dropped (due_of basis state));
-} where
-  none_taken : (xs : List (List ℕ)) → take 0 xs ≡ []
-  none_taken [] = refl
-  none_taken (x ∷ xs) = refl
+with_none : (state : State) → state ≡ with_done state []
+with_none state = ap (λ l. record state { log = l }) (sym (append-nil state.log))
 
-  none_dropped : (xs : List (List ℕ)) → drop 0 xs ≡ xs
-  none_dropped [] = refl
-  none_dropped (x ∷ xs) = refl
+pub no_turn : (basis : Basis) (state : State) → IsTurned basis state 0 state
+no_turn basis state = record { few = omega arith; after_is = with_none state; left = refl }
 
 pub one_turn : (basis : Basis) (state : State) (turns : ℕ) (between after : State) (id : List ℕ) → IsTurned basis state turns between → IsDueAt (events basis between.log) 0 id → after ≡ with_done between (id ∷ []) → IsTurned basis state (turns + 1) after
 one_turn basis state turns between after id so_far at is =
     let due : List (List ℕ) = due_of basis state in
     let place : slice_get due turns ≡ Some id = sym (drop_front turns due) ∙ (ap (λ l. slice_get l 0) (sym so_far.left) ∙ at) in
-    let within : turns < length due = within_get turns due id place in
+    let within : turns < length due = slice_get_within due turns id place in
     let whole : (later : List (List ℕ)) × (due_of basis between ≡ id ∷ later) = first_of (due_of basis between) id at in
     let same_log : with_done between (id ∷ []) ≡ with_done state (take (turns + 1) due) =
     ap (λ s. with_done s (id ∷ [])) so_far.after_is
     ∙ ap (λ l. record state { log = l }) (append_assoc state.log (map done (take turns due)) (done id ∷ []) ∙ ap (λ l. state.log ++ l) (sym (map-append done (take turns due) (id ∷ [])) ∙ ap (map done) (sym (take_next turns due id place) ∙ ap (λ n. take n due) (sym (add-one turns))))) in
     let rest : due_of basis after ≡ whole.0 = ap (λ s. due_of basis s) is ∙ (ap due_ids (events-more basis between.log (done id)) ∙ next_due (events basis between.log) id whole.0 whole.1) in
-    let dropped : whole.0 ≡ drop (turns + 1) due =
-    behind (due_of basis between) whole.0 id whole.1 ∙ (ap (drop 1) so_far.left ∙ (drop-drop 1 turns due)) in
-    record { few = omega (arith, within); after_is = is ∙ same_log; left = rest ∙ dropped }
-  where
-    behind : (xs ys : List (List ℕ)) (x : List ℕ) → xs ≡ x ∷ ys → ys ≡ drop 1 xs
-    behind xs ys x e = sym (ap (drop 1) e ∙ none_dropped ys) where
-      none_dropped : (l : List (List ℕ)) → drop 0 l ≡ l
-      none_dropped [] = refl
-      none_dropped (z ∷ zs) = refl
+    record { few = omega (arith, within); after_is = is ∙ same_log; left = rest ∙ (sym (ap (drop 1) whole.1) ∙ (ap (drop 1) so_far.left ∙ drop-drop 1 turns due)) }
 
 -- while some are left, some crash is due
 pub still_some : (basis : Basis) (state : State) (turns : ℕ) (between : State) → IsTurned basis state turns between → turns < length (due_of basis state) → due_of basis between ≡ [] → ⊥
@@ -300,15 +184,6 @@ module _ {basis : Basis} {limits : Limits} {ledger : LedgerState} {rows : List (
   pub due_count_is : length (due_ids ledger.log) ≡ length (due_of basis state)
   due_count_is = ap (λ l. length (due_ids l)) stands.holds.events_are
 
-  pub apart_numbers : (number other : ℕ) → number < length ledger.crashes → other < length ledger.crashes → id_of ledger other ≡ id_of ledger number → other ≡ number
-  apart_numbers number other within below same =
-      let one : FiledAt (entries_of (kept_of state.log)) (accepted_of state.log) ledger.crashes number = filed_at _ (accepted_of state.log) ledger.crashes number stands.holds.filed within in
-      let two : FiledAt (entries_of (kept_of state.log)) (accepted_of state.log) ledger.crashes other = filed_at _ (accepted_of state.log) ledger.crashes other stands.holds.filed below in
-      let named_one : id_of ledger number ≡ one.crash.id = ap (λ o. option_map_or (λ f. f.id) o []) one.own_at ∙ one.is.id in
-      let named_two : id_of ledger other ≡ two.crash.id = ap (λ o. option_map_or (λ f. f.id) o []) two.own_at ∙ two.is.id in
-      apart_at (accepted_of state.log) other number two.crash one.crash (accepted_apart basis state.log stands.legal.log.events_legal) two.crash_at one.crash_at
-      ((bytes_eq-Decides two.crash.id one.crash.id).1 (sym named_two ∙ (same ∙ named_one)))
-
   -- the tables once a due crash has its row
   pub stands_done : (number : ℕ) (row : List Cell) (room : ℕ) → number < length ledger.crashes → is_due ledger.log (id_of ledger number) ≡ true
       → (IsTrue basis.is_told → option_map basis.row_of (raw_of state.log (id_of ledger number)) ≡ Some row)
@@ -317,8 +192,7 @@ module _ {basis : Basis} {limits : Limits} {ledger : LedgerState} {rows : List (
       let roomy : Stands basis limits (record ledger { room = room }) rows pending journal disk state = stands_room room stands in
       let is : is_due (events basis state.log) (id_of ledger number) ≡ true = idle_is (id_of ledger number) true due in
       stands_behind roomy (done (id_of ledger number)) (done_quiet (id_of ledger number)) (with_row (number, row) rows) is
-      (done_rows basis state.log (record ledger { room = room }) rows roomy.holds.rows_are number row within (λ other below same. apart_numbers number other within below same)
-      (due_held (events basis state.log) (id_of ledger number) stands.legal.log.events_legal is) is_row)
+      (done_rows basis state.log (record ledger { room = room }) rows stands.legal.log roomy.holds number row within (due_held (events basis state.log) (id_of ledger number) stands.legal.log.events_legal is) is_row)
 
   pub stands_finished : (number : ℕ) (row : List Cell) (roomy after : LedgerState) (rows' : List (ℕ × List Cell)) → roomy ≡ record ledger { room = roomy.room } → after ≡ with_event roomy (E.Done (id_of roomy number))
       → rows' ≡ with_row (number, row) rows → number < length ledger.crashes → is_due ledger.log (id_of ledger number) ≡ true → (IsTrue basis.is_told → option_map basis.row_of (raw_of state.log (id_of ledger number)) ≡ Some row)
@@ -333,7 +207,7 @@ module _ {basis : Basis} {limits : Limits} {ledger : LedgerState} {rows : List (
   stands_stopped room none =
       let roomy : Stands basis limits (record ledger { room = room }) rows pending journal disk state = stands_room room stands in
       stands_behind roomy stop stop_quiet rows (ap not (ap has_stop (sym stands.holds.events_are) ∙ none))
-      (stop_rows basis state.log (record ledger { room = room }) rows roomy.holds.rows_are)
+      (stop_rows basis state.log (record ledger { room = room }) rows stands.legal.log roomy.holds)
 
   pub stands_stopping : (roomy after : LedgerState) → roomy ≡ record ledger { room = roomy.room } → after ≡ with_event roomy E.Stopped → has_stop ledger.log ≡ false
       → Stands basis limits after rows pending journal disk (record state { log = state.log ++ stop ∷ [] })
@@ -365,9 +239,6 @@ module _ {basis : Basis} {limits : Limits} {ledger : LedgerState} {rows : List (
       survives = λ is_told. survives_looking stands disk' after is_told looks;
     }
 
-    with_none : state ≡ with_done state []
-    with_none = ap (λ l. record state { log = l }) (sym (append-nil state.log))
-
     module _ (caller : Caller) (may : without caller Operate ≡ None) where
       abbrev T : Command
       T = C.Turn caller
@@ -377,7 +248,7 @@ module _ {basis : Basis} {limits : Limits} {ledger : LedgerState} {rows : List (
 
       pub turn_does : (result : Result (Option (List ℕ)) Refusal) (after : State) → TurnsTo basis state result after disk disk' → Does basis state disk (C.Turn caller) (turn_reply result) after disk'
       turn_does (Ok None) after turns =
-          processes (C.Turn caller) (R.Turned None) [] after (turns.1 ∙ with_none) (may, tt) ((turns.0, refl), refl) (λ never. absurd never) (λ never. absurd never)
+          processes (C.Turn caller) (R.Turned None) [] after (turns.1 ∙ with_none state) (may, tt) ((turns.0, refl), refl) (λ never. absurd never) (λ never. absurd never)
           (λ is_told. permitted state (C.Turn caller) (R.Turned None) after _ may (subst (λ d. TurnsFirst state d (R.Turned None) after) (sym turns.0) (refl, turns.1)))
       turn_does (Ok (Some id)) after turns =
           let whole : (later : List (List ℕ)) × (due_of basis state ≡ id ∷ later) = first_of (due_of basis state) id turns.0 in
@@ -385,14 +256,14 @@ module _ {basis : Basis} {limits : Limits} {ledger : LedgerState} {rows : List (
           (λ is_told. first_turn (R.Turned (Some id)) after id whole.0 whole.1 (inl (refl, turns.1)))
       turn_does (Err F.StoreFault) after turns =
           let whole : (id : List ℕ) × (later : List (List ℕ)) × (due_of basis state ≡ id ∷ later) = some_first (due_of basis state) turns.0 in
-          processes (C.Turn caller) (R.Refused F.StoreFault) [] after (turns.2 ∙ with_none) (may, tt) ((turns.0, refl), refl) (λ _. turns.1) (λ never. absurd never)
+          processes (C.Turn caller) (R.Refused F.StoreFault) [] after (turns.2 ∙ with_none state) (may, tt) ((turns.0, refl), refl) (λ _. turns.1) (λ never. absurd never)
           (λ is_told. first_turn (R.Refused F.StoreFault) after whole.0 whole.1 whole.2 (inr (inr (refl, (refl, turns.2)))))
       turn_does (Err (F.Altered id)) after turns =
-          processes (C.Turn caller) (R.Refused (F.Altered id)) [] after (turns.2 ∙ with_none) (may, tt) ((turns.0, refl), refl) (λ never. absurd never) (λ _. turns.1)
+          processes (C.Turn caller) (R.Refused (F.Altered id)) [] after (turns.2 ∙ with_none state) (may, tt) ((turns.0, refl), refl) (λ never. absurd never) (λ _. turns.1)
           (λ is_told. absurd (true_is_not_false (sym is_told ∙ turns.1)))
       turn_does (Err F.NoMemory) after turns =
           let whole : (id : List ℕ) × (later : List (List ℕ)) × (due_of basis state ≡ id ∷ later) = some_first (due_of basis state) turns.0 in
-          processes (C.Turn caller) (R.Refused F.NoMemory) [] after (turns.1 ∙ with_none) (may, tt) ((turns.0, refl), refl) (λ never. absurd never) (λ never. absurd never)
+          processes (C.Turn caller) (R.Refused F.NoMemory) [] after (turns.1 ∙ with_none state) (may, tt) ((turns.0, refl), refl) (λ never. absurd never) (λ never. absurd never)
           (λ is_told. first_turn (R.Refused F.NoMemory) after whole.0 whole.1 whole.2 (inr (inl (refl, turns.1))))
       turn_does (Err _) after turns = absurd turns
 
@@ -402,7 +273,7 @@ module _ {basis : Basis} {limits : Limits} {ledger : LedgerState} {rows : List (
       drained turns count after same listed made =
           let all : count ≡ length (due_of basis state) = listed ∙ due_count_is in
           let turned : IsTurned basis state count after = subst (λ n. IsTurned basis state n after) same made in
-          let whole : take count (due_of basis state) ≡ due_of basis state = ap (λ n. take n (due_of basis state)) all ∙ take_whole (due_of basis state) in
+          let whole : take count (due_of basis state) ≡ due_of basis state = ap (λ n. take n (due_of basis state)) all ∙ take_all (length (due_of basis state)) (due_of basis state) (omega arith) in
           let is : after ≡ with_done state (due_of basis state) = turned.after_is ∙ ap (with_done state) whole in
           processes (C.Drain caller) (R.Drained count) (due_of basis state) after is (may, tt) ((all, refl), refl) (λ never. absurd never) (λ never. absurd never)
           (λ is_told. permitted state (C.Drain caller) (R.Drained count) after _ may (all, is))
@@ -421,7 +292,7 @@ module _ {basis : Basis} {limits : Limits} {ledger : LedgerState} {rows : List (
         pub drain_stopped : (refusal : Refusal) (middle : DiskTold) → GoesOn disk middle → TurnsTo basis between (Err refusal) after middle disk' → Does basis state disk (C.Drain caller) (R.Refused refusal) after disk'
         drain_stopped F.StoreFault middle goes_on stopped =
             processes (C.Drain caller) (R.Refused F.StoreFault) (take turns (due_of basis state)) after (after_some stopped.2) (may, tt) ((turns, some_left stopped.0, refl), refl)
-            (λ _. rose_later disk middle disk' goes_on stopped.1) (λ never. absurd never)
+            (λ _. failed_later disk middle disk' goes_on stopped.1) (λ never. absurd never)
             (λ is_told. permitted state (C.Drain caller) (R.Refused F.StoreFault) after _ may (turns, some_left stopped.0, after_some stopped.2))
         drain_stopped (F.Altered id) middle goes_on stopped =
             processes (C.Drain caller) (R.Refused (F.Altered id)) (take turns (due_of basis state)) after (after_some stopped.2) (may, tt)

@@ -1,20 +1,6 @@
 -- What a caller's view has of a crash, by what the log tells of it.
 use Rattle.std.proofs.Common.{◌≡◌, ℕ, Bool, true, false, List, [], ◌∷◌, Option, Some, None, IfSome, cond, sym, ap, ◌∙◌, refl}
-use Rattle.std.specs.Prelude.{bytes_eq, filter_map}
-use Rattle.std.specs.List.{AllByRecursion, cons_option, find}
-use Rattle.std.specs.Option.{option_map, option_and_then}
-use Rattle.std.proofs.lemmas.Slice.Eq.{bytes_eq-Decides}
-use Rattle.soc_base.specs.Names.{value_of}
-use Rattle.soc_raw.specs.Record.{Crash}
-use Rattle.soc_schema.specs.declared.caller.Caller.{Caller}
-use Rattle.soc_schema.specs.declared.value.Cell.{Cell}
-use Rattle.soc_ledger.specs.Events.{is_held}
-use Rattle.soc_ledger.specs.Legal.{IsLegal as AreLegal}
-use Rattle.soc_desk.specs.Basis.{Basis}
-use Rattle.soc_desk.specs.Log.{Change, Accepted, accepted_of, events, raw_of, row_in}
-use Rattle.soc_desk.specs.View.{Seen, seen_of, view_of}
-use Rattle.soc_desk.proofs.Logs.{has_id, IsApart, accepted_apart}
-use Rattle.soc_desk.proofs.Views.{turned_eq, value_of-with_value, shown, item, item_of, item_id, items_absent, view_of_items, view_items, all-filter_map}
+use Rattle.soc_book.proofs.Words.{bytes_eq, filter_map, AllByRecursion, cons_option, find, option_map, option_and_then, bytes_eq-Decides, value_of, Crash, Caller, Cell, is_held, AreLegal, Basis, Change, Accepted, accepted_of, events, raw_of, row_in, Seen, seen_of, view_of, has_id, IsApart, accepted_apart, turned_eq, value_of-with_value, shown, item, item_of, item_id, items_absent, view_of_items, view_items, all-filter_map}
 
 -- what a caller sees of a crash: nothing where it isn't held, or where its product isn't shown
 abbrev pub sight : Caller → Bool → Option Crash → Option (List Cell) → Option Seen

@@ -3,7 +3,6 @@ use Rattle.std.specs.Prelude.{◌≡◌, ℕ, Some, IsTrue, List, ⊤}
 use Rattle.soc_schema.specs.declared.reporter.Reporter as reporter
 use Rattle.soc_edge.specs.Disk.{DiskTold}
 use Rattle.soc_edge.specs.declared.disk.Disk as disk
-use Rattle.soc_ledger.specs.declared.crash.Filed.{Filed}
 use Rattle.soc_ledger.specs.declared.event.Event.{Event}
 use Rattle.soc_ledger.specs.Due.{is_due}
 use Rattle.soc_desk.specs.declared.desk.Command.{Command}
@@ -40,10 +39,6 @@ module _ {D R : Type 0} {d : disk.Ghosts D} {r : reporter.Ghosts R} where
   -- the events of its log
   abbrev pub log_in : Book D R d r → List Event
   log_in book = book.ledger.log
-
-  -- what it has in memory of each accepted crash
-  abbrev pub crashes_in : Book D R d r → List Filed
-  crashes_in book = book.ledger.crashes
 
   -- the same lent disk, limits and reporter
   pub record SameSetting (before after : Book D R d r) : Type 0 where

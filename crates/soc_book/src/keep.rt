@@ -14,7 +14,7 @@ ghost use Rattle.soc_book.specs.inner.Pieces.{product_at};
 ghost use Rattle.soc_book.specs.inner.Stands.{AreReports, most_together};
 ghost use Rattle.soc_book.specs.inner.Steps.{Becomes, KeepsBook};
 
-use crate::book::{Book, MOST_TOGETHER};
+use crate::book::{Book, Change, MOST_TOGETHER};
 use crate::report::{HEAD, report_text, tells};
 use crate::writes::make_room;
 use soc_base::NoMemory;
@@ -160,7 +160,7 @@ impl<'a, D: Disk, R: Reporter> Book<'a, D, R> {
             return Ok(0);
         }
         make_room(&mut self.ledger)?;
-        self.append_reports(entries.as_slice(), numbers)?;
+        self.append(entries.as_slice(), Change::Reports(numbers))?;
         Ok(count)
     }
 

@@ -16,7 +16,7 @@ ghost use Rattle.soc_book.specs.inner.Prepared.{IsPrepared, command_of};
 ghost use Rattle.soc_book.specs.inner.Stands.{most_together};
 ghost use Rattle.soc_book.specs.inner.Steps.{Becomes};
 
-use crate::book::{Book, MOST_TOGETHER};
+use crate::book::{Book, Change, MOST_TOGETHER};
 use crate::prepared::{Prepared, Work};
 use crate::submission::{NewCrash, Submission};
 use crate::submit::is_due_at_once;
@@ -299,7 +299,7 @@ impl<'a, D: Disk, R: Reporter> Book<'a, D, R> {
             crashes,
             ..
         } = batch;
-        let written = self.append_new(entries.as_slice(), crashes);
+        let written = self.append(entries.as_slice(), Change::Accepts(crashes));
         self.tell(ids.as_slice(), &written, receipts);
     }
 

@@ -1,15 +1,12 @@
 //! What is written, and settled.
-ghost use Rattle.std.specs.Prelude.{◌≡◌, ◌≢◌, ◌<◌, ◌≤◌, ◌+◌, ◌++◌, ◌∷◌, length, ℕ, IsTrue, List, map, IfErr, IfOk, IfSome, MatchResult, None, Ok, OnOk};
+ghost use Rattle.std.specs.Prelude.{◌≡◌, ◌<◌, ◌≤◌, ◌+◌, length, ℕ, IfErr, IfOk, IfSome, IsErrOf, MatchResult, None, Ok, OnOk};
 ghost use Rattle.soc_edge.specs.Disk.{Looks};
 ghost use Rattle.soc_journal.specs.Entries.{sealed_all};
-ghost use Rattle.soc_desk.specs.Basis.{Basis};
 ghost use Rattle.soc_desk.specs.Kinds.{RefusesWrite};
-ghost use Rattle.soc_desk.specs.Log.{Change as Logged, IsLegal, Kept, keep};
-ghost use Rattle.soc_desk.specs.State.{entries_of, settled};
-ghost use Rattle.soc_book.specs.Books.{SameSetting, StandsFor, disk_of};
-ghost use Rattle.soc_book.specs.inner.Pieces.{AreAppended, IsAppended, IsWriteReply, IsWritten};
-ghost use Rattle.soc_book.specs.inner.Stands.{AddsSettled, AreAccepted, AreReports, FitNew, FitReports, Fits, IsKnownCrash, Pushes, PushesNew, most_together, with_reports};
-ghost use Rattle.soc_book.specs.inner.Steps.{Becomes, BeginsBook, WritesBook};
+ghost use Rattle.soc_book.specs.Books.{SameSetting, disk_of};
+ghost use Rattle.soc_book.specs.inner.Pieces.{IsWriteReply};
+ghost use Rattle.soc_book.specs.inner.Stands.{AcceptsNone, AddsSettled, FitNew, FitReports, Fits, Pushes, PushesNew, most_together, with_reports};
+ghost use Rattle.soc_book.specs.inner.Steps.{BeginsBook, WritesBook, WritesOne};
 
 use crate::book::{Book, Change, ROOM};
 use crate::submission::NewCrash;
@@ -20,6 +17,7 @@ use soc_journal::{AppendError, EntryText, Settled};
 use soc_ledger::Ledger;
 use soc_schema::Reporter;
 use soc_store::Store;
+use std::slice;
 
 impl<'a, D: Disk, R: Reporter> Book<'a, D, R> {
     /// What a writing command was prepared with, once there is memory for the events that it adds and a doubt is settled.
@@ -56,20 +54,21 @@ impl<'a, D: Disk, R: Reporter> Book<'a, D, R> {
         Ok(())
     }
 
-    /// Keeps an entry on the disk, and then adds the change that it stands for to the log.
-    pub(crate) fn append(&mut self, entry: &EntryText, change: Change) -> Result<(), Refusal>
+    /// Keeps the entries of a change on the disk, all of them or none, and then adds the change to the log.
+    pub(crate) fn append(&mut self, entries: &[EntryText], change: Change) -> Result<(), Refusal>
         requires settled { self.old.vault.journal.doubt ≡ None }
+        requires some { 0 < length entries.now }
         requires fits { Fits self.old.ledger change }
         ensures setting { SameSetting self.old self.new }
-        ensures settled { IfErr result
-            (λ refusal. refusal ≢ Refusal.StoreFault → self.new.vault.journal.doubt ≡ None) }
-        ensures written { OnOk result (self.new.vault.journal.doubt ≡ None) }
-        ensures crashes { IsKnownCrash change → self.new.ledger.crashes ≡ self.old.ledger.crashes }
+        ensures settled { OnOk result (self.new.vault.journal.doubt ≡ None) }
+        ensures crashes { AcceptsNone change
+            → self.new.ledger.crashes ≡ self.old.ledger.crashes }
         ensures refusal { IfErr result RefusesWrite }
-        ensures appended { WritesBook self.old change entry.now self.new (λ basis log kept later.
-            IsAppended basis log (disk_of self.old) kept result later (disk_of self.new)) }
+        ensures full { IsErrOf result Refusal.JournalFull → self.old.vault.journal.limit
+            < self.old.vault.journal.gate + length (sealed_all entries.now) }
+        ensures appended { WritesBook self.old change entries.now result self.new }
     {
-        match self.vault.keep(entry) {
+        match self.vault.keep_all(entries) {
             Ok(place) => {
                 push(&mut self.ledger, &mut self.store, change, place);
                 Ok(())
@@ -82,88 +81,17 @@ impl<'a, D: Disk, R: Reporter> Book<'a, D, R> {
         }
     }
 
-    /// The same, with the reply to a change that is written.
+    /// The reply to a change of one entry: this one where it is written.
     pub(crate) fn write(&mut self, entry: &EntryText, change: Change, written: Reply) -> Reply
         requires settled { self.old.vault.journal.doubt ≡ None }
         requires fits { Fits self.old.ledger change }
         ensures setting { SameSetting self.old self.new }
         ensures kind { IsWriteReply written result }
-        ensures writes { WritesBook self.old change entry.now self.new (λ basis log kept later.
-            IsWritten basis log (disk_of self.old) kept written result later (disk_of self.new)) }
+        ensures writes { WritesOne self.old change entry.now written result self.new }
     {
-        match self.append(entry, change) {
+        match self.append(slice::from_ref(entry), change) {
             Ok(()) => written,
             Err(refusal) => Reply::Refused(refusal),
-        }
-    }
-
-    /// Keeps the entries of reports on the disk, all of them or none, and then adds the reports to the log.
-    pub(crate) fn append_reports(
-        &mut self,
-        entries: &[EntryText],
-        numbers: Vec<u32>,
-    ) -> Result<(), Refusal>
-        requires settled { self.old.vault.journal.doubt ≡ None }
-        requires some { 0 < length entries.now }
-        requires room { self.old.vault.journal.gate + length (sealed_all entries.now)
-            ≤ self.old.vault.journal.limit }
-        requires fits { FitReports self.old.ledger numbers.items }
-        ensures setting { SameSetting self.old self.new }
-        ensures settled { OnOk result (self.new.vault.journal.doubt ≡ None) }
-        ensures crashes { self.new.ledger.crashes ≡ self.old.ledger.crashes }
-        ensures appended { (basis : Basis) (log : List Logged) (first : Kept) (more : List Kept)
-            → StandsFor basis self.old (settled log)
-            → AreReports basis log self.old.ledger numbers.items (first ∷ more)
-            → IsLegal basis (log ++ map keep (first ∷ more))
-            → entries.now ≡ entries_of (first ∷ more)
-            → Becomes basis self.new (λ later.
-            AreAppended basis log (disk_of self.old) (first ∷ more) result later
-            (disk_of self.new)) }
-    {
-        match self.vault.keep_all(entries) {
-            Ok(_) => {
-                push_reports(&mut self.ledger, numbers.as_slice());
-                Ok(())
-            }
-            Err(AppendError::JournalFull) => Err(Refusal::JournalFull),
-            Err(AppendError::StoreFault) => {
-                self.doubt = Some(Change::Reports(numbers));
-                Err(Refusal::StoreFault)
-            }
-        }
-    }
-
-    /// Keeps the entries of new crashes on the disk, all of them or none, and then adds the crashes to the log.
-    pub(crate) fn append_new(
-        &mut self,
-        entries: &[EntryText],
-        crashes: Vec<NewCrash>,
-    ) -> Result<(), Refusal>
-        requires settled { self.old.vault.journal.doubt ≡ None }
-        requires some { 0 < length entries.now }
-        requires room { self.old.vault.journal.gate + length (sealed_all entries.now)
-            ≤ self.old.vault.journal.limit }
-        requires fits { FitNew self.old.ledger crashes.items }
-        ensures setting { SameSetting self.old self.new }
-        ensures appended { (basis : Basis) (log : List Logged) (first : Kept) (more : List Kept)
-            → StandsFor basis self.old (settled log)
-            → AreAccepted basis crashes.items (first ∷ more)
-            → IsLegal basis (log ++ map keep (first ∷ more))
-            → (IsTrue basis.is_told → entries.now ≡ entries_of (first ∷ more))
-            → Becomes basis self.new (λ later.
-            AreAppended basis log (disk_of self.old) (first ∷ more) result later
-            (disk_of self.new)) }
-    {
-        match self.vault.keep_all(entries) {
-            Ok(place) => {
-                push_new(&mut self.ledger, &self.store, crashes, place);
-                Ok(())
-            }
-            Err(AppendError::JournalFull) => Err(Refusal::JournalFull),
-            Err(AppendError::StoreFault) => {
-                self.doubt = Some(Change::Accepts(crashes));
-                Err(Refusal::StoreFault)
-            }
         }
     }
 }

@@ -39,7 +39,7 @@ use Rattle.soc_book.specs.declared.book.Book.{Book}
 use Rattle.soc_book.specs.declared.opening.Restored.{Restored}
 use Rattle.soc_book.specs.Books.{AllowsBook, AsksBook, ForEachState, SameSetting, StandsFor, disk_of, limits_of, log_in, reporter_of}
 use Rattle.soc_book.specs.Openings.{RestoredFor, Restores}
-use Rattle.soc_book.proofs.Listings.{sound_accepted}
+use Rattle.soc_book.proofs.Changes.{IsSoundCrash, sound_crashes}
 use Rattle.soc_service.specs.declared.change.Change.{Change}
 use Rattle.soc_service.specs.Changes.{events_in, text_in}
 use Rattle.soc_turns.specs.Changes.{changes_at}
@@ -70,9 +70,8 @@ raw_found (Some crash) raw is = (crash, refl, is)
 raw_sound : (basis : Basis) (log : List Logged) (id : List ℕ) (raw : Crash) → IsLegal basis log → raw_of log id ≡ Some raw → IsCrash raw
 raw_sound basis log id raw legal is =
     let f = raw_found (find (λ crash. bytes_eq crash.id id) (accepted_of log)) raw is in
-    let P : Accepted → Type 0 = λ crash. IfSome crash.raw (λ r. (r.id ≡ crash.id) × IsCrash r) in
-    let sound : P f.0 = found_all P (λ crash. bytes_eq crash.id id) (accepted_of log) f.0 (sound_accepted basis log legal) f.1 in
-    (subst (λ (o : Option Crash). IfSome o (λ r. (r.id ≡ f.0.id) × IsCrash r)) f.2 sound).1
+    let sound : IsSoundCrash f.0 = found_all IsSoundCrash (λ crash. bytes_eq crash.id id) (accepted_of log) f.0 (sound_crashes log legal.sound) f.1 in
+    (subst (λ (o : Option Crash). IfSome o (λ r. (r.id ≡ f.0.id) × IsCrash r)) f.2 sound.1).1
 
 -- the raw crash with this record
 raw_by : (held : Option Crash) (crash : Crash) → ((raw : Crash) → held ≡ Some raw → IsCrash raw) → IsCrash crash → option_map record_of held ≡ Some (record_of crash) → held ≡ Some crash

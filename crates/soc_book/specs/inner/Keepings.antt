@@ -68,34 +68,32 @@ rest_ids log number = filter (is_wanted log) (drop number (accepted_ids log))
 abbrev pub with_all : List Change → List Kept → List Change
 with_all log changes = log ++ map keep changes
 
--- what was kept before this number, and what is left
-pub record KeptSoFar (basis : Basis) (log : List Change) (number count : ℕ) (now : List Change) (disk disk' : DiskTold) : Type 0 where
-  pub own : List (List ℕ)
-  pub reports : List Kept
-  pub behind : now ≡ with_all log reports
-  pub events_are : events basis (map keep reports) ≡ map (λ id. E.Reported id true) own
-  pub among : (more : List (List ℕ)) → IsPartOf more (rest_ids (events basis now) number) → IsPartOf (own ++ more) (rest_ids (events basis log) 0)
-  pub count_is : count ≡ length own
-  pub reports_count : length reports ≡ length own
+-- reports of the crashes from one number on to another, in order, behind which those from the second number on are left
+pub record KeepsOn (basis : Basis) (log : List Change) (from to : ℕ) (reports : List Kept) : Type 0 where
+  pub ids : List (List ℕ)
+  pub events_are : events basis (map keep reports) ≡ map (λ id. E.Reported id true) ids
+  pub count : length reports ≡ length ids
+  pub among : (more : List (List ℕ)) → IsPartOf more (rest_ids (events basis (with_all log reports)) to) → IsPartOf (ids ++ more) (rest_ids (events basis log) from)
+  pub keeps : IsTrue basis.is_told
+      → to_append basis log (rest_ids (events basis log) from) ≡ reports ++ to_append basis (with_all log reports) (rest_ids (events basis (with_all log reports)) to)
+
+-- so many reports were kept before this number
+pub record KeptSoFar (basis : Basis) (log : List Change) (number count : ℕ) (reports : List Kept) (disk disk' : DiskTold) : Type 0 where
+  pub kept : KeepsOn basis log 0 number reports
+  pub count_is : count ≡ length reports
   pub goes_on : GoesOn disk disk'
-  pub keeps : IsTrue basis.is_told → to_append basis log (rest_ids (events basis log) 0) ≡ reports ++ to_append basis now (rest_ids (events basis now) number)
-  pub survives : IsTrue basis.is_told → LeavesOnly disk disk' (StandsBetween (kept_of log) (kept_of now))
+  pub survives : IsTrue basis.is_told → LeavesOnly disk disk' (StandsBetween (kept_of log) (kept_of (with_all log reports)))
 
 -- These are the reports, of the crashes from one number on to another, that are to be kept and have room, in order: each may
 -- follow those before it. The crashes from the second number on are to be kept as before.
 pub record HasGathered (basis : Basis) (log : List Change) (ledger : LedgerState) (from to : ℕ) (numbers : List ℕ) (entries : List Entry) (reports : List Kept) : Type 0 where
-  pub ids : List (List ℕ)
   pub are : AreReports basis log ledger numbers reports
   pub entries_are : entries ≡ entries_of reports
   pub legal : IsLegal basis (with_all log reports)
-  pub events_are : events basis (map keep reports) ≡ map (λ id. E.Reported id true) ids
-  pub ids_count : length ids ≡ length numbers
-  pub reports_count : length reports ≡ length numbers
-  pub among : (more : List (List ℕ)) → IsPartOf more (rest_ids (events basis (with_all log reports)) to) → IsPartOf (ids ++ more) (rest_ids (events basis log) from)
+  pub count : length numbers ≡ length reports
+  pub kept : KeepsOn basis log from to reports
   pub same : (number : ℕ) (id : List ℕ) → to ≤ number → slice_get (accepted_ids (events basis log)) number ≡ Some id
       → is_wanted (events basis (with_all log reports)) id ≡ is_wanted (events basis log) id
-  pub keeps : IsTrue basis.is_told
-      → to_append basis log (rest_ids (events basis log) from) ≡ reports ++ to_append basis (with_all log reports) (rest_ids (events basis (with_all log reports)) to)
 
 -- some reports of the crashes from this number on are to be appended
 abbrev pub LeavesSome : Basis → List Change → ℕ → Type 0

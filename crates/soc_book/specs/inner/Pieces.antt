@@ -16,7 +16,8 @@ use Rattle.soc_desk.specs.declared.desk.Refusal.TheVariants as F
 use Rattle.soc_desk.specs.Basis.{Basis}
 use Rattle.soc_desk.specs.Kinds.{RefusesReading, RefusesWrite}
 use Rattle.soc_desk.specs.Log.{Kept, Change, keep, raw_of}
-use Rattle.soc_desk.specs.State.{State, settled, Settles, has_room, Survives}
+use Rattle.soc_desk.specs.State.{State, settled, Settles, Survives}
+use Rattle.soc_book.specs.inner.Stands.{HasRoom}
 
 -- ---- looking a crash up
 
@@ -74,29 +75,18 @@ Begins state disk disk' (Err refusal) Now = Stays state disk disk' refusal Now
 
 -- ---- appending
 
--- the change is written, its write failed, or the journal has no room for it
-abbrev pub EndsAs : Basis → List Change → Kept → Result (Unit {0}) Refusal → State → DiskTold → DiskTold → Type 0
-EndsAs basis log change (Ok _) after disk disk' =
-    (after ≡ settled (log ++ keep change ∷ [])) × (IsTrue basis.is_told → has_room basis log change ≡ true)
-EndsAs basis log change (Err F.StoreFault) after disk disk' =
-    (after ≡ record { log = log; doubt = change ∷ [] }) × DiskFailed disk disk' × (IsTrue basis.is_told → has_room basis log change ≡ true)
-EndsAs basis log change (Err F.JournalFull) after disk disk' =
-    (after ≡ settled log) × (IsTrue basis.is_told → has_room basis log change ≡ false)
-EndsAs basis log change (Err _) after disk disk' = ⊥
-
-pub record IsAppended (basis : Basis) (log : List Change) (disk : DiskTold) (change : Kept) (result : Result (Unit {0}) Refusal) (after : State) (disk' : DiskTold) : Type 0 where
-  pub ends : EndsAs basis log change result after disk disk'
-  pub goes_on : GoesOn disk disk'
-  pub survives : IsTrue basis.is_told → Survives disk disk' (settled log) after
-
--- changes are written, all of them, or their write failed
-abbrev pub EndsAll : List Change → List Kept → Result (Unit {0}) Refusal → State → DiskTold → DiskTold → Type 0
-EndsAll log changes (Ok _) after disk disk' = after ≡ settled (log ++ map keep changes)
-EndsAll log changes (Err F.StoreFault) after disk disk' = (after ≡ record { log = log; doubt = changes }) × DiskFailed disk disk'
-EndsAll log changes (Err _) after disk disk' = ⊥
+-- changes are written, all of them, their write failed, or the journal has no room for them
+abbrev pub EndsAs : Basis → List Change → List Kept → Result (Unit {0}) Refusal → State → DiskTold → DiskTold → Type 0
+EndsAs basis log changes (Ok _) after disk disk' =
+    (after ≡ settled (log ++ map keep changes)) × (IsTrue basis.is_told → HasRoom basis log changes)
+EndsAs basis log changes (Err F.StoreFault) after disk disk' =
+    (after ≡ record { log = log; doubt = changes }) × DiskFailed disk disk' × (IsTrue basis.is_told → HasRoom basis log changes)
+EndsAs basis log changes (Err F.JournalFull) after disk disk' =
+    (after ≡ settled log) × (IsTrue basis.is_told → ¬ (HasRoom basis log changes))
+EndsAs basis log changes (Err _) after disk disk' = ⊥
 
 pub record AreAppended (basis : Basis) (log : List Change) (disk : DiskTold) (changes : List Kept) (result : Result (Unit {0}) Refusal) (after : State) (disk' : DiskTold) : Type 0 where
-  pub ends : EndsAll log changes result after disk disk'
+  pub ends : EndsAs basis log changes result after disk disk'
   pub goes_on : GoesOn disk disk'
   pub survives : IsTrue basis.is_told → Survives disk disk' (settled log) after
 
@@ -107,7 +97,7 @@ RepliesAs (Err refusal) written reply = reply ≡ R.Refused refusal
 
 pub record IsWritten (basis : Basis) (log : List Change) (disk : DiskTold) (change : Kept) (written reply : Reply) (after : State) (disk' : DiskTold) : Type 0 where
   pub result : Result (Unit {0}) Refusal
-  pub appended : IsAppended basis log disk change result after disk'
+  pub appended : AreAppended basis log disk (change ∷ []) result after disk'
   pub replies : RepliesAs result written reply
 
 -- the reply to a change that is written, or a refusal of what is written to the journal

@@ -22,7 +22,7 @@ use Rattle.soc_vault.specs.Vaults.{IsAt, Means}
 use Rattle.soc_desk.specs.declared.desk.Limits.{Limits}
 use Rattle.soc_desk.specs.Basis.{Basis}
 use Rattle.soc_desk.specs.Decisions.{accepting}
-use Rattle.soc_desk.specs.Log.{Accepted, Kept, accept, ask, withdraw, report, Change, events, accepted_of, row_in, is_own}
+use Rattle.soc_desk.specs.Log.{Accepted, Kept, KeptReport, accept, ask, withdraw, report, Change, events, accepted_of, row_in, is_own}
 use Rattle.soc_desk.specs.State.{State, IsLegalState, entry_of, entries_of, kept_of}
 use Rattle.soc_book.specs.declared.book.Change.{Change as Pending}
 use Rattle.soc_book.specs.declared.book.Change.TheVariants as P
@@ -99,13 +99,11 @@ Pushes ledger rows (P.Withdraw number) place ledger' rows' =
     (ledger' ≡ with_event ledger (E.Withdrawn (id_of ledger number))) × (rows' ≡ without_row number rows)
 Pushes ledger rows (P.Reports numbers) place ledger' rows' = (ledger' ≡ with_reports ledger numbers.items) × (rows' ≡ rows)
 
--- the change is one of a crash that was accepted before
-abbrev pub IsKnownCrash : Pending → Type 0
-IsKnownCrash (P.Accept new) = ⊥
-IsKnownCrash (P.Accepts news) = ⊥
-IsKnownCrash (P.Ask number) = ⊤
-IsKnownCrash (P.Withdraw number) = ⊤
-IsKnownCrash (P.Reports numbers) = ⊥
+-- no crash is accepted by the change
+abbrev pub AcceptsNone : Pending → Type 0
+AcceptsNone (P.Accept new) = ⊥
+AcceptsNone (P.Accepts news) = ⊥
+AcceptsNone _ = ⊤
 
 -- the changes in doubt are added where their entries were kept, and else nothing
 abbrev pub AddsSettled : LedgerState → List (ℕ × List Cell) → Option Pending → Settled → LedgerState → List (ℕ × List Cell) → Type 0
@@ -162,14 +160,13 @@ pub record Holds (basis : Basis) (log : List Change) (ledger : LedgerState) (row
 -- ---- the doubt
 
 -- it accepts this crash, whose content is told exactly where the disk tells it
-abbrev pub IsAcceptanceOf : Basis → NewCrash → Kept → Type 0
-IsAcceptanceOf basis new (accept crash) = (new.id ≡ crash.id) × IfSome crash.raw (λ raw. Tells new raw × IsTrue basis.is_told)
+abbrev pub IsAcceptanceOf : Basis → NewCrash → Accepted → Type 0
+IsAcceptanceOf basis new crash = (new.id ≡ crash.id) × IfSome crash.raw (λ raw. Tells new raw × IsTrue basis.is_told)
     × (IsTrue basis.is_told → IsSome crash.raw)
-IsAcceptanceOf basis new _ = ⊥
 
 -- a change that waits for its entry to be settled, of a crash by its number
 abbrev pub IsPending : Basis → List Change → LedgerState → Pending → Kept → Type 0
-IsPending basis log ledger (P.Accept new) change = IsAcceptanceOf basis new change
+IsPending basis log ledger (P.Accept new) (accept crash) = IsAcceptanceOf basis new crash
 IsPending basis log ledger (P.Ask number) (ask id) = id_of ledger number ≡ id
 IsPending basis log ledger (P.Withdraw number) (withdraw id) = id_of ledger number ≡ id
 IsPending basis log ledger _ _ = ⊥
@@ -177,20 +174,19 @@ IsPending basis log ledger _ _ = ⊥
 -- each accepts its crash, in order
 abbrev pub AreAccepted : Basis → List NewCrash → List Kept → Type 0
 AreAccepted basis [] [] = ⊤
-AreAccepted basis (new ∷ news) (change ∷ changes) = IsAcceptanceOf basis new change × AreAccepted basis news changes
+AreAccepted basis (new ∷ news) (accept crash ∷ changes) = IsAcceptanceOf basis new crash × AreAccepted basis news changes
 AreAccepted basis _ _ = ⊥
 
 -- the report is of the crash of a number, which isn't due, and made by the run's own lists and symbols
-abbrev pub IsReportOf : Basis → List Change → LedgerState → ℕ → Kept → Type 0
-IsReportOf basis log ledger number (report made) = (id_of ledger number ≡ made.id)
+abbrev pub IsReportOf : Basis → List Change → LedgerState → ℕ → KeptReport → Type 0
+IsReportOf basis log ledger number made = (id_of ledger number ≡ made.id)
     × IsTrue (is_own basis made.digest) × IsTrue (not (is_due (events basis log) made.id))
-IsReportOf basis log ledger number _ = ⊥
 
 -- one of each crash of these numbers, in order
 abbrev pub AreReports : Basis → List Change → LedgerState → List ℕ → List Kept → Type 0
 AreReports basis log ledger [] [] = ⊤
-AreReports basis log ledger (number ∷ numbers) (change ∷ changes) =
-    IsReportOf basis log ledger number change × AreReports basis log ledger numbers changes
+AreReports basis log ledger (number ∷ numbers) (report made ∷ changes) =
+    IsReportOf basis log ledger number made × AreReports basis log ledger numbers changes
 AreReports basis log ledger _ _ = ⊥
 
 -- the changes that wait for their entries to be settled are those in doubt
@@ -203,24 +199,31 @@ ArePending basis log ledger _ _ = ⊥
 
 -- ---- the whole
 
--- the journal of the log has room for these changes, where there are some
+-- the journal of the log has room for these changes
+abbrev pub HasRoom : Basis → List Change → List Kept → Type 0
+HasRoom basis log changes = place_behind (entries_of (kept_of log)) + length (sealed_all (entries_of changes)) ≤ basis.journal_bytes
+
+-- the same, where there are some
 abbrev pub FitJournal : Basis → List Change → List Kept → Type 0
 FitJournal basis log [] = ⊤
-FitJournal basis log (first ∷ more) =
-    place_behind (entries_of (kept_of log)) + length (sealed_all (entries_of (first ∷ more))) ≤ basis.journal_bytes
+FitJournal basis log (first ∷ more) = HasRoom basis log (first ∷ more)
 
 -- the disk holds the journal of the log, and of the changes in doubt, which fit it
 pub record IsOnDisk (basis : Basis) (journal : JournalState) (disk : DiskTold) (state : State) : Type 0 where
   pub means : Means disk journal (entries_of (kept_of state.log)) (entries_of state.doubt)
   pub fits : FitJournal basis state.log state.doubt
 
+-- the limits of the basis are those of the book and of the journal
+pub record AreBounds (basis : Basis) (limits : Limits) (journal_limit : ℕ) : Type 0 where
+  pub crashes : basis.crashes ≡ limits.crashes
+  pub bytes : basis.journal_bytes ≡ limits.journal_bytes
+  pub limit : journal_limit ≡ basis.journal_bytes
+  pub short : basis.journal_bytes < 2 ^ 64
+
 -- ledger, rows, doubt, journal and disk stand for a state of the log
 pub record Stands (basis : Basis) (limits : Limits) (ledger : LedgerState) (rows : List (ℕ × List Cell)) (pending : Option Pending) (journal : JournalState) (disk : DiskTold) (state : State) : Type 0 where
   pub legal : IsLegalState basis state
   pub holds : Holds basis state.log ledger rows
   pub doubt : ArePending basis state.log ledger pending state.doubt
-  pub crashes : basis.crashes ≡ limits.crashes
-  pub bytes : basis.journal_bytes ≡ limits.journal_bytes
-  pub limit : journal.limit ≡ basis.journal_bytes
-  pub short : basis.journal_bytes < 2 ^ 64
+  pub bounds : AreBounds basis limits journal.limit
   pub told : IsTrue basis.is_told → IsOnDisk basis journal disk state

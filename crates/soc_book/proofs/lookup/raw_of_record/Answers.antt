@@ -1,10 +1,5 @@
 use Rattle.std.proofs.Common.{◌≡◌, ℕ, true, not, List, sym, ap, ◌∙◌, refl}
-use Rattle.std.specs.Prelude.{bytes_eq}
-use Rattle.std.proofs.lemmas.Slice.Eq.{bytes_eq-Decides}
-use Rattle.soc_raw.specs.RawCrash.{crash_of}
-use Rattle.soc_raw.specs.Record.{Crash}
-use Rattle.soc_raw.proofs.Records.{same_crash}
-use Rattle.soc_ledger.proofs.Lists.{true_is_not_false}
+use Rattle.soc_book.proofs.Words.{bytes_eq, bytes_eq-Decides, crash_of, Crash, same_crash, true_is_not_false}
 use Rattle.soc_book.proofs.lookup.raw_of_record.Goals as goal
 
 differs : (a b : List ℕ) → true ≡ not (bytes_eq a b) → a ≡ b → ⊥

@@ -1,6 +1,5 @@
 use Rattle.std.proofs.Common.{sym, ap, ◌∙◌}
-use Rattle.soc_schema.specs.Fields.{permission_of_annotation}
-use Rattle.soc_schema.specs.Permits.{holds}
+use Rattle.soc_book.proofs.Words.{permission_of_annotation, holds}
 use Rattle.soc_desk.proofs.Granted.{keeps}
 use Rattle.soc_book.proofs.reads.granted_annotations.Goals as goal
 

@@ -1,5 +1,5 @@
 use Rattle.std.proofs.Common.{◌≡◌, ◌++◌}
-use Rattle.soc_schema.specs.Permits.{granted_annotations}
+use Rattle.soc_book.proofs.Words.{granted_annotations}
 use Rattle.soc_book.proofs.reads.granted_annotations.Given as goal
 
 -- the pairs so far, and those that are left

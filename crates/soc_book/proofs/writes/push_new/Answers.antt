@@ -1,6 +1,6 @@
 use Rattle.std.proofs.Common.{subst}
 use Rattle.std.specs.Prelude.{List}
-use Rattle.soc_book.specs.declared.submission.NewCrash.{NewCrash}
+use Rattle.soc_book.proofs.Words.{NewCrash}
 use Rattle.soc_book.proofs.Standing.{IsAccepting, accepting_one}
 use Rattle.soc_book.proofs.writes.push_new.Goals as goal
 

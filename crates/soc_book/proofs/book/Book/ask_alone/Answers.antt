@@ -1,5 +1,4 @@
-use Rattle.soc_book.specs.Books.{allows_others}
-use Rattle.soc_book.specs.inner.Prepared.{command_of}
+use Rattle.soc_book.proofs.Words.{allows_others, command_of}
 use Rattle.soc_book.proofs.Joinings.{way_then_alone}
 use Rattle.soc_book.proofs.book.Book.ask_alone.Goals as goal
 

@@ -1,9 +1,5 @@
 use Rattle.std.proofs.Common.{rules, ℕ, List, [], ◌∷◌, length, sym, ap, subst, arith, length-append}
-use Rattle.soc_desk.specs.declared.desk.Command.{Command}
-use Rattle.soc_desk.specs.declared.desk.Receipt.{Receipt}
-use Rattle.soc_desk.specs.Kinds.{NeedsNothing}
-use Rattle.soc_book.specs.Batches.{AsksAll}
-use Rattle.soc_book.specs.inner.Batches.{IsUnderWay}
+use Rattle.soc_book.proofs.Words.{Command, Receipt, NeedsNothing, AsksAll, IsUnderWay}
 use Rattle.soc_book.proofs.Joinings.{all_next, may_empty, way_begins, way_ends, yielded_all, yielded_few, yielded_fewer, yielded_more}
 use Rattle.soc_book.proofs.Settings.{same_setting}
 use Rattle.soc_book.proofs.book.Book.ask_each.Goals as goal

@@ -1,6 +1,5 @@
 use Rattle.std.proofs.Common.{◌≡◌, ◌+◌, ◌++◌, ◌≤◌, length}
-use Rattle.std.specs.Prelude.{vec_capacity, vec_len}
-use Rattle.soc_book.specs.inner.Batches.{IsUnderWay, MayStore}
+use Rattle.soc_book.proofs.Words.{vec_capacity, vec_len, IsUnderWay, MayStore}
 use Rattle.soc_book.proofs.book.Book.ask_each.Given as goal
 
 abbrev pub invariant-loop-prepared : goal.invariant-loop-prepared

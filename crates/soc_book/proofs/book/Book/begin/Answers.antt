@@ -1,4 +1,4 @@
-use Rattle.std.proofs.lemmas.Result.{err_from_is_err_and}
+use Rattle.soc_book.proofs.Words.{err_from_is_err_and}
 use Rattle.soc_book.proofs.Quiets.{stands_roomy}
 use Rattle.soc_book.proofs.book.Book.begin.Goals as goal
 

@@ -1,6 +1,5 @@
 use Rattle.std.proofs.Common.{◌∙◌}
-use Rattle.soc_desk.specs.Log.{event_of, keep, events}
-use Rattle.soc_desk.specs.State.{doubted}
+use Rattle.soc_book.proofs.Words.{event_of, keep, events, doubted}
 use Rattle.soc_book.proofs.Countings.{counts_are, size_is, waits_in_doubt}
 use Rattle.soc_book.proofs.book.Book.counted.Goals as goal
 

@@ -1,4 +1,4 @@
-use Rattle.soc_edge.proofs.Disks.{Looks-none}
+use Rattle.soc_book.proofs.Words.{Looks-none}
 use Rattle.soc_book.proofs.Countings.{counted, counts_forbidden}
 use Rattle.soc_book.proofs.book.Book.counts_by.Goals as goal
 

@@ -1,5 +1,5 @@
 use Rattle.std.proofs.Common.{◌≡◌, ap, sym, ◌∙◌, arith}
-use Rattle.soc_edge.proofs.Disks.{Looks-append}
+use Rattle.soc_book.proofs.Words.{Looks-append}
 use Rattle.soc_book.proofs.Settings.{same_setting}
 use Rattle.soc_book.proofs.Turnings.{drain_stopped, drained, due_count_is, next_turn}
 use Rattle.soc_book.proofs.book.Book.drain.Goals as goal

@@ -1,10 +1,5 @@
 use Rattle.std.proofs.Common.{◌≡◌}
-use Rattle.soc_edge.specs.Disk.{Looks}
-use Rattle.soc_desk.specs.Basis.{Basis}
-use Rattle.soc_desk.specs.State.{State}
-use Rattle.soc_book.specs.Books.{SameSetting, StandsFor, disk_of, reporter_of}
-use Rattle.soc_book.specs.inner.Steps.{Becomes}
-use Rattle.soc_book.specs.inner.Turns.{IsTurned}
+use Rattle.soc_book.proofs.Words.{Looks, Basis, State, SameSetting, StandsFor, disk_of, reporter_of, Becomes, IsTurned}
 use Rattle.soc_book.proofs.book.Book.drain.Given as goal
 
 -- the setting stays, the disk was only looked at, and the book stands for the log with these turns

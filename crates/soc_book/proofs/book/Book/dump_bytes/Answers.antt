@@ -1,6 +1,5 @@
 use Rattle.std.proofs.Common.{Some, ap, sym, ◌∙◌}
-use Rattle.std.proofs.lemmas.Result.{err_from_is_err_and}
-use Rattle.soc_edge.proofs.Disks.{Looks-none}
+use Rattle.soc_book.proofs.Words.{err_from_is_err_and, Looks-none}
 use Rattle.soc_book.proofs.Readings.{dump_absent, dump_forbidden, dump_no_memory, dump_shown, dump_unread, dump_unseen}
 use Rattle.soc_book.proofs.book.Book.dump_bytes.Goals as goal
 

@@ -1,8 +1,5 @@
 use Rattle.std.proofs.Common.{true, false, ap, ◌∙◌, ◌∷◌, []}
-use Rattle.soc_edge.proofs.Disks.{Looks-none}
-use Rattle.soc_ledger.specs.Due.{is_due}
-use Rattle.soc_ledger.specs.State.{id_of}
-use Rattle.soc_desk.specs.Desk.{with_done}
+use Rattle.soc_book.proofs.Words.{Looks-none, is_due, id_of, with_done}
 use Rattle.soc_book.proofs.Turnings.{due_by, finish_absent, finish_idle, finish_no_memory, finished, looks_same, row_finished}
 use Rattle.soc_book.proofs.book.Book.finish.Goals as goal
 

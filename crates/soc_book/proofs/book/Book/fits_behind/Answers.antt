@@ -1,4 +1,4 @@
-use Rattle.std.proofs.Common.{rules, arith}
+use Rattle.std.proofs.Common.{rules}
 use Rattle.soc_book.proofs.Joinings.{settled_by}
 use Rattle.soc_book.proofs.book.Book.fits_behind.Goals as goal
 

@@ -1,9 +1,5 @@
 use Rattle.std.proofs.Common.{◌≡◌, ◌+◌, ℕ, List, [], Result, Ok, Err, OnOk, MatchResult, sym, ◌∙◌, subst}
-use Rattle.std.proofs.lemmas.Result.{err_from_is_err_and}
-use Rattle.soc_journal.specs.Entries.{Entry}
-use Rattle.soc_desk.specs.Log.{Kept}
-use Rattle.soc_desk.specs.State.{entries_of, kept_of}
-use Rattle.soc_book.specs.inner.Keepings.{HasGathered, LeavesSome}
+use Rattle.soc_book.proofs.Words.{err_from_is_err_and, Entry, Kept, entries_of, kept_of, HasGathered, LeavesSome}
 use Rattle.soc_book.proofs.Gatherings.{batch_added, gathers, not_gathered, unadded_left, unmade_left, without_entry}
 use Rattle.soc_book.proofs.Standing.{gate_behind}
 use Rattle.soc_book.proofs.book.Book.gather.Goals as goal
@@ -31,7 +27,7 @@ returns-in_err-entry-clause-gathered g c basis log from reports digest tell stan
     let p = err_from_is_err_and c.from_residual.result c.from_residual.ensures.1 in
     rw p.1
     (unmade_left basis log s.ledger s.store stands.legal.log stands.holds c.args.digest.now c.told-digest digest tell from b.next b.numbers.items b.entries.items reports gathered c.requires.within (sym c.is_to_keep.ensures ∙ c.if-not-is_to_keep.false)
-    j.gate j.limit b.bytes c.most_body-most.result (λ is_told. gate_behind (g.D.Disk.state s.vault.disk.now) j (entries_of (kept_of log)) [] (stands.told is_told).means) stands.limit c.requires.batch.bytes_are c.most_body-most.ensures c.in_err-entry.ensures)
+    j.gate j.limit b.bytes c.most_body-most.result (λ is_told. gate_behind (g.D.Disk.state s.vault.disk.now) j (entries_of (kept_of log)) [] (stands.told is_told).means) stands.bounds.limit c.requires.batch.bytes_are c.most_body-most.ensures c.in_err-entry.ensures)
 
 pub returns-in-Some-clause-batch : goal.returns-in-Some-clause-batch
 returns-in-Some-clause-batch g c =
@@ -49,9 +45,9 @@ returns-in-Some-clause-gathered g c basis log from reports digest tell stands ga
     let makes = rw c.in-Some.is at c.in_ok-entry.ensures in
     added (λ ns es more. HasGathered basis log s.ledger from (b.next + 1) ns es more) (LeavesSome basis log from) c.push.result _ _ _ _ _ c.push.ensures.entries c.push.ensures.numbers
     (gathers basis log s.ledger s.store stands.legal.log stands.holds c.args.digest.now c.told-digest digest tell from b.next b.numbers.items b.entries.items reports gathered c.requires.within (sym c.is_to_keep.ensures ∙ c.if-not-is_to_keep.false)
-    j.gate j.limit b.bytes c.most_body-most.result (λ is_told. gate_behind (g.D.Disk.state s.vault.disk.now) j (entries_of (kept_of log)) [] (stands.told is_told).means) stands.limit c.requires.batch.bytes_are c.most_body-most.ensures c.in-Some.entry makes)
+    j.gate j.limit b.bytes c.most_body-most.result (λ is_told. gate_behind (g.D.Disk.state s.vault.disk.now) j (entries_of (kept_of log)) [] (stands.told is_told).means) stands.bounds.limit c.requires.batch.bytes_are c.most_body-most.ensures c.in-Some.entry makes)
     (unadded_left basis log s.ledger s.store stands.legal.log stands.holds c.args.digest.now c.told-digest digest tell from b.next b.numbers.items b.entries.items reports gathered c.requires.within (sym c.is_to_keep.ensures ∙ c.if-not-is_to_keep.false)
-    j.gate j.limit b.bytes c.most_body-most.result (λ is_told. gate_behind (g.D.Disk.state s.vault.disk.now) j (entries_of (kept_of log)) [] (stands.told is_told).means) stands.limit c.requires.batch.bytes_are c.most_body-most.ensures c.in-Some.entry makes)
+    j.gate j.limit b.bytes c.most_body-most.result (λ is_told. gate_behind (g.D.Disk.state s.vault.disk.now) j (entries_of (kept_of log)) [] (stands.told is_told).means) stands.bounds.limit c.requires.batch.bytes_are c.most_body-most.ensures c.in-Some.entry makes)
 
 pub returns-in-None-clause-gathered : goal.returns-in-None-clause-gathered
 returns-in-None-clause-gathered g c basis log from reports digest tell stands gathered =
@@ -61,5 +57,5 @@ returns-in-None-clause-gathered g c basis log from reports digest tell stands ga
     let none = rw c.in-None.is at c.in_ok-entry.ensures in (
       reports,
       without_entry basis log s.ledger s.store stands.legal.log stands.holds c.args.digest.now c.told-digest digest tell from b.next b.numbers.items b.entries.items reports gathered c.requires.within (sym c.is_to_keep.ensures ∙ c.if-not-is_to_keep.false)
-          j.gate j.limit b.bytes c.most_body-most.result (λ is_told. gate_behind (g.D.Disk.state s.vault.disk.now) j (entries_of (kept_of log)) [] (stands.told is_told).means) stands.limit c.requires.batch.bytes_are c.most_body-most.ensures none,
+          j.gate j.limit b.bytes c.most_body-most.result (λ is_told. gate_behind (g.D.Disk.state s.vault.disk.now) j (entries_of (kept_of log)) [] (stands.told is_told).means) stands.bounds.limit c.requires.batch.bytes_are c.most_body-most.ensures none,
     )

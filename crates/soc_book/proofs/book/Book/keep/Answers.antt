@@ -1,7 +1,5 @@
 use Rattle.std.proofs.Common.{sym, ◌∙◌, ap, subst}
-use Rattle.soc_desk.specs.declared.desk.Reply.{Reply}
-use Rattle.soc_book.specs.Keeping.{KeepsReports}
-use Rattle.soc_book.specs.Books.{StandsFor}
+use Rattle.soc_book.proofs.Words.{Reply, KeepsReports, StandsFor}
 use Rattle.soc_book.proofs.Keepings.{keeps_settled, mend_fails}
 use Rattle.soc_book.proofs.Searches.{rows_tell}
 use Rattle.soc_book.proofs.Standing.{allowed_in}

@@ -1,9 +1,5 @@
 use Rattle.std.proofs.Common.{◌≡◌, ◌-◌, ◌≤◌, List, Some, None, length}
-use Rattle.soc_desk.specs.Basis.{Basis, RowsTell}
-use Rattle.soc_desk.specs.Log.{Change}
-use Rattle.soc_desk.specs.State.{settled}
-use Rattle.soc_book.specs.Books.{SameSetting, StandsFor, disk_of}
-use Rattle.soc_book.specs.inner.Keepings.{KeptSoFar}
+use Rattle.soc_book.proofs.Words.{Basis, RowsTell, Change, Kept, settled, SameSetting, StandsFor, disk_of, KeptSoFar, with_all}
 use Rattle.soc_book.proofs.book.Book.keep_all.Given as goal
 
 -- the setting stays, and the book stands for the log with the reports that were kept so far
@@ -19,8 +15,8 @@ invariant-loop-number g l =
       count : l.kept ≤ l.number;
       keeps : (basis : Basis) (log : List Change) → basis.digest ≡ Some l.digest → RowsTell basis
           → StandsFor basis old (settled log)
-          → (after : List Change) × StandsFor basis now (settled after)
-          × KeptSoFar basis log l.number l.kept after (disk_of old) (disk_of now);
+          → (reports : List Kept) × StandsFor basis now (settled (with_all log reports))
+          × KeptSoFar basis log l.number l.kept reports (disk_of old) (disk_of now);
     }
 
 abbrev pub decreases-loop-number : goal.decreases-loop-number

@@ -6,7 +6,6 @@ use Rattle.soc_book.proofs.book.Book.keep_new.Goals as goal
 pub returns-then-accepted-self-clause-decided : goal.returns-then-accepted-self-clause-decided
 returns-then-accepted-self-clause-decided g c raw of basis log stands =
     let s = c.args.self.now in
-    let disk = g.D.Disk.state s.vault.disk.now in
     too_many stands (g.met.D.Disk.sound s.vault.disk.now) raw c.args.submission.new of.is of.tells c.requires.is_new
     (subst (λ (n : ℕ). s.limits.crashes ≤ n) c.accepted.ensures.count c.if-accepted-self.true)
 

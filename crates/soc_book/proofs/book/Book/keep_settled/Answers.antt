@@ -1,5 +1,5 @@
 use Rattle.std.proofs.Common.{sym, ◌∙◌}
-use Rattle.soc_desk.specs.State.{settled}
+use Rattle.soc_book.proofs.Words.{settled}
 use Rattle.soc_book.proofs.Keepings.{nothing_kept}
 use Rattle.soc_book.proofs.Standing.{allowed_in}
 use Rattle.soc_book.proofs.book.Book.keep_settled.Goals as goal

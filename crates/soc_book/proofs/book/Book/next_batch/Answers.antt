@@ -1,5 +1,5 @@
 use Rattle.std.proofs.Common.{◌+◌, ℕ, List, [], inl, inr, refl, sym, ap, subst, length, arith}
-use Rattle.soc_book.specs.inner.Keepings.{HasGathered}
+use Rattle.soc_book.proofs.Words.{HasGathered}
 use Rattle.soc_book.proofs.Gatherings.{batch_none, batch_same, gathered_none}
 use Rattle.soc_book.proofs.book.Book.next_batch.Goals as goal
 

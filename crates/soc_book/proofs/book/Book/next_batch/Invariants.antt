@@ -1,9 +1,5 @@
 use Rattle.std.proofs.Common.{◌≡◌, ◌⊎◌, ◌+◌, ◌-◌, ◌<◌, ◌≤◌, List, [], Some, length}
-use Rattle.soc_desk.specs.Basis.{Basis, RowsTell}
-use Rattle.soc_desk.specs.Log.{Change, Kept}
-use Rattle.soc_desk.specs.State.{settled}
-use Rattle.soc_book.specs.Books.{StandsFor}
-use Rattle.soc_book.specs.inner.Keepings.{HasGathered, IsBatch}
+use Rattle.soc_book.proofs.Words.{Basis, RowsTell, Change, Kept, settled, StandsFor, HasGathered, IsBatch}
 use Rattle.soc_book.proofs.book.Book.next_batch.Given as goal
 
 abbrev pub invariant-loop-batch : goal.invariant-loop-batch

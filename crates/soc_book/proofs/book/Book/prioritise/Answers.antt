@@ -1,5 +1,5 @@
 use Rattle.std.proofs.Common.{refl}
-use Rattle.soc_book.specs.Books.{StandsFor}
+use Rattle.soc_book.proofs.Words.{StandsFor}
 use Rattle.soc_book.proofs.Deciding.{begun_does, doesnt_begin, writes_priority}
 use Rattle.soc_book.proofs.book.Book.prioritise.Goals as goal
 

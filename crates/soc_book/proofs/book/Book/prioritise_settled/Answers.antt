@@ -13,6 +13,5 @@ returns-then-is_due_or_reported-clause-decided g c basis log stands =
 
 pub returns-clause-decided : goal.returns-clause-decided
 returns-clause-decided g c basis log stands =
-    let s = c.args.self.now in
     let wrote = c.ask_for.ensures.writes basis log stands in
     (wrote.0, wrote.1, priority_asks stands c.args.caller.now c.args.id c.in-Ok.number c.in-Ok.ensures.0 c.in-Ok.ensures.1 (g.D.Disk.state c.ask_for.new.self.vault.disk.now) c.ask_for.result wrote.0 c.if-is_due_or_reported.ensures wrote.2)

@@ -1,4 +1,4 @@
-use Rattle.soc_ledger.specs.State.{id_of}
+use Rattle.soc_book.proofs.Words.{id_of}
 use Rattle.soc_book.proofs.Turnings.{listed_due}
 use Rattle.soc_book.proofs.book.Book.process_first.Goals as goal
 

@@ -1,7 +1,6 @@
 use Rattle.std.proofs.Common.{refl, ap, ◌∙◌}
 use Rattle.soc_ledger.specs.declared.event.Event.TheVariants.{Done}
-use Rattle.soc_ledger.specs.State.{id_of}
-use Rattle.soc_store.specs.Stored.{with_row}
+use Rattle.soc_book.proofs.Words.{id_of, with_row}
 use Rattle.soc_book.proofs.Quiets.{safe_after, stands_roomy}
 use Rattle.soc_book.proofs.Turnings.{stands_finished}
 use Rattle.soc_book.proofs.book.Book.put_row.Goals as goal

@@ -1,6 +1,5 @@
 use Rattle.std.proofs.Common.{true, false}
-use Rattle.std.proofs.lemmas.Result.{err_from_is_err_and}
-use Rattle.soc_edge.proofs.Disks.{Looks-none}
+use Rattle.soc_book.proofs.Words.{err_from_is_err_and, Looks-none}
 use Rattle.soc_book.proofs.Turnings.{due_by, fetch_absent, fetch_idle, fetch_unread, fetched}
 use Rattle.soc_book.proofs.book.Book.raw_if_due.Goals as goal
 

@@ -1,5 +1,4 @@
-use Rattle.std.proofs.lemmas.Result.{err_from_is_err_and}
-use Rattle.soc_edge.proofs.Disks.{Looks-none}
+use Rattle.soc_book.proofs.Words.{err_from_is_err_and, Looks-none}
 use Rattle.soc_book.proofs.Readings.{record_unread, record_unseen, recorded}
 use Rattle.soc_book.proofs.book.Book.record.Goals as goal
 

@@ -1,8 +1,5 @@
 use Rattle.std.proofs.Common.{sym, ap, subst, ◌∙◌}
-use Rattle.soc_desk.specs.declared.desk.Command.{Command}
-use Rattle.soc_book.specs.Books.{disk_of}
-use Rattle.soc_book.specs.inner.Does.{Does}
-use Rattle.soc_book.specs.inner.Prepared.{IsPrepared, command_of}
+use Rattle.soc_book.proofs.Words.{Command, disk_of, Does, IsPrepared, command_of}
 use Rattle.soc_book.proofs.book.Book.reply.Goals as goal
 
 pub returns-in-Submit-clause-does : goal.returns-in-Submit-clause-does

@@ -1,6 +1,5 @@
 use Rattle.std.proofs.Common.{sym, ◌∙◌}
-use Rattle.std.proofs.lemmas.Result.{err_from_is_err_and}
-use Rattle.soc_edge.proofs.Disks.{Looks-none}
+use Rattle.soc_book.proofs.Words.{err_from_is_err_and, Looks-none}
 use Rattle.soc_book.proofs.Readings.{processed_no_memory, processed_unseen, not_processed, row_kind, row_shown}
 use Rattle.soc_book.proofs.book.Book.report.Goals as goal
 

@@ -1,4 +1,4 @@
-use Rattle.soc_edge.proofs.Disks.{Looks-none}
+use Rattle.soc_book.proofs.Words.{Looks-none}
 use Rattle.soc_book.proofs.Searches.{found, rows_tell, search_kind}
 use Rattle.soc_book.proofs.book.Book.search.Goals as goal
 

@@ -1,6 +1,5 @@
 use Rattle.std.proofs.Common.{Option, IfSome, sym, subst}
-use Rattle.soc_book.specs.declared.book.Change.{Change as Pending}
-use Rattle.soc_book.specs.inner.Stands.{Fits}
+use Rattle.soc_book.proofs.Words.{Pending, Fits}
 use Rattle.soc_book.proofs.Standing.{room_settled, settle_taken}
 use Rattle.soc_book.proofs.book.Book.settle.Goals as goal
 

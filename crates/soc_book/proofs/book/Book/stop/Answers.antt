@@ -1,7 +1,6 @@
 use Rattle.std.proofs.Common.{refl, sym, ◌∙◌, ◌++◌, ◌∷◌, []}
-use Rattle.soc_edge.proofs.Disks.{Looks-none}
+use Rattle.soc_book.proofs.Words.{Looks-none, stop}
 use Rattle.soc_ledger.specs.declared.event.Event.TheVariants.{Stopped}
-use Rattle.soc_desk.specs.Log.{stop}
 use Rattle.soc_book.proofs.Quiets.{safe_after}
 use Rattle.soc_book.proofs.Turnings.{stands_stopping, stopped_now}
 use Rattle.soc_book.proofs.book.Book.stop.Goals as goal

@@ -1,6 +1,5 @@
 use Rattle.std.proofs.Common.{sym, subst}
-use Rattle.soc_book.specs.declared.together.NewCrashes.{NewCrashes}
-use Rattle.soc_book.specs.inner.Batches.{IsEmpty, StoresBook}
+use Rattle.soc_book.proofs.Words.{NewCrashes, IsEmpty, StoresBook}
 use Rattle.soc_book.proofs.Joinings.{way_stored}
 use Rattle.soc_book.proofs.book.Book.store_all.Goals as goal
 

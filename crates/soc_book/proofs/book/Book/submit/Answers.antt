@@ -1,7 +1,5 @@
 use Rattle.std.proofs.Common.{refl}
-use Rattle.soc_raw.specs.RawCrash.{crash_of}
-use Rattle.soc_book.specs.Books.{StandsFor}
-use Rattle.soc_book.specs.inner.Books.{IsSubmissionOf}
+use Rattle.soc_book.proofs.Words.{crash_of, StandsFor, IsSubmissionOf}
 use Rattle.soc_book.proofs.Deciding.{begun_does, doesnt_begin, writes_submit}
 use Rattle.soc_book.proofs.book.Book.submit.Goals as goal
 

@@ -1,8 +1,5 @@
 use Rattle.std.proofs.Common.{ℕ, List, [], ◌∷◌, ◌++◌, length, sym, ap, subst, ◌∙◌, arith, length-append}
-use Rattle.soc_desk.specs.declared.desk.Command.{Command}
-use Rattle.soc_desk.specs.Kinds.{NeedsNothing}
-use Rattle.soc_book.specs.inner.Batches.{IsUnderWay}
-use Rattle.soc_book.specs.inner.Prepared.{IsPrepared, command_of}
+use Rattle.soc_book.proofs.Words.{Command, NeedsNothing, IsUnderWay, IsPrepared, command_of}
 use Rattle.soc_book.proofs.Joinings.{joined, may_empty, way_joins, way_stays}
 use Rattle.soc_book.proofs.book.Book.take_up.Goals as goal
 

@@ -1,6 +1,6 @@
-use Rattle.std.proofs.Common.{ap, ◌∙◌, arith}
+use Rattle.std.proofs.Common.{ap, arith}
 use Rattle.std.specs.Prelude.{List, ℕ, length}
-use Rattle.soc_book.specs.inner.Batches.{receipt_of}
+use Rattle.soc_book.proofs.Words.{receipt_of}
 use Rattle.soc_book.proofs.Joinings.{told_one}
 use Rattle.soc_book.proofs.book.Book.tell.Goals as goal
 

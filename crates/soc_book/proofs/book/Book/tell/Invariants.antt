@@ -1,6 +1,5 @@
 use Rattle.std.proofs.Common.{◌≡◌, ◌+◌, ◌++◌, ◌≤◌, length, map}
-use Rattle.std.specs.Prelude.{vec_capacity, vec_len}
-use Rattle.soc_book.specs.inner.Batches.{receipt_of}
+use Rattle.soc_book.proofs.Words.{vec_capacity, vec_len, receipt_of}
 use Rattle.soc_book.proofs.book.Book.tell.Given as goal
 
 abbrev pub invariant-loop-id : goal.invariant-loop-id

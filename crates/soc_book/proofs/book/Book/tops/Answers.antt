@@ -1,4 +1,4 @@
-use Rattle.soc_edge.proofs.Disks.{Looks-none}
+use Rattle.soc_book.proofs.Words.{Looks-none}
 use Rattle.soc_book.proofs.Searches.{rows_tell, tops_found}
 use Rattle.soc_book.proofs.book.Book.tops.Goals as goal
 

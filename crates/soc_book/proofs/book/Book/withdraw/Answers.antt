@@ -1,6 +1,4 @@
-use Rattle.soc_schema.specs.declared.permission.Permission.TheVariants.{Operate}
-use Rattle.soc_edge.proofs.Disks.{Looks-none}
-use Rattle.soc_book.specs.Books.{StandsFor}
+use Rattle.soc_book.proofs.Words.{Operate, Looks-none, StandsFor}
 use Rattle.soc_book.proofs.Deciding.{begun_does, doesnt_begin, lacks_permission, writes_withdraw}
 use Rattle.soc_book.proofs.book.Book.withdraw.Goals as goal
 

@@ -1,5 +1,5 @@
 use Rattle.std.proofs.Common.{sym, ◌∙◌}
-use Rattle.soc_raw.specs.RawCrash.{crash_of}
+use Rattle.soc_book.proofs.Words.{crash_of}
 use Rattle.soc_book.proofs.Recoveries.{taken_before}
 use Rattle.soc_book.proofs.opening.Recovery.accept.Goals as goal
 

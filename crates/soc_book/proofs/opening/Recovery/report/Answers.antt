@@ -1,5 +1,5 @@
 use Rattle.std.proofs.Common.{◌∙◌}
-use Rattle.soc_book.specs.inner.Books.{made_of}
+use Rattle.soc_book.proofs.Words.{made_of}
 use Rattle.soc_book.proofs.Recoveries.{tells_not}
 use Rattle.soc_book.proofs.opening.Recovery.report.Goals as goal
 

@@ -1,5 +1,5 @@
 use Rattle.std.proofs.Common.{◌∙◌}
-use Rattle.std.proofs.lemmas.Result.{err_from_is_err_and}
+use Rattle.soc_book.proofs.Words.{err_from_is_err_and}
 use Rattle.soc_book.proofs.Openings.{opens_book, stops_entry}
 use Rattle.soc_book.proofs.Recoveries.{nothing_yet}
 use Rattle.soc_book.proofs.opening.Restored.read.Goals as goal

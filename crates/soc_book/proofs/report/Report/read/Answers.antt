@@ -1,6 +1,5 @@
 use Rattle.std.proofs.Common.{arith}
-use Rattle.std.proofs.lemmas.List.{length-take}
-use Rattle.std.proofs.lemmas.Result.{err_from_is_err_and}
+use Rattle.soc_book.proofs.Words.{length-take, err_from_is_err_and}
 use Rattle.soc_book.proofs.Reports.{read_ok, read_only, bad_row, bad_id, too_short}
 use Rattle.soc_book.proofs.report.Report.read.Goals as goal
 

@@ -1,5 +1,5 @@
 use Rattle.std.proofs.Common.{arith}
-use Rattle.soc_raw.specs.RawCrash.{crash_of}
+use Rattle.soc_book.proofs.Words.{crash_of}
 use Rattle.soc_book.proofs.Submissions.{head_within}
 use Rattle.soc_book.proofs.submission.NewCrash.of.Goals as goal
 

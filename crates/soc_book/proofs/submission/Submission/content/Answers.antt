@@ -1,5 +1,5 @@
 use Rattle.std.proofs.Common.{ap, ◌∙◌}
-use Rattle.soc_journal.specs.Entries.{Entry}
+use Rattle.soc_book.proofs.Words.{Entry}
 use Rattle.soc_book.proofs.Submissions.{content_behind}
 use Rattle.soc_book.proofs.submission.Submission.content.Goals as goal
 
