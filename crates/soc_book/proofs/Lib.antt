@@ -5,6 +5,7 @@ pub mod Countings
 pub mod Deciding
 pub mod Filing
 pub mod Gatherings
+pub mod HeldIds
 pub mod Joinings
 pub mod Keepings
 pub mod Kept

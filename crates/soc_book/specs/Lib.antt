@@ -1,5 +1,6 @@
 pub mod Batches
 pub mod Books
+pub mod Ids
 pub mod inner
 pub mod Keeping
 pub mod Openings

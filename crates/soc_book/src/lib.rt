@@ -5,6 +5,7 @@ mod asks;
 mod book;
 mod commands;
 mod counts;
+mod ids;
 mod keep;
 mod lookup;
 mod opening;

@@ -7,7 +7,8 @@ ghost use Rattle.soc_query.specs.Answers.{answer_of};
 ghost use Rattle.soc_store.specs.Stored.{row_at};
 ghost use Rattle.soc_tops.specs.Tops.{tops_of};
 ghost use Rattle.soc_desk.specs.Kinds.{IsReplyTo};
-ghost use Rattle.soc_book.specs.Books.{SameSetting, Serves, ServesByRows};
+ghost use Rattle.soc_edge.specs.Disk.{Looks};
+ghost use Rattle.soc_book.specs.Books.{SameSetting, Serves, ServesByRows, disk_of};
 ghost use Rattle.soc_book.specs.inner.Books.{reply_of};
 
 use crate::book::Book;
@@ -41,6 +42,7 @@ impl<'a, D: Disk, R: Reporter> Book<'a, D, R> {
     /// The granted fields of a crash's report.
     pub fn processed(&mut self, caller: &Caller, id: CrashId) -> Reply
         ensures setting { SameSetting self.old self.new }
+        ensures looks { Looks (disk_of self.old) (disk_of self.new) }
         ensures kind { IsReplyTo (Command.Processed caller.now id) result }
         ensures does { Serves self.old (Command.Processed caller.now id) result self.new }
     {
@@ -107,6 +109,7 @@ impl<'a, D: Disk, R: Reporter> Book<'a, D, R> {
 
     fn report(&mut self, caller: &Caller, id: CrashId) -> Result<Reply, Refusal>
         ensures setting { SameSetting self.old self.new }
+        ensures looks { Looks (disk_of self.old) (disk_of self.new) }
         ensures kind { IsReplyTo (Command.Processed caller.now id) (reply_of result) }
         ensures does { Serves self.old (Command.Processed caller.now id)
             (reply_of result) self.new }

@@ -44,6 +44,7 @@ impl<'a, D: Disk, R: Reporter> Book<'a, D, R> {
     /// Processes each crash that is due. The turns that were made before a refusal stay.
     pub fn drain(&mut self) -> Reply
         ensures setting { SameSetting self.old self.new }
+        ensures looks { Looks (disk_of self.old) (disk_of self.new) }
         ensures kind { (caller : Caller) → without caller Permission.Operate ≡ None
             → IsReplyTo (Command.Drain caller) result }
         ensures does { (caller : Caller) → without caller Permission.Operate ≡ None

@@ -12,6 +12,9 @@ returns-in-Err-clause-does g c = λ caller may basis state row stands.
     let looks = Looks-append _ _ _ so_far.looks c.in-Err.ensures.looks in
     (turn.0, turn.1, drain_stopped stands _ looks caller may c.loop-turns.turns between.0 turn.0 between.2 c.in-Err.refusal _ so_far.looks.goes_on turn.2)
 
+pub returns-in-Err-clause-looks : goal.returns-in-Err-clause-looks
+returns-in-Err-clause-looks g c = Looks-append _ _ _ c.loop-turns.invariant.looks c.in-Err.ensures.looks
+
 pub loop-turns-preserved : goal.loop-turns-preserved
 loop-turns-preserved g c =
     let so_far = c.loop-turns.invariant in

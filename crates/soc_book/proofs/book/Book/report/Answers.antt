@@ -23,3 +23,15 @@ returns-in-None-clause-does g c = λ basis state stands.
 
 pub returns-in-Some-clause-kind : goal.returns-in-Some-clause-kind
 returns-in-Some-clause-kind g c = row_kind c.args.caller.now c.args.id c.in-Some.row _ (sym c.in-Some.is ∙ c.in_ok-row.ensures)
+
+pub returns-in_err-number-clause-looks : goal.returns-in_err-number-clause-looks
+returns-in_err-number-clause-looks g c = Looks-none _ (g.met.D.Disk.sound c.args.self.now.vault.disk.now)
+
+pub returns-in_err-row-clause-looks : goal.returns-in_err-row-clause-looks
+returns-in_err-row-clause-looks g c = Looks-none _ (g.met.D.Disk.sound c.args.self.now.vault.disk.now)
+
+pub returns-in-Some-clause-looks : goal.returns-in-Some-clause-looks
+returns-in-Some-clause-looks g c = Looks-none _ (g.met.D.Disk.sound c.args.self.now.vault.disk.now)
+
+pub returns-in-None-clause-looks : goal.returns-in-None-clause-looks
+returns-in-None-clause-looks g c = Looks-none _ (g.met.D.Disk.sound c.args.self.now.vault.disk.now)
