@@ -1,11 +1,11 @@
 -- What passes put and take, one call after another.
-use Rattle.std.proofs.Common.{◌≡◌, ◌⊎◌, inl, inr, ℕ, ◌+◌, ◌-◌, ◌<◌, ◌≤◌, ◌^◌, List, [], ◌∷◌, ◌++◌, length, map, take, Option, None, Some, IfSome, IsSomeAnd, All, refl, sym, ◌∙◌, ap, subst, ⊎_elim, arith, append_assoc, length-append}
+use Rattle.std.proofs.Common.{◌≡◌, ◌⊎◌, inl, inr, ℕ, ◌+◌, ◌-◌, ◌<◌, ◌≤◌, ◌^◌, List, [], ◌∷◌, ◌++◌, length, drop, map, take, Option, None, Some, IfSome, IsSomeAnd, All, refl, sym, ◌∙◌, ap, subst, ⊎_elim, arith, append_assoc, length-append}
 use Rattle.std.specs.Prelude.{IfNone, min}
 use Rattle.std.specs.List.{AllByRecursion, slice_get}
 use mathlib.Core.List.{append-nil}
 use Rattle.std.proofs.Math.Nat.{min_comm, min-eq_left}
 use Rattle.std.proofs.lemmas.Bool.{cases_lt}
-use Rattle.std.proofs.lemmas.List.{map-append, length-map, take_more}
+use Rattle.std.proofs.lemmas.List.{drop-append-le, length-map, length-take-le, map-append, take_all, take_more}
 use Rattle.std.proofs.lemmas.List.Elements.{All-map}
 use Rattle.std.proofs.lemmas.Option.{get_or_from_slice_get, slice_get-get_or, slice_get_within}
 use Rattle.soc_base.proofs.Folk.{none_is_not_some}
@@ -20,9 +20,9 @@ use Rattle.soc_desk.specs.declared.desk.Command.{Command}
 use Rattle.soc_desk.specs.declared.desk.Receipt.{Receipt}
 use Rattle.soc_collect.specs.Asked.{AsksAll, Step}
 use Rattle.soc_service.specs.Desks.{PutsJob}
-use Rattle.soc_service.specs.Works.{crash_jobs}
+use Rattle.soc_service.specs.Works.{PutsCrashes, crash_jobs}
 use Rattle.soc_crew.proofs.Lists.{at_some}
-use Rattle.soc_crew.specs.Jobs.{OnlyPuts, OnlyTakes, PutsDue, PutsEnds, Shares, Starts, ends_in, left_after}
+use Rattle.soc_crew.specs.Jobs.{OnlyPuts, TakesToEnd, PutsDue, PutsEnds, Shares, Starts, ends_in, left_after}
 
 -- ---- the jobs of crashes that are due
 
@@ -60,16 +60,32 @@ most_put : (n m k : ℕ) → n ≡ k → k ≤ m → n ≡ min m k
 most_put n m k is few = is ∙ (sym (min-eq_left few) ∙ min_comm k m)
 
 -- no further one is due
-pub put_all : (due : List (List ℕ)) (n : ℕ) (v w : Seen) → n ≤ PLACES → slice_get due n ≡ None → HasPut due n v w → PutsDue due v w
-put_all due n v w few none has = record { count = n; puts = has.puts; takes = has.takes; all = inl (let over = past due n none in let within = has.within in all_put n (length due) PLACES (omega arith) (omega arith)) }
+pub put_all : (due : List (List ℕ)) (n : ℕ) (v w : Seen) → n ≤ PLACES → slice_get due n ≡ None → HasPut due n v w → PutsDue due n v w
+put_all due n v w few none has = record { puts = has.puts; takes = has.takes; all = inl (let over = past due n none in let within = has.within in all_put n (length due) PLACES (omega arith) (omega arith)) }
 
 -- a ring has no place for further ones
-pub put_most : (due : List (List ℕ)) (n : ℕ) (v w : Seen) → n ≡ PLACES → HasPut due n v w → PutsDue due v w
-put_most due n v w is has = record { count = n; puts = has.puts; takes = has.takes; all = inl (let within = has.within in most_put n (length due) PLACES is (omega arith)) }
+pub put_most : (due : List (List ℕ)) (n : ℕ) (v w : Seen) → n ≡ PLACES → HasPut due n v w → PutsDue due n v w
+put_most due n v w is has = record { puts = has.puts; takes = has.takes; all = inl (let within = has.within in most_put n (length due) PLACES is (omega arith)) }
 
 -- the ring is full
-pub put_full : (due : List (List ℕ)) (n : ℕ) (v u w : Seen) → w ≡ u → WasHolding PLACES u → HasPut due n v u → PutsDue due v w
-put_full due n v u w is full has = subst (λ s. PutsDue due v s) (sym is) record { count = n; puts = has.puts; takes = has.takes; all = inr full }
+pub put_full : (due : List (List ℕ)) (n : ℕ) (v u w : Seen) → w ≡ u → WasHolding PLACES u → HasPut due n v u → PutsDue due n v w
+put_full due n v u w is full has = subst (λ s. PutsDue due n v s) (sym is) record { puts = has.puts; takes = has.takes; all = inr full }
+
+-- those from a place on, with one more
+pub wait_more : (due waiting : List (List ℕ)) (from n : ℕ) (id : List ℕ) → slice_get due n ≡ Some id → from ≤ n → waiting ≡ drop from (take n due)
+    → waiting ++ id ∷ [] ≡ drop from (take (n + 1) due)
+wait_more due waiting from n id is behind are =
+    let within = slice_get_within due n id is in
+    let long = length-take-le n due (omega arith) in
+    ap (λ l. l ++ id ∷ []) are ∙ (sym (drop-append-le from (take n due) (id ∷ []) (omega (arith, long)))
+    ∙ ap (drop from) (sym (take_more due n id within ∙ ap (λ x. take n due ++ x ∷ []) (get_or_from_slice_get due n id id is))))
+
+-- and where no further one is due
+pub wait_all : (due waiting : List (List ℕ)) (from n most : ℕ) → slice_get due n ≡ None → n ≤ most → waiting ≡ drop from (take n due)
+    → waiting ≡ drop from (take most due)
+wait_all due waiting from n most none few are =
+    let over = past due n none in
+    are ∙ ap (drop from) (take_all n due over ∙ sym (take_all most due (omega arith)))
 
 -- ---- the ends
 
@@ -138,22 +154,22 @@ ends_more ends left left' v u w first next = record {
 -- ---- collectors
 
 -- a desk's pass puts jobs of crashes and takes none
-pub record PutsCrashes (v w : Seen) : Type 0 where
+pub record PutsAlone (v w : Seen) : Type 0 where
   pub ids : List (List ℕ)
   pub puts : w.puts ≡ v.puts ++ crash_jobs ids
   pub takes : w.takes ≡ v.takes
 
-crashes_none : (v w : Seen) → w ≡ v → PutsCrashes v w
+crashes_none : (v w : Seen) → w ≡ v → PutsAlone v w
 crashes_none v w is = record { ids = []; puts = ap (λ s. s.puts) is ∙ sym (append-nil v.puts); takes = ap (λ s. s.takes) is }
 
-crashes_then : (v u w : Seen) → PutsCrashes v u → PutsCrashes u w → PutsCrashes v w
+crashes_then : (v u w : Seen) → PutsAlone v u → PutsAlone u w → PutsAlone v w
 crashes_then v u w first next = record {
   ids = first.ids ++ next.ids;
   puts = next.puts ∙ (ap (λ l. l ++ crash_jobs next.ids) first.puts ∙ (append_assoc v.puts (crash_jobs first.ids) (crash_jobs next.ids) ∙ ap (λ l. v.puts ++ l) (sym (crashes_both first.ids next.ids))));
   takes = next.takes ∙ first.takes;
 }
 
-by_job : (due : Option (List ℕ)) (before after : Pass) → PutsJob due before after → PutsCrashes (seen_of before) (seen_of after)
+by_job : (due : Option (List ℕ)) (before after : Pass) → PutsJob due before after → PutsAlone (seen_of before) (seen_of after)
 by_job None before after is = crashes_none _ _ (ap (λ p. seen_of p) is)
 by_job (Some id) before after (inl put, same) = record { ids = id ∷ []; puts = ap (λ s. s.puts) put.0.is_now; takes = ap (λ s. s.takes) put.0.is_now }
 by_job (Some id) before after (inr full, same) = crashes_none _ _ full.0
@@ -165,19 +181,19 @@ module _ {K : Type 0} (asks : K → Command → Receipt → K → Type 0) (pass_
   one_pass (Some q) Q known = (q, refl, known)
 
   -- what each command does to a pass, all commands do
-  pub asks_put : (steps : List Step) (before after : K) (p : Pass) → pass_of before ≡ Some p → AsksAll asks before steps after → IsSomeAnd (pass_of after) (λ q. PutsCrashes (seen_of p) (seen_of q))
-  asks_put [] before after p at is = subst (λ o. IsSomeAnd o (λ q. PutsCrashes (seen_of p) (seen_of q))) (sym (ap pass_of is ∙ at)) (crashes_none _ _ refl)
+  pub asks_put : (steps : List Step) (before after : K) (p : Pass) → pass_of before ≡ Some p → AsksAll asks before steps after → IsSomeAnd (pass_of after) (λ q. PutsAlone (seen_of p) (seen_of q))
+  asks_put [] before after p at is = subst (λ o. IsSomeAnd o (λ q. PutsAlone (seen_of p) (seen_of q))) (sym (ap pass_of is ∙ at)) (crashes_none _ _ refl)
   asks_put (step ∷ steps) before after p at (between, asked, rest) =
       let now = at_some (λ x. IsSomeAnd (pass_of between) (λ q. PutsJob (due_of step.command step.receipt) x q)) (pass_of before) p at (each before step.command step.receipt between asked) in
       let next = one_pass (pass_of between) (λ q. PutsJob (due_of step.command step.receipt) p q) now in
-      let last = one_pass (pass_of after) (λ q. PutsCrashes (seen_of next.0) (seen_of q)) (asks_put steps between after next.0 next.1 rest) in
-      subst (λ o. IsSomeAnd o (λ q. PutsCrashes (seen_of p) (seen_of q))) (sym last.1) (crashes_then _ _ _ (by_job _ p next.0 next.2) last.2)
+      let last = one_pass (pass_of after) (λ q. PutsAlone (seen_of next.0) (seen_of q)) (asks_put steps between after next.0 next.1 rest) in
+      subst (λ o. IsSomeAnd o (λ q. PutsAlone (seen_of p) (seen_of q))) (sym last.1) (crashes_then _ _ _ (by_job _ p next.0 next.2) last.2)
 
   -- so a pass that was new has only put
   pub asks_only_put : (steps : List Step) (before after : K) → IsSomeAnd (pass_of before) (λ p. IsNew p) → AsksAll asks before steps after → IsSomeAnd (pass_of after) (λ q. OnlyPuts (seen_of q))
   asks_only_put steps before after new asked =
       let first = one_pass (pass_of before) (λ p. IsNew p) new in
-      let last = one_pass (pass_of after) (λ q. PutsCrashes (seen_of first.0) (seen_of q)) (asks_put steps before after first.0 first.1 asked) in
+      let last = one_pass (pass_of after) (λ q. PutsAlone (seen_of first.0) (seen_of q)) (asks_put steps before after first.0 first.1 asked) in
       subst (λ o. IsSomeAnd o (λ q. OnlyPuts (seen_of q))) (sym last.1) (
         last.2.ids,
         last.2.puts ∙ ap (λ l. l ++ crash_jobs last.2.ids) (ap (λ s. s.puts) first.2.seen),
@@ -186,35 +202,48 @@ module _ {K : Type 0} (asks : K → Command → Receipt → K → Type 0) (pass_
 
 -- ---- processors
 
--- a processor took jobs of crashes so far, and put none
+-- a processor took jobs of crashes so far, and put some
 pub record TakesCrashes (v w : Seen) : Type 0 where
   pub ids : List (List ℕ)
   pub takes : w.takes ≡ v.takes ++ crash_jobs ids
-  pub puts : w.puts ≡ v.puts
+  pub puts : PutsCrashes v w
 
 pub took_nothing : (v w : Seen) → w ≡ v → TakesCrashes v w
-took_nothing v w is = record { ids = []; takes = ap (λ s. s.takes) is ∙ sym (append-nil v.takes); puts = ap (λ s. s.puts) is }
+took_nothing v w is = record {
+  ids = [];
+  takes = ap (λ s. s.takes) is ∙ sym (append-nil v.takes);
+  puts = record { crashes = []; number = ap (λ s. s.number) is; puts = ap (λ s. s.puts) is ∙ sym (append-nil v.puts) };
+}
 
-pub took_more : (v u w : Seen) (ids : List (List ℕ)) (last : List Job) → last ≡ [] → TakesCrashes v u → w.takes ≡ u.takes ++ (crash_jobs ids ++ last) → w.puts ≡ u.puts → TakesCrashes v w
+puts_then : (v u w : Seen) → PutsCrashes v u → PutsCrashes u w → PutsCrashes v w
+puts_then v u w first next = record {
+  crashes = first.crashes ++ next.crashes;
+  number = next.number ∙ first.number;
+  puts = next.puts ∙ (ap (λ l. l ++ crash_jobs next.crashes) first.puts ∙ (append_assoc v.puts (crash_jobs first.crashes) (crash_jobs next.crashes) ∙ ap (λ l. v.puts ++ l) (sym (crashes_both first.crashes next.crashes))));
+}
+
+pub took_more : (v u w : Seen) (ids : List (List ℕ)) (last : List Job) → last ≡ [] → TakesCrashes v u → w.takes ≡ u.takes ++ (crash_jobs ids ++ last) → PutsCrashes u w → TakesCrashes v w
 took_more v u w ids last none so_far takes puts = record {
   ids = so_far.ids ++ ids;
   takes = takes ∙ (ap (λ l. u.takes ++ (crash_jobs ids ++ l)) none ∙ (ap (λ l. u.takes ++ l) (append-nil (crash_jobs ids)) ∙ (ap (λ l. l ++ crash_jobs ids) so_far.takes ∙ (append_assoc v.takes (crash_jobs so_far.ids) (crash_jobs ids) ∙ ap (λ l. v.takes ++ l) (sym (crashes_both so_far.ids ids))))));
-  puts = puts ∙ so_far.puts;
+  puts = puts_then v u w so_far.puts puts;
 }
 
-pub took_end : (p : Pass) (u w : Seen) (ids : List (List ℕ)) (last : List Job) → last ≡ J.End ∷ [] → IsNew p → TakesCrashes (seen_of p) u → w.takes ≡ u.takes ++ (crash_jobs ids ++ last) → w.puts ≡ u.puts → OnlyTakes w
-took_end p u w ids last is new so_far takes puts = (
-  so_far.ids ++ ids,
-  takes ∙ (ap (λ l. u.takes ++ (crash_jobs ids ++ l)) is ∙ (sym (append_assoc u.takes (crash_jobs ids) (J.End ∷ []))
-      ∙ ap (λ l. l ++ J.End ∷ []) (ap (λ l. l ++ crash_jobs ids) (so_far.takes ∙ ap (λ l. l ++ crash_jobs so_far.ids) (ap (λ s. s.takes) new.seen)) ∙ sym (crashes_both so_far.ids ids)))),
-  puts ∙ (so_far.puts ∙ ap (λ s. s.puts) new.seen),
-)
+pub took_end : (p : Pass) (u w : Seen) (ids : List (List ℕ)) (last : List Job) → last ≡ J.End ∷ [] → IsNew p → TakesCrashes (seen_of p) u → w.takes ≡ u.takes ++ (crash_jobs ids ++ last) → PutsCrashes u w → TakesToEnd w
+took_end p u w ids last is new so_far takes puts =
+    let all = puts_then (seen_of p) u w so_far.puts puts in (
+      so_far.ids ++ ids,
+      all.crashes,
+      takes ∙ (ap (λ l. u.takes ++ (crash_jobs ids ++ l)) is ∙ (sym (append_assoc u.takes (crash_jobs ids) (J.End ∷ []))
+          ∙ ap (λ l. l ++ J.End ∷ []) (ap (λ l. l ++ crash_jobs ids) (so_far.takes ∙ ap (λ l. l ++ crash_jobs so_far.ids) (ap (λ s. s.takes) new.seen)) ∙ sym (crashes_both so_far.ids ids)))),
+      all.puts ∙ ap (λ l. l ++ crash_jobs all.crashes) (ap (λ s. s.puts) new.seen),
+    )
 
 -- ---- all of them
 
 pub shared : (Own : Seen → Type 0) (passes collecting processing : List Pass) (own : Pass) (collectors processors : ℕ)
     → passes ≡ (collecting ++ processing) ++ own ∷ [] → length collecting ≡ collectors → length processing ≡ processors
-    → All (λ q. OnlyPuts (seen_of q)) collecting → All (λ q. OnlyTakes (seen_of q)) processing → Own (seen_of own)
+    → All (λ q. OnlyPuts (seen_of q)) collecting → All (λ q. TakesToEnd (seen_of q)) processing → Own (seen_of own)
     → Shares Own collectors processors (map (λ pass. seen_of pass) passes)
 shared Own passes collecting processing own collectors processors is c p put took started = record {
   collecting = map (λ pass. seen_of pass) collecting;
@@ -226,13 +255,13 @@ shared Own passes collecting processing own collectors processors is c p put too
   collectors_are = length-map collecting (λ pass. seen_of pass) ∙ c;
   processors_are = length-map processing (λ pass. seen_of pass) ∙ p;
   put = All-map OnlyPuts (λ pass. seen_of pass) collecting put;
-  took = All-map OnlyTakes (λ pass. seen_of pass) processing took;
+  took = All-map TakesToEnd (λ pass. seen_of pass) processing took;
   started = started;
 }
 
 -- the same with what was put at the start
-pub started : (due : List (List ℕ)) (p : Pass) (u : Seen) (collectors processors : ℕ) (passes : List Seen) → IsNew p → PutsDue due (seen_of p) u → Shares (PutsEnds processors 0 u) collectors processors passes → Shares (Starts due processors) collectors processors passes
-started due p u collectors processors passes new puts shares = record {
+pub started : (due : List (List ℕ)) (count : ℕ) (p : Pass) (u : Seen) (collectors processors : ℕ) (passes : List Seen) → IsNew p → PutsDue due count (seen_of p) u → Shares (PutsEnds processors 0 u) collectors processors passes → Shares (Starts due processors) collectors processors passes
+started due count p u collectors processors passes new puts shares = record {
   collecting = shares.collecting;
   processing = shares.processing;
   own = shares.own;
@@ -241,14 +270,14 @@ started due p u collectors processors passes new puts shares = record {
   processors_are = shares.processors_are;
   put = shares.put;
   took = shares.took;
-  started = (seen_of p, u, ap (λ s. s.puts) new.seen, ap (λ s. s.takes) new.seen, puts, shares.started);
+  started = (seen_of p, count, u, ap (λ s. s.puts) new.seen, ap (λ s. s.takes) new.seen, puts, shares.started);
 }
 
 -- and of a ring that has ended with all passes, one for each buffer
 pub started_with : (due : List (List ℕ)) (p : Pass) (u : Seen) (collectors processors buffers : ℕ) (seen passes : List Seen)
-    → IsNew p → PutsDue due (seen_of p) u → buffers ≡ collectors → seen ≡ passes
+    → IsNew p → (count : ℕ) × PutsDue due count (seen_of p) u → buffers ≡ collectors → seen ≡ passes
     → Shares (PutsEnds processors 0 u) buffers processors passes → Shares (Starts due processors) collectors processors seen
 started_with due p u collectors processors buffers seen passes new puts few same shares =
-    started due p u collectors processors seen new puts
+    started due puts.0 p u collectors processors seen new puts.1
     (subst (λ n. Shares (PutsEnds processors 0 u) n processors seen) few
     (subst (λ l. Shares (PutsEnds processors 0 u) buffers processors l) (sym same) shares))

@@ -8,9 +8,8 @@ use Rattle.soc_pool.specs.declared.rule.Seen.{Seen}
 use Rattle.soc_pool.specs.Ring.{WasHolding}
 use Rattle.soc_service.specs.Works.{crash_jobs}
 
--- The jobs of crashes that are due were put, the first ones in order: as many as a ring has places, or until it was full.
-pub record PutsDue (due : List (List ℕ)) (v w : Seen) : Type 0 where
-  pub count : ℕ
+-- The jobs of the first crashes that are due were put, in order: so many as a ring has places, or until it was full.
+pub record PutsDue (due : List (List ℕ)) (count : ℕ) (v w : Seen) : Type 0 where
   pub puts : w.puts ≡ v.puts ++ crash_jobs (take count due)
   pub takes : w.takes ≡ v.takes
   pub all : (count ≡ min (length due) PLACES) ⊎ WasHolding PLACES w
@@ -36,15 +35,17 @@ left_after left _ = left
 
 -- who starts a crew puts jobs of crashes that are due, and at the end an `End` for each processor
 abbrev pub Starts : List (List ℕ) → ℕ → Seen → Type 0
-Starts due processors w = (v : Seen) × (u : Seen) × (v.puts ≡ []) × (v.takes ≡ []) × PutsDue due v u × PutsEnds processors 0 u w
+Starts due processors w =
+    (v : Seen) × (count : ℕ) × (u : Seen) × (v.puts ≡ []) × (v.takes ≡ []) × PutsDue due count v u × PutsEnds processors 0 u w
 
 -- a collector puts jobs of crashes and takes none
 abbrev pub OnlyPuts : Seen → Type 0
 OnlyPuts v = (ids : List (List ℕ)) × (v.puts ≡ crash_jobs ids) × (v.takes ≡ [])
 
--- a processor puts none, and takes jobs of crashes and at the end an `End`
-abbrev pub OnlyTakes : Seen → Type 0
-OnlyTakes v = (ids : List (List ℕ)) × (v.takes ≡ crash_jobs ids ++ J.End ∷ []) × (v.puts ≡ [])
+-- a processor takes jobs of crashes and at the end an `End`, and puts those of crashes that waited for a place
+abbrev pub TakesToEnd : Seen → Type 0
+TakesToEnd v =
+    (taken : List (List ℕ)) × (put : List (List ℕ)) × (v.takes ≡ crash_jobs taken ++ J.End ∷ []) × (v.puts ≡ crash_jobs put)
 
 -- what all passes of a crew's ring have seen: those of its collectors, those of its processors, and the one of who started it
 pub record Shares (Own : Seen → Type 0) (collectors processors : ℕ) (passes : List Seen) : Type 0 where
@@ -55,5 +56,5 @@ pub record Shares (Own : Seen → Type 0) (collectors processors : ℕ) (passes 
   pub collectors_are : length collecting ≡ collectors
   pub processors_are : length processing ≡ processors
   pub put : All OnlyPuts collecting
-  pub took : All OnlyTakes processing
+  pub took : All TakesToEnd processing
   pub started : Own own

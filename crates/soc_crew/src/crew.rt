@@ -175,7 +175,9 @@ fn serve_with<
         own,
         buffers,
     } = stock;
-    let own = put_due(rt, &jobs, own, &desk);
+    let Ok(own) = put_due(rt, alloc, &jobs, own, &desk) else {
+        return unserved(desk, listener);
+    };
     let opened = Snapshot::of(&desk);
     let (hall, mut seats) = match Hall::over(alloc, desk, crew.collectors + crew.processors) {
         Ok(made) => made,

@@ -4,7 +4,7 @@ ghost use Rattle.soc_hall.specs.Seats.{IsNew, IsSeatOf, known_of, room_of, seats
 ghost use Rattle.soc_pool.specs.Passes.{IsPassOf, passes_in, roll_of, room_of as pass_room, seen_of};
 ghost use Rattle.soc_pool.specs.declared.pass.Pass.{Pass};
 ghost use Rattle.soc_service.specs.Desks.{HasTurned};
-ghost use Rattle.soc_crew.specs.Jobs.{OnlyPuts, OnlyTakes};
+ghost use Rattle.soc_crew.specs.Jobs.{OnlyPuts, TakesToEnd};
 ghost use Rattle.soc_crew.specs.inner.Seated.{AreSeated};
 
 use crate::collector::Collector;
@@ -95,7 +95,7 @@ pub(crate) fn leave_processors<'h, T: SharedDesk, P: Reporter, G: Gate, R: Wait>
     requires each { All (λ p. IsSomeAnd p.seat
         (λ s. IsSeatOf site.now.hall.now s × HasTurned (known_of p.began.value) (known_of s) 0)
         × IsNew (T.basis_of opened.now.value) (T.log_of opened.now.value) (known_of p.began.value)
-        × IsSomeAnd p.pass (λ q. IsPassOf site.now.jobs.now q × OnlyTakes (seen_of q)))
+        × IsSomeAnd p.pass (λ q. IsPassOf site.now.jobs.now q × TakesToEnd (seen_of q)))
         processors.items }
     requires room { (length (seats_in seats.old) + vec_len processors ≤ room_of seats.old)
         × (length (passes_in passes.old) + vec_len processors ≤ pass_room passes.old) }
@@ -109,7 +109,7 @@ pub(crate) fn leave_processors<'h, T: SharedDesk, P: Reporter, G: Gate, R: Wait>
         (seats_in seats.new) ∥₁ }
     ensures passes { (more : List Pass) × (passes_in passes.new ≡ passes_in passes.old ++ more)
         × (length more ≡ vec_len processors.entry)
-        × All (λ q. IsPassOf site.now.jobs.now q × OnlyTakes (seen_of q)) more }
+        × All (λ q. IsPassOf site.now.jobs.now q × TakesToEnd (seen_of q)) more }
     ensures roll { (roll_of passes.new ≡ roll_of passes.old)
         × (pass_room passes.new ≡ pass_room passes.old) }
 {

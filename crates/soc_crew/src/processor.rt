@@ -3,7 +3,7 @@ ghost use Rattle.std.specs.Prelude.{◌≡◌, IfSome, IsSomeAnd};
 ghost use Rattle.soc_hall.specs.Seats.{IsSeatOf, known_of};
 ghost use Rattle.soc_pool.specs.Passes.{IsNew as IsNewPass, IsPassOf, seen_of};
 ghost use Rattle.soc_service.specs.Desks.{HasTurned};
-ghost use Rattle.soc_crew.specs.Jobs.{OnlyTakes};
+ghost use Rattle.soc_crew.specs.Jobs.{TakesToEnd};
 
 use soc_hall::Seat;
 use soc_pool::Pass;
@@ -47,7 +47,7 @@ impl<'h, T: SharedDesk, P: Reporter, G: Gate, R: Wait> Task for Processor<'h, T,
     ghost use Rattle.soc_hall.specs.Seats.{IsSeatOf, known_of};
     ghost use Rattle.soc_pool.specs.Passes.{IsNew as IsNewPass, IsPassOf, seen_of};
     ghost use Rattle.soc_service.specs.Desks.{HasTurned};
-    ghost use Rattle.soc_crew.specs.Jobs.{OnlyTakes};
+    ghost use Rattle.soc_crew.specs.Jobs.{TakesToEnd};
 
     ghost Ready = { λ p. (p.seat ≡ Some p.began.value) × IsSeatOf p.site.now.hall.now p.began.value
         × IsSomeAnd p.pass (λ q. IsPassOf p.site.now.jobs.now q × IsNewPass q)
@@ -57,7 +57,7 @@ impl<'h, T: SharedDesk, P: Reporter, G: Gate, R: Wait> Task for Processor<'h, T,
     ghost Did = { λ before after. (after.began ≡ before.began) × (after.site ≡ before.site)
         × IsSomeAnd after.seat (λ s. IsSeatOf before.site.now.hall.now s
         × HasTurned (known_of before.began.value) (known_of s) 0)
-        × IsSomeAnd after.pass (λ q. IsPassOf before.site.now.jobs.now q × OnlyTakes (seen_of q)) };
+        × IsSomeAnd after.pass (λ q. IsPassOf before.site.now.jobs.now q × TakesToEnd (seen_of q)) };
 
     fn run(&mut self) {
         let (Some(seat), Some(pass)) = (self.seat.take(), self.pass.take()) else {
@@ -83,7 +83,7 @@ fn work_on<T: SharedDesk, P: Reporter, G: Gate, R: Wait>(
         (λ basis. (T.desk_of basis).row_of ≡ P.row_of reporter.now) }
     ensures seat { IsSeatOf site.now.hall.now result.0
         × HasTurned (known_of seat) (known_of result.0) 0 }
-    ensures pass { IsPassOf site.now.jobs.now result.1 × OnlyTakes (seen_of result.1) }
+    ensures pass { IsPassOf site.now.jobs.now result.1 × TakesToEnd (seen_of result.1) }
 {
     for _ in site.rt.forever() {
         let end = worker(site, seat, pass, reporter);

@@ -87,7 +87,11 @@ pub(crate) fn work<
             requires { IsPassOf jobs.now own }
             ensures { IsPassOf jobs.entry.now result
                 × PutsEnds ends 0 (seen_of own) (seen_of result) }
-        { put_ends(rt, jobs, own, ends) },
+        {
+            // What still waits is left to the last sweep.
+            jobs.forget(rt);
+            put_ends(rt, jobs, own, ends)
+        },
     );
     (collectors, processors, own)
 }

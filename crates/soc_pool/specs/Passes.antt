@@ -1,13 +1,16 @@
 -- What the calls of a ring say of its passes.
-use Rattle.std.specs.Prelude.{◌≡◌, ℕ, zero, suc, ◌+◌, ◌-◌, ◌^◌, min, List, [], ◌∷◌, ◌++◌, vec_capacity}
+use Rattle.std.specs.Prelude.{◌⊎◌, ◌≡◌, ℕ, zero, suc, ◌+◌, ◌-◌, ◌^◌, min, List, [], ◌∷◌, ◌++◌, vec_capacity}
 use Rattle.crossbeam_queue.specs.Passes as kit
 use Rattle.soc_pool.specs.declared.jobs.Job.{Job}
+use Rattle.soc_pool.specs.declared.jobs.Job.TheVariants as J
+use Rattle.soc_pool.specs.declared.jobs.TheConstants.{PLACES}
 use Rattle.soc_pool.specs.declared.rule.Seen.{Seen}
 use Rattle.soc_pool.specs.declared.rule.View.{View}
 use Rattle.soc_pool.specs.declared.pass.Pass.{Pass}
 use Rattle.soc_pool.specs.declared.pass.Passes.{Passes}
 use Rattle.soc_pool.specs.declared.pass.RingEnd.{RingEnd}
 use Rattle.soc_pool.specs.declared.jobs.Jobs.{Jobs}
+use Rattle.soc_pool.specs.Ring.{Puts, WasHolding}
 
 -- what the pass has seen
 abbrev pub seen_of : Pass → Seen
@@ -60,3 +63,14 @@ numbers_below (suc n) = numbers_below n ++ n ∷ []
 -- counted once more, up to the last value
 abbrev pub once_more : ℕ → ℕ
 once_more n = min (n + 1) (2 ^ 64 - 1)
+
+-- the job of the crash was put, or the ring was full, which the pass has counted
+abbrev pub PutsOrWaits : List ℕ → Pass → Pass → Type 0
+PutsOrWaits crash before after =
+    (Puts (seen_of before) (J.Crash crash) (seen_of after) × (fulls_of after ≡ fulls_of before))
+    ⊎ ((seen_of after ≡ seen_of before) × WasHolding PLACES (seen_of before)
+    × (fulls_of after ≡ once_more (fulls_of before)))
+
+-- the job of some crash was put, or none
+abbrev pub MayPut : Seen → Seen → Type 0
+MayPut v w = (w ≡ v) ⊎ ((crash : List ℕ) × Puts v (J.Crash crash) w)

@@ -10,9 +10,10 @@ use crossbeam_queue::RuledArrayQueue;
 use soc_base::NoMemory;
 use soc_raw::CrashId;
 use std::alloc::Global;
-use std::sync::Wait;
+use std::collections::VecDeque;
 use std::sync::atomic::AtomicU64;
 use std::sync::atomic::Ordering::SeqCst;
+use std::sync::{Mutex, Wait};
 
 /// How many jobs a ring holds.
 pub const PLACES: usize = 1024;
@@ -24,12 +25,14 @@ pub enum Job {
     End,
 }
 
-/// A ring of jobs.
+/// A ring of jobs, and behind it crashes that wait for a place.
 #[derive(Drop)]
 pub struct Jobs {
     ring: RuledArrayQueue<Job, View, OneRing>,
     // How many jobs were put, modulo 2^64. Who finds the ring empty sleeps until it changes.
     puts: AtomicU64,
+    // The crashes that wait, in order.
+    pub(crate) waiting: Mutex<VecDeque<CrashId>>,
     ghost places: { ruled_capacity ring ≡ PLACES },
 }
 
@@ -39,7 +42,7 @@ impl Jobs {
     ghost use Rattle.soc_pool.specs.Passes.{seen_of, fulls_of, empties_of, passes_in, room_of, all_of, seen_in, numbers_below, once_more, IsPassOf, IsRollOf, IsNew};
     ghost use Rattle.soc_pool.specs.inner.Rule.{maker};
 
-    /// A ring that holds no job, and its passes.
+    /// A ring that holds no job and for which no crash waits, and its passes.
     pub fn new(alloc: Global, passes: u32) -> Result<(Jobs, Passes), NoMemory>
         requires { (0 < passes) × (passes ≤ 64) }
         ensures count { IfOk result (λ made. (length (passes_in made.1) ≡ passes)
@@ -56,6 +59,7 @@ impl Jobs {
         let jobs = Jobs {
             ring,
             puts: AtomicU64::new(0),
+            waiting: Mutex::new(VecDeque::new(alloc)),
         };
         let passes = jobs.fill(list, roll, passes);
         Ok((jobs, passes))

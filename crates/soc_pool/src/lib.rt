@@ -6,6 +6,7 @@ mod pass;
 mod rule;
 #[cfg(test)]
 mod tests;
+mod waiting;
 
 pub use jobs::{Job, Jobs, PLACES};
 pub use pass::{Pass, Passes, RingEnd};

@@ -10,11 +10,15 @@ use std::test::*;
 use std::thread;
 use std::thread::Threads;
 
-// The job of the crash whose id begins with this number.
-fn numbered(number: u32) -> Job {
+// The crash whose id begins with this number.
+fn crash(number: u32) -> CrashId {
     let mut draw = [0u8; 16];
     draw[0..4].copy_from_slice(&number.to_be_bytes());
-    Job::Crash(CrashId::make(draw, Digit::Accepted, FIRST_MOMENT))
+    CrashId::make(draw, Digit::Accepted, FIRST_MOMENT)
+}
+
+fn numbered(number: u32) -> Job {
+    Job::Crash(crash(number))
 }
 
 fn number_of(job: &Job) -> Option<u32> {
@@ -69,6 +73,32 @@ fn a_ring_holds_its_places(rt: HostRuntime) -> Result<(), Fail> {
     let pass = jobs.put(&rt, pass, Job::End).ok().expect(&rt, "room");
     let (_, job) = jobs.take(&rt, pass);
     assert_eq!(rt; job, Some(Job::End));
+    Ok(())
+}
+
+#[test]
+fn crashes_wait_for_a_place(rt: HostRuntime) -> Result<(), Fail> {
+    let (jobs, mut passes) = Jobs::new(rt.alloc(), 1)?;
+    let pass = passes.pop().expect(&rt, "one pass");
+    let (pass, _) = put_all(&rt, &jobs, pass, 1024);
+    let pass = jobs.put_or_wait(&rt, pass, crash(1024));
+    let pass = jobs.put_or_wait(&rt, pass, crash(1025));
+    assert_eq!(rt; pass.fulls(), 2);
+    let (pass, in_order) = take_all(&rt, &jobs, pass, 1);
+    assert!(rt; in_order);
+    let pass = jobs.refill(&rt, pass);
+    let pass = jobs.refill(&rt, pass);
+    let (pass, job) = jobs.take(&rt, pass);
+    assert_eq!(rt; job, Some(numbered(1)));
+    jobs.forget(&rt);
+    let mut pass = jobs.refill(&rt, pass);
+    for number in 2..1025 {
+        let (after, job) = jobs.take(&rt, pass);
+        pass = after;
+        assert_eq!(rt; job, Some(numbered(number)));
+    }
+    let (_, job) = jobs.take(&rt, pass);
+    assert_eq!(rt; job, None);
     Ok(())
 }
 

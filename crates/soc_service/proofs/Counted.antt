@@ -1,5 +1,5 @@
 -- How many changes of a turn's piece are kept.
-use Rattle.std.proofs.Common.{◌≡◌, inl, inr, ℕ, suc, ◌+◌, ◌-◌, ◌≤◌, ◌<◌, ◌^◌, Bool, true, false, List, [], ◌∷◌, ◌++◌, length, map, take, Option, None, Some, IfSome, refl, sym, ◌∙◌, ap, subst, arith}
+use Rattle.std.proofs.Common.{◌≡◌, inl, inr, ℕ, suc, ◌+◌, ◌-◌, ◌≤◌, ◌<◌, ◌^◌, Bool, true, false, List, [], ◌∷◌, ◌++◌, length, map, take, None, Some, refl, sym, ◌∙◌, ap, subst, arith}
 use Rattle.std.specs.Prelude.{if◌then◌else◌}
 use Rattle.std.specs.Coded.{Coded-set, coded_ℕ}
 use Rattle.std.specs.List.{AllByRecursion}
@@ -18,7 +18,6 @@ use Rattle.soc_desk.specs.declared.desk.Reply.{Reply}
 use Rattle.soc_desk.specs.declared.desk.Reply.TheVariants as R
 use Rattle.soc_desk.specs.Basis.{Basis}
 use Rattle.soc_desk.specs.Grows.{BehindDoubt, DrainFails, Drains, Finishes, Grows, Prioritises, Reprocesses, Stops, Submits, Turns, Withdraws, Writes}
-use Rattle.soc_service.specs.declared.change.Change.{Change}
 use Rattle.soc_service.specs.Changes.{counts, events_in, kept_in}
 use Rattle.soc_service.specs.Due.{keeps_all}
 use Rattle.soc_service.specs.Answers.{TellsAnswers}

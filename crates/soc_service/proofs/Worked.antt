@@ -1,5 +1,5 @@
 -- What a processor's turns tell of its crashes.
-use Rattle.std.proofs.Common.{◌≡◌, ◌⊎◌, inl, inr, ℕ, Bool, true, false, List, [], ◌∷◌, ◌++◌, Option, None, Some, MatchOption, refl, sym, ◌∙◌, ap, subst, append_assoc}
+use Rattle.std.proofs.Common.{◌≡◌, inl, inr, ℕ, Bool, true, false, List, [], ◌∷◌, ◌++◌, Option, None, Some, MatchOption, refl, sym, ◌∙◌, ap, subst, append_assoc}
 use Rattle.std.specs.Prelude.{if◌then◌else◌}
 use Rattle.std.specs.Coded.{Coded-set, coded_bool, coded_list, coded_option, coded_ℕ}
 use mathlib.Core.List.{append-nil}
@@ -13,13 +13,12 @@ use Rattle.soc_hall.specs.Seats.{seen_of}
 use Rattle.soc_pool.specs.declared.jobs.Job.{Job}
 use Rattle.soc_pool.specs.declared.jobs.Job.TheVariants as J
 use Rattle.soc_pool.specs.declared.pass.Pass.{Pass}
-use Rattle.soc_pool.specs.Passes.{fulls_of, seen_of as pass_seen}
+use Rattle.soc_pool.specs.Passes.{MayPut, seen_of as pass_seen}
 use Rattle.soc_pool.specs.Ring.{Takes}
 use Rattle.soc_ledger.specs.declared.event.Event.TheVariants as E
 use Rattle.soc_ledger.specs.Due.{is_due}
 use Rattle.soc_desk.specs.declared.desk.Command.{Command}
 use Rattle.soc_desk.specs.declared.desk.Command.TheVariants as C
-use Rattle.soc_desk.specs.declared.desk.Receipt.{Receipt}
 use Rattle.soc_desk.specs.declared.desk.Refusal.TheVariants as F
 use Rattle.soc_desk.specs.declared.desk.Reply.{Reply}
 use Rattle.soc_desk.specs.declared.desk.Reply.TheVariants as R
@@ -35,7 +34,7 @@ use Rattle.soc_service.specs.declared.process.Outcome.{Outcome}
 use Rattle.soc_service.specs.declared.processor.WorkerStop.{WorkerStop}
 use Rattle.soc_service.specs.declared.processor.WorkerStop.TheVariants as S
 use Rattle.soc_service.specs.Turns.{Knows, MayTurn, Shared}
-use Rattle.soc_service.specs.Works.{EndsBy, Fetches, Finishes, GaveNone, GoesOn, LeavesOff, StopsBehind, WasIdle, Work, WorksOn, Worked, WorksOnAll, crash_jobs, ids_of, ids_with, is_made, is_missed, is_stale, last_job}
+use Rattle.soc_service.specs.Works.{EndsBy, Fetches, Finishes, GaveNone, GoesOn, LeavesOff, PutsCrashes, StopsBehind, WasIdle, Work, WorksOn, Worked, WorksOnAll, crash_jobs, ids_of, ids_with, is_made, is_missed, is_stale, last_job}
 use Rattle.soc_service.specs.inner.Outcomes.{fetched_as, finished_as}
 use Rattle.soc_service.proofs.Answered.{log_after, told}
 use Rattle.soc_service.proofs.Options.{map_nil}
@@ -302,18 +301,40 @@ pub takes_given : (given pass : Pass) (before : List Job) (taken taken' : List (
 takes_given given pass before taken taken' stop stop' same a b is =
     ap (λ q. (pass_seen q).takes) same ∙ (is ∙ (ap (λ ids. before ++ (crash_jobs ids ++ last_job stop)) (sym a) ∙ ap (λ s. before ++ (crash_jobs taken' ++ last_job s)) (sym b)))
 
--- a pass that has the number, the puts and the full rings of another
-abbrev pub PutNone : Pass → Pass → Type 0
-PutNone pass before = ((pass_seen pass).number ≡ (pass_seen before).number) × ((pass_seen pass).puts ≡ (pass_seen before).puts) × (fulls_of pass ≡ fulls_of before)
+-- ---- the puts
 
-pub puts_given : (given pass before : Pass) → given ≡ pass → PutNone pass before → PutNone given before
-puts_given given pass before same none = subst (λ p. PutNone p before) (sym same) none
+pub puts_none : (pass : Pass) → PutsCrashes (pass_seen pass) (pass_seen pass)
+puts_none pass = record { crashes = []; number = refl; puts = sym (append-nil (pass_seen pass).puts) }
 
-pub took_none : (before pass after : Pass) (job : Job) → Takes (pass_seen pass) job (pass_seen after) → fulls_of after ≡ fulls_of pass → PutNone pass before → PutNone after before
-took_none before pass after job takes fulls none = (ap (λ s. s.number) takes.is_now ∙ none.0, ap (λ s. s.puts) takes.is_now ∙ none.1, fulls ∙ none.2)
+pub puts_given : (given pass before : Pass) → given ≡ pass → PutsCrashes (pass_seen before) (pass_seen pass) → PutsCrashes (pass_seen before) (pass_seen given)
+puts_given given pass before same puts = subst (λ p. PutsCrashes (pass_seen before) (pass_seen p)) (sym same) puts
 
-pub took : (pass after : Pass) (job other : Job) → Takes (pass_seen pass) job (pass_seen after) → job ≡ other → (pass_seen after).takes ≡ (pass_seen pass).takes ++ other ∷ []
-took pass after job other takes is = ap (λ s. s.takes) takes.is_now ∙ ap (λ j. (pass_seen pass).takes ++ j ∷ []) is
+-- where a crash that waited was put, or none
+pub puts_refilled : (before pass after : Pass) → MayPut (pass_seen pass) (pass_seen after) → PutsCrashes (pass_seen before) (pass_seen pass) → PutsCrashes (pass_seen before) (pass_seen after)
+puts_refilled before pass after (inl none) puts = subst (λ s. PutsCrashes (pass_seen before) s) (sym none) puts
+puts_refilled before pass after (inr (id, one)) puts = record {
+  crashes = puts.crashes ++ id ∷ [];
+  number = ap (λ s. s.number) one.is_now ∙ puts.number;
+  puts = ap (λ s. s.puts) one.is_now ∙ (ap (λ l. l ++ J.Crash id ∷ []) puts.puts
+      ∙ (append_assoc (pass_seen before).puts (crash_jobs puts.crashes) (J.Crash id ∷ []) ∙ ap (λ l. (pass_seen before).puts ++ l) (sym (crashes_more puts.crashes id))));
+}
+
+-- and then a job was taken
+pub puts_taken : (before pass after : Pass) (job : Job) → Takes (pass_seen pass) job (pass_seen after) → PutsCrashes (pass_seen before) (pass_seen pass) → PutsCrashes (pass_seen before) (pass_seen after)
+puts_taken before pass after job takes puts = record {
+  crashes = puts.crashes;
+  number = ap (λ s. s.number) takes.is_now ∙ puts.number;
+  puts = ap (λ s. s.puts) takes.is_now ∙ puts.puts;
+}
+
+pub takes_refilled : (pass after : Pass) → MayPut (pass_seen pass) (pass_seen after) → (pass_seen after).takes ≡ (pass_seen pass).takes
+takes_refilled pass after (inl none) = ap (λ s. s.takes) none
+takes_refilled pass after (inr (id, one)) = ap (λ s. s.takes) one.is_now
+
+pub took : (pass refilled after : Pass) (job other : Job) → MayPut (pass_seen pass) (pass_seen refilled) → Takes (pass_seen refilled) job (pass_seen after) → job ≡ other
+    → (pass_seen after).takes ≡ (pass_seen pass).takes ++ other ∷ []
+took pass refilled after job other put takes is =
+    ap (λ s. s.takes) takes.is_now ∙ (ap (λ l. l ++ job ∷ []) (takes_refilled pass refilled put) ∙ ap (λ j. (pass_seen pass).takes ++ j ∷ []) is)
 
 pub takes_none : (before : List Job) (taken : List (List ℕ)) → taken ≡ [] → before ≡ before ++ crash_jobs taken
 takes_none before taken is = sym (append-nil before) ∙ ap (λ ids. before ++ crash_jobs ids) (sym is)

@@ -1,8 +1,8 @@
 -- When a command may be asked of a shared desk, and what a turn gives its seat.
-use Rattle.std.specs.Prelude.{◌≡◌, ◌^◌, ◌<◌, Bool, true, false, IsTrue, List, ◌++◌, length, None, Some, ⊤}
+use Rattle.std.specs.Prelude.{◌≡◌, ◌^◌, ◌<◌, true, false, IsTrue, List, ◌++◌, length, None, Some, ⊤}
 use Rattle.std.specs.List.{AllByRecursion}
 use Rattle.soc_raw.specs.RawCrash.{record_text}
-use Rattle.soc_raw.specs.Record.{Crash, IsCrash, record_of}
+use Rattle.soc_raw.specs.Record.{IsCrash, record_of}
 use Rattle.soc_ledger.specs.declared.event.Event.{Event}
 use Rattle.soc_ledger.specs.Due.{is_due}
 use Rattle.soc_ledger.specs.Events.{has_stop}

@@ -1,29 +1,20 @@
 -- What a desk in a hall does with its seat and its pass.
-use Rattle.std.specs.Prelude.{◌≡◌, ◌⊎◌, ℕ, ◌+◌, List, ◌++◌, Option, None, Some, IsSomeAnd}
+use Rattle.std.specs.Prelude.{◌≡◌, ℕ, ◌+◌, List, ◌++◌, Option, None, Some, IsSomeAnd}
 use Rattle.soc_hall.specs.declared.view.Turn.{Turn as HallTurn}
 use Rattle.soc_hall.specs.Log.{pieces}
 use Rattle.soc_hall.specs.Seats.{known_of}
-use Rattle.soc_pool.specs.declared.jobs.Job.TheVariants as J
-use Rattle.soc_pool.specs.declared.jobs.TheConstants.{PLACES}
 use Rattle.soc_pool.specs.declared.pass.Pass.{Pass}
-use Rattle.soc_pool.specs.Passes.{seen_of, fulls_of, empties_of, once_more}
-use Rattle.soc_pool.specs.Ring.{Puts, WasHolding}
+use Rattle.soc_pool.specs.Passes.{PutsOrWaits, empties_of}
 use Rattle.soc_desk.specs.declared.desk.Command.{Command}
 use Rattle.soc_desk.specs.declared.desk.Receipt.{Receipt}
 use Rattle.soc_service.specs.declared.change.Change.{Change}
 use Rattle.soc_service.specs.Changes.{events_in, kept_in}
 use Rattle.soc_service.specs.Turns.{Knows, SeatOf, Shared, Turn}
 
--- the job of the crash was put, or the ring was full, which the pass has counted
-abbrev pub PutsOrMissed : List ℕ → Pass → Pass → Type 0
-PutsOrMissed id before after =
-    (Puts (seen_of before) (J.Crash id) (seen_of after) × (fulls_of after ≡ fulls_of before))
-    ⊎ ((seen_of after ≡ seen_of before) × WasHolding PLACES (seen_of before) × (fulls_of after ≡ once_more (fulls_of before)))
-
 -- nothing was put, or the job of this crash, once
 abbrev pub PutsJob : Option (List ℕ) → Pass → Pass → Type 0
 PutsJob None before after = after ≡ before
-PutsJob (Some id) before after = PutsOrMissed id before after × (empties_of after ≡ empties_of before)
+PutsJob (Some id) before after = PutsOrWaits id before after × (empties_of after ≡ empties_of before)
 
 module _ {T A B S : Type 0} (desk : Shared T A B) (command_of : A → Command) where
   -- The seat made one turn of the command. What the turn's piece keeps is counted.

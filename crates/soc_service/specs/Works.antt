@@ -8,6 +8,7 @@ use Rattle.soc_hall.specs.Asked.{sees}
 use Rattle.soc_hall.specs.Seats.{seen_of}
 use Rattle.soc_pool.specs.declared.jobs.Job.{Job}
 use Rattle.soc_pool.specs.declared.jobs.Job.TheVariants as J
+use Rattle.soc_pool.specs.declared.rule.Seen.{Seen}
 use Rattle.soc_ledger.specs.declared.event.Event.TheVariants as E
 use Rattle.soc_ledger.specs.Due.{is_due}
 use Rattle.soc_desk.specs.declared.desk.Command.{Command}
@@ -16,7 +17,6 @@ use Rattle.soc_desk.specs.declared.desk.Receipt.{Receipt}
 use Rattle.soc_desk.specs.declared.desk.Refusal.TheVariants as F
 use Rattle.soc_desk.specs.declared.desk.Reply.{Reply}
 use Rattle.soc_desk.specs.declared.desk.Reply.TheVariants as R
-use Rattle.soc_service.specs.declared.change.Change.{Change}
 use Rattle.soc_service.specs.Changes.{events_in}
 use Rattle.soc_service.specs.declared.process.Outcome.{Outcome}
 use Rattle.soc_service.specs.declared.process.Outcome.TheVariants as O
@@ -129,6 +129,12 @@ left_of (Some id) = id ∷ []
 abbrev pub crash_jobs : List (List ℕ) → List Job
 crash_jobs [] = []
 crash_jobs (id ∷ ids) = J.Crash id ∷ crash_jobs ids
+
+-- a pass has put the jobs of these crashes more, and no others
+pub record PutsCrashes (v w : Seen) : Type 0 where
+  pub crashes : List (List ℕ)
+  pub number : w.number ≡ v.number
+  pub puts : w.puts ≡ v.puts ++ crash_jobs crashes
 
 -- a processor that has ended took an `End` last
 abbrev pub last_job : WorkerStop → List Job

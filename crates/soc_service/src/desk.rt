@@ -12,7 +12,7 @@ use crate::site::Site;
 use crate::turn::take_turn;
 use soc_desk::{Command, Desk, KeepingDesk, Receipt};
 use soc_hall::{Hall, Seat};
-use soc_pool::{Job, Jobs, Pass};
+use soc_pool::{Jobs, Pass};
 use soc_raw::CrashId;
 use std::alloc::Global;
 use std::snapshot::Snapshot;
@@ -114,7 +114,7 @@ impl<'h, T: SharedDesk, G: Gate, W: Wait> HallDesk<'h, T, G, W> {
         answer.reply
     }
 
-    // Puts the job of a crash, where there is one, once. A full ring leaves it to a later sweep.
+    // Puts the job of a crash, where there is one, once. Where the ring is full the crash waits for a place.
     fn put(&mut self, due: Option<CrashId>)
         ensures same { (self.new.hall ≡ self.old.hall) × (self.new.jobs ≡ self.old.jobs)
             × (self.new.seat ≡ self.old.seat) × (self.new.stopped ≡ self.old.stopped)
@@ -128,11 +128,7 @@ impl<'h, T: SharedDesk, G: Gate, W: Wait> HallDesk<'h, T, G, W> {
         let Some(pass) = self.pass.take() else {
             unreachable!()
         };
-        let pass = match self.jobs.put(self.rt, pass, Job::Crash(id)) {
-            Ok(pass) => pass,
-            Err((pass, _)) => pass,
-        };
-        self.pass = Some(pass);
+        self.pass = Some(self.jobs.put_or_wait(self.rt, pass, id));
     }
 }
 

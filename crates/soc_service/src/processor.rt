@@ -1,8 +1,8 @@
 //! A processor: it takes the jobs of crashes out of a ring, and gives each crash its report.
 ghost use Rattle.std.specs.Prelude.{◌≡◌, ◌++◌, IfSome};
 ghost use Rattle.soc_hall.specs.Seats.{IsSeatOf, known_of};
-ghost use Rattle.soc_pool.specs.Passes.{IsPassOf, fulls_of, seen_of};
-ghost use Rattle.soc_service.specs.Works.{Worked, crash_jobs, last_job};
+ghost use Rattle.soc_pool.specs.Passes.{IsPassOf, seen_of};
+ghost use Rattle.soc_service.specs.Works.{PutsCrashes, Worked, crash_jobs, last_job};
 
 use crate::gate::{Gate, Point};
 use crate::lists::Lists;
@@ -63,8 +63,9 @@ fn end_of<S>(lists: Lists, seat: S, pass: Pass, stop: WorkerStop) -> WorkerEnd<S
     }
 }
 
-/// Makes the reports of the crashes whose jobs it takes, by the desk's own reporter, until it takes an `End`. Where the
-/// ring is empty it sleeps. Where memory is wanting, it stops.
+/// Makes the reports of the crashes whose jobs it takes, by the desk's own reporter, until it takes an `End`. Before each
+/// job it puts that of the first crash that waits for a place. Where the ring is empty it sleeps. Where memory is wanting,
+/// it stops.
 pub fn worker<T: SharedDesk, R: Reporter, G: Gate, W: Wait>(
     site: &Site<'_, T, G, W>,
     mut seat: Seat<T>,
@@ -79,9 +80,7 @@ pub fn worker<T: SharedDesk, R: Reporter, G: Gate, W: Wait>(
     ensures pass { IsPassOf site.now.jobs.now result.pass }
     ensures taken { (seen_of result.pass).takes ≡ (seen_of pass).takes
         ++ (crash_jobs result.taken.items ++ last_job result.stop) }
-    ensures puts_none { ((seen_of result.pass).number ≡ (seen_of pass).number)
-        × ((seen_of result.pass).puts ≡ (seen_of pass).puts)
-        × (fulls_of result.pass ≡ fulls_of pass) }
+    ensures puts { PutsCrashes (seen_of pass) (seen_of result.pass) }
     ensures worked { Worked T.Logged T.command_of
         (known_of seat) result.taken.items result.made.items result.stale.items result.missed.items
         result.stop (known_of result.seat) }
@@ -91,6 +90,7 @@ pub fn worker<T: SharedDesk, R: Reporter, G: Gate, W: Wait>(
         if lists.taken.reserve(1).is_err() {
             return end_of(lists, seat, pass, WorkerStop::NoMemory);
         }
+        pass = site.jobs.refill(site.rt, pass);
         let (after, job) = site.jobs.next(site.rt, pass);
         pass = after;
         let id = match job {

@@ -1,5 +1,5 @@
 -- What a desk in a hall has added never falls, and is short: its log is.
-use Rattle.std.specs.Prelude.{ℕ, ◌^◌, ◌<◌, ◌≤◌, List, length, Option, None, Some, IsSomeAnd}
+use Rattle.std.specs.Prelude.{ℕ, ◌^◌, ◌<◌, ◌≤◌, length, Option, None, Some, IsSomeAnd}
 use Rattle.std.specs.Coded.{le_prop}
 use Rattle.std.proofs.Common.{arith}
 use Rattle.std.proofs.Math.Logic.{∥∥₁_elim}

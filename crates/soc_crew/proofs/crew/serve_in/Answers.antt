@@ -10,7 +10,7 @@ use Rattle.soc_pool.specs.Passes.{IsNew as IsNewPass, IsPassOf, passes_in, seen_
 use Rattle.soc_collect.specs.Tallies.{nothing_served}
 use Rattle.soc_service.specs.Desks.{HasTurned}
 use Rattle.soc_service.specs.Due.{asked_id, due_after}
-use Rattle.soc_crew.specs.Jobs.{OnlyPuts, OnlyTakes, PutsEnds}
+use Rattle.soc_crew.specs.Jobs.{OnlyPuts, TakesToEnd, PutsEnds}
 use Rattle.soc_hall.proofs.Crossing.{place_send, room_sync, seat_send}
 use Rattle.soc_pool.proofs.Crossing.{jobs_sync, pass_send}
 use Rattle.soc_crew.proofs.Desks.{asks_keep}
@@ -127,12 +127,12 @@ leave_processors-requires-clause-each g c =
     × IfSome (known_of p.began.value).basis (λ b. (g.T.SharedDesk.desk_of b).row_of ≡ g.P.Reporter.row_of p.reporter.now)) × (p.site.now.hall.now ≡ hall) × IsNew basis opening (known_of p.began.value)
     × (p.site.now.jobs.now ≡ jobs)) c.processors-processing.ensures.each
     (λ p. IsSomeAnd p.seat (λ s. IsSeatOf hall s × HasTurned (known_of p.began.value) (known_of s) 0) × IsNew basis opening (known_of p.began.value)
-    × IsSomeAnd p.pass (λ q. IsPassOf jobs q × OnlyTakes (seen_of q)))
+    × IsSomeAnd p.pass (λ q. IsPassOf jobs q × TakesToEnd (seen_of q)))
     (λ x y p r. (
       subst (λ h. IsSomeAnd y.seat (λ s. IsSeatOf h s × HasTurned (known_of y.began.value) (known_of s) 0)) p.1
           (subst (λ b. IsSomeAnd y.seat (λ s. IsSeatOf x.site.now.hall.now s × HasTurned (known_of b.value) (known_of s) 0)) (sym r.0) r.2),
       subst (λ b. IsNew basis opening (known_of b.value)) (sym r.0) p.2,
-      subst (λ j. IsSomeAnd y.pass (λ q. IsPassOf j q × OnlyTakes (seen_of q))) p.3 r.3,
+      subst (λ j. IsSomeAnd y.pass (λ q. IsPassOf j q × TakesToEnd (seen_of q))) p.3 r.3,
     ))
 
 pub leave_processors-requires-clause-room : goal.leave_processors-requires-clause-room
@@ -257,7 +257,7 @@ returns-clause-passes g c =
     let rest = more.2 in
     let one = one_more _ _ _ pushed in
     let first = All-weaker (λ q. IsPassOf jobs q × OnlyPuts (seen_of q)) (λ q. IsPassOf jobs q) (λ q both. both.0) _ c.leave_collectors-served.ensures.passes.0 in
-    let second = All-weaker (λ q. IsPassOf jobs q × OnlyTakes (seen_of q)) (λ q. IsPassOf jobs q) (λ q both. both.0) _ more.3 in
+    let second = All-weaker (λ q. IsPassOf jobs q × TakesToEnd (seen_of q)) (λ q. IsPassOf jobs q) (λ q both. both.0) _ more.3 in
     let both = All-same (λ q. IsPassOf jobs q) _ _ more.1 (All-append (λ q. IsPassOf jobs q) _ _ first second) in (
       All-same (λ q. IsPassOf jobs q) _ _ pushed (All-push (λ q. IsPassOf jobs q) _ _ both c.work-collecting.ensures.own.0),
       omega arith,
@@ -298,7 +298,7 @@ returns-clause-jobs g c =
     let many : vec_len c.processors-processing.result ≡ c.args.setting.crew.processors = omega arith in
     shared _ _ (passes_in c.leave_collectors-served.new.passes) more.0 _ _ _ (c.push.ensures.pushed ∙ ap (λ l. l ++ c.work-collecting.result.2 ∷ []) more.1) collected processed
     (All-weaker (λ q. IsPassOf jobs q × OnlyPuts (seen_of q)) (λ q. OnlyPuts (seen_of q)) (λ q both. both.1) _ c.leave_collectors-served.ensures.passes.0)
-    (All-weaker (λ q. IsPassOf jobs q × OnlyTakes (seen_of q)) (λ q. OnlyTakes (seen_of q)) (λ q both. both.1) _ more.3)
+    (All-weaker (λ q. IsPassOf jobs q × TakesToEnd (seen_of q)) (λ q. TakesToEnd (seen_of q)) (λ q both. both.1) _ more.3)
     (subst (λ n. PutsEnds n 0 (seen_of c.args.own) (seen_of c.work-collecting.result.2)) many c.work-collecting.ensures.own.1)
 
 pub returns-clause-ticket : goal.returns-clause-ticket

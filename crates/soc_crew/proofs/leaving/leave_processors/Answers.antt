@@ -4,7 +4,7 @@ use Rattle.soc_hall.specs.Seats.{IsNew, IsSeatOf, known_of, seats_in}
 use mathlib.Core.List.{append-nil}
 use Rattle.std.proofs.lemmas.List.Elements.{All-nil, All-push}
 use Rattle.soc_pool.specs.Passes.{IsPassOf, seen_of}
-use Rattle.soc_crew.specs.Jobs.{OnlyTakes}
+use Rattle.soc_crew.specs.Jobs.{TakesToEnd}
 use Rattle.soc_service.specs.Desks.{HasTurned}
 use Rattle.soc_crew.specs.inner.Seated.{AreSeated}
 use Rattle.soc_crew.proofs.Lists.{at_some, one_more, pop_all, push_all}
@@ -17,7 +17,7 @@ loop-processor-init g c = record {
   count = refl;
   room = refl;
   enough = c.requires.room;
-  passes = ([], sym (append-nil _), omega arith, All-nil (λ q. IsPassOf c.args.site.now.jobs.now q × OnlyTakes (seen_of q)));
+  passes = ([], sym (append-nil _), omega arith, All-nil (λ q. IsPassOf c.args.site.now.jobs.now q × TakesToEnd (seen_of q)));
   passes_count = refl;
   roll = (refl, refl);
   seats = c.requires.seats;
@@ -34,7 +34,7 @@ loop-processor-preserved g c =
     let before = c.loop-processor.invariant in
     let popped = pop_all c.loop-processor.processors.items c.pop.new.self.items c.in-Some.processor c.in-Some.ensures.items
     (λ p. IsSomeAnd p.seat (λ s. IsSeatOf hall s × HasTurned (known_of p.began.value) (known_of s) 0) × IsNew basis opening (known_of p.began.value)
-    × IsSomeAnd p.pass (λ q. IsPassOf jobs q × OnlyTakes (seen_of q))) before.each in
+    × IsSomeAnd p.pass (λ q. IsPassOf jobs q × TakesToEnd (seen_of q))) before.each in
     let own = popped.1 in
     let one_less = one_more c.loop-processor.processors.items c.pop.new.self.items c.in-Some.processor c.in-Some.ensures.items in
     let was = c.loop-processor.processors.ok in
@@ -46,7 +46,7 @@ loop-processor-preserved g c =
     let pass = c.in-Some-Some.pass in
     let pass_pushed = c.give_back.ensures.pass in
     let one_pass = one_more _ _ pass pass_pushed in
-    let here = at_some (λ q. IsPassOf jobs q × OnlyTakes (seen_of q)) c.in-Some.processor.pass pass c.in-Some-Some.is-1 own.2 in
+    let here = at_some (λ q. IsPassOf jobs q × TakesToEnd (seen_of q)) c.in-Some.processor.pass pass c.in-Some-Some.is-1 own.2 in
     let more = before.passes.0 in
     record {
       each = popped.0;
@@ -57,7 +57,7 @@ loop-processor-preserved g c =
         more ++ pass ∷ [],
         pass_pushed ∙ (ap (λ l. l ++ pass ∷ []) before.passes.1 ∙ append_assoc _ more (pass ∷ [])),
         let l = before.passes.2 in let longer = length-append more (pass ∷ []) in omega arith,
-        All-push (λ q. IsPassOf jobs q × OnlyTakes (seen_of q)) more pass before.passes.3 here,
+        All-push (λ q. IsPassOf jobs q × TakesToEnd (seen_of q)) more pass before.passes.3 here,
       );
       passes_count = let l = before.passes_count in omega arith;
       roll = (c.give_back.ensures.roll.0 ∙ before.roll.0, c.give_back.ensures.roll.1 ∙ before.roll.1);

@@ -21,7 +21,7 @@ returns-in-Ended-clause-seat g c = (
 pub returns-in-Ended-clause-pass : goal.returns-in-Ended-clause-pass
 returns-in-Ended-clause-pass g c = (
   c.worker-end.ensures.pass,
-  took_end c.args.pass (seen_of c.loop.pass) (seen_of c.worker-end.result.pass) _ _ (ap last_job c.in-Ended.is) c.requires.pass.1 c.loop.invariant.took c.worker-end.ensures.taken c.worker-end.ensures.puts_none.1,
+  took_end c.args.pass (seen_of c.loop.pass) (seen_of c.worker-end.result.pass) _ _ (ap last_job c.in-Ended.is) c.requires.pass.1 c.loop.invariant.took c.worker-end.ensures.taken c.worker-end.ensures.puts,
 )
 
 pub loop-preserved : goal.loop-preserved
@@ -29,5 +29,5 @@ loop-preserved g c = record {
   seat = c.worker-end.ensures.seat;
   pass = c.worker-end.ensures.pass;
   turned = turned_more _ _ _ 0 0 c.loop.invariant.turned (by_worker g.T.Logged g.T.SharedDesk.command_of g.T.SharedDesk.desk_of g.met.T.SharedDesk.tells _ _ _ _ _ _ _ c.worker-end.ensures.worked);
-  took = took_more _ _ _ _ _ (ap last_job c.in-NoMemory.is) c.loop.invariant.took c.worker-end.ensures.taken c.worker-end.ensures.puts_none.1;
+  took = took_more _ _ _ _ _ (ap last_job c.in-NoMemory.is) c.loop.invariant.took c.worker-end.ensures.taken c.worker-end.ensures.puts;
 }

@@ -1,4 +1,4 @@
-use Rattle.std.proofs.Common.{◌≡◌, refl, sym, ◌∙◌, ap}
+use Rattle.std.proofs.Common.{◌≡◌, sym, ◌∙◌, ap}
 use Rattle.soc_service.proofs.Asked.{row_is}
 use Rattle.soc_service.proofs.Options.{of_some}
 use Rattle.soc_service.proofs.Worked.{ends_finished, ends_unmade, ends_unread, may_finish}

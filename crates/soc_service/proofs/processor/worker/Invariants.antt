@@ -1,7 +1,7 @@
 use Rattle.std.proofs.Common.{◌≡◌, ◌++◌}
 use Rattle.soc_hall.specs.Seats.{IsSeatOf, known_of}
-use Rattle.soc_pool.specs.Passes.{IsPassOf, fulls_of, seen_of}
-use Rattle.soc_service.specs.Works.{crash_jobs}
+use Rattle.soc_pool.specs.Passes.{IsPassOf, seen_of}
+use Rattle.soc_service.specs.Works.{PutsCrashes, crash_jobs}
 use Rattle.soc_service.proofs.Worked.{HasWorked}
 use Rattle.soc_service.proofs.processor.worker.Given as goal
 
@@ -11,7 +11,7 @@ invariant-loop g l = record {
   pass : IsPassOf l.site.jobs.now l.pass;
   basis : (known_of l.seat).basis ≡ (known_of l.initial.seat).basis;
   takes : (seen_of l.pass).takes ≡ (seen_of l.initial.pass).takes ++ crash_jobs l.lists.taken.items;
-  puts_none : ((seen_of l.pass).number ≡ (seen_of l.initial.pass).number) × ((seen_of l.pass).puts ≡ (seen_of l.initial.pass).puts) × (fulls_of l.pass ≡ fulls_of l.initial.pass);
+  puts : PutsCrashes (seen_of l.initial.pass) (seen_of l.pass);
   worked : HasWorked g.T.Logged g.T.SharedDesk.command_of
       (known_of l.initial.seat) l.lists.taken.items l.lists.made.items l.lists.stale.items l.lists.missed.items (known_of l.seat);
 }

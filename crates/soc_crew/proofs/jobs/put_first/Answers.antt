@@ -1,6 +1,6 @@
 use Rattle.std.proofs.Common.{refl, sym}
 use Rattle.soc_crew.proofs.Passes.{put_full, put_more, put_none}
-use Rattle.soc_crew.proofs.jobs.put_due.Goals as goal
+use Rattle.soc_crew.proofs.jobs.put_first.Goals as goal
 
 pub loop-place-init : goal.loop-place-init
 loop-place-init g c = record { pass = c.requires; has = put_none _ _ _ refl }
