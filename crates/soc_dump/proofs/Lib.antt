@@ -7,5 +7,6 @@ pub mod CoveringLemmas
 pub mod TableLemmas
 pub mod IdentityLemmas
 pub mod Utf16Lemmas
+pub mod LayerLemmas
 pub mod LossyLemmas
 pub mod RegisterLemmas

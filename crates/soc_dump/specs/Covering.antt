@@ -1,5 +1,6 @@
 -- The first interval of a list that covers a number.
-use Rattle.std.specs.Prelude.{ℕ, ◌+◌, ◌-◌, ◌^◌, ◌==◌, ◌&&◌, nat_lt, nat_le, min, Bool, if◌then◌else◌, List, [], ◌∷◌, Option, position}
+use Rattle.std.specs.Prelude.{ℕ, ◌+◌, ◌-◌, ◌^◌, ◌==◌, ◌&&◌, nat_lt, nat_le, min, Bool, if◌then◌else◌, List, [], ◌∷◌, Option, None, option_map, position}
+use Rattle.std.specs.Option.{option_or}
 use Rattle.soc_dump.specs.declared.covering.Interval.{Interval}
 use Rattle.soc_dump.specs.declared.pieces.Piece.{Piece}
 
@@ -21,3 +22,17 @@ interval_from first count =
 abbrev pub owner_from : Option ℕ → List Piece → ℕ → Option ℕ
 owner_from owner [] x = owner
 owner_from owner (piece ∷ pieces) x = if nat_lt x piece.from then owner else owner_from piece.owner pieces x
+
+-- the pieces of a slice of a list, whose owners are counted from the slice's first
+pub record LayerEntry : Type 0 where
+  pub first : ℕ
+  pub pieces : List Piece
+
+-- the owner in a slice, counted from the list's first
+abbrev pub layer_owner : LayerEntry → ℕ → Option ℕ
+layer_owner layer x = option_map (λ owner. layer.first + owner) (owner_from None layer.pieces x)
+
+-- the owner in the first slice that has one
+abbrev pub owner_in : List LayerEntry → ℕ → Option ℕ
+owner_in [] x = None
+owner_in (layer ∷ layers) x = option_or (layer_owner layer x) (owner_in layers x)

@@ -1,9 +1,9 @@
 //! A whole dump.
-ghost use Rattle.std.specs.Prelude.{◌≡◌, ℕ, ◌<◌, ◌≤◌, ◌^◌, IfOk, IfSome, None, map, option_map, position};
+ghost use Rattle.std.specs.Prelude.{◌≡◌, ℕ, ◌<◌, ◌≤◌, ◌^◌, IfOk, IfSome, map, option_map, position};
 ghost use Rattle.soc_dump.specs.Checks.{IsRead};
 ghost use Rattle.soc_dump.specs.Dump.{dump_checks, contents_of, contents_checks, contents_in};
 ghost use Rattle.soc_dump.specs.Directory.{AllInside};
-ghost use Rattle.soc_dump.specs.Covering.{owner_from};
+ghost use Rattle.soc_dump.specs.Covering.{owner_in};
 ghost use Rattle.soc_dump.specs.Views.{thread_entry, module_entry, exception_entry};
 ghost use Rattle.soc_dump.specs.Memory.{word_in, regions_of, holds_address};
 
@@ -145,7 +145,7 @@ impl<'a> Dump<'a> {
     /// the module's index.
     pub fn module_table(&self, alloc: Global) -> Result<FirstCovering, NoMemory>
         ensures { IfOk result (λ table. (address : ℕ) → address < 2 ^ 64
-            → owner_from None table address ≡ position (holds_address address) self.now.modules) }
+            → owner_in table address ≡ position (holds_address address) self.now.modules) }
     {
         let intervals = intervals_of_modules(alloc, self.modules.as_slice())?;
         FirstCovering::new(alloc, intervals.as_slice())

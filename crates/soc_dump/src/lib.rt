@@ -8,6 +8,7 @@ mod error;
 mod exception;
 mod field;
 mod identity;
+mod layer;
 mod layout;
 mod list;
 mod memory;

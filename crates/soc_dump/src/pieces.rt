@@ -9,26 +9,29 @@ use crate::covering::Interval;
 use soc_base::NoMemory;
 use std::alloc::Global;
 
-/// Which interval is the first that covers, for the numbers from one on up to the next piece's.
+/// Which interval is the first that covers, for the numbers from one on up to the next piece's. It
+/// takes 16 bytes.
 #[derive(Clone, Copy, Debug)]
 pub struct Piece {
     pub from: u64,
     /// The interval's index; `None` where none covers.
-    pub owner: Option<usize>,
+    pub owner: Option<u32>,
 }
+
+const _: () = prove!(size_of::<Piece>() == 16);
 
 /// The pieces that are left of two lists, of which the upper one counts where it has an owner, and
 /// the owners of the pieces before them.
 #[derive(Clone, Copy, Debug)]
 struct Layers<'a> {
-    above: Option<usize>,
+    above: Option<u32>,
     upper: &'a [Piece],
-    below: Option<usize>,
+    below: Option<u32>,
     lower: &'a [Piece],
 }
 
 /// The pieces of one interval.
-fn pieces_of_one(alloc: Global, interval: Interval, index: usize) -> Result<Vec<Piece>, NoMemory>
+fn pieces_of_one(alloc: Global, interval: Interval, index: u32) -> Result<Vec<Piece>, NoMemory>
     ensures { IfOk result (λ pieces. pieces.items ≡ piece_list interval index) }
 {
     let mut pieces = Vec::with_capacity(alloc, 2)?;
@@ -113,12 +116,8 @@ fn overlay(alloc: Global, upper: &[Piece], lower: &[Piece]) -> Result<Vec<Piece>
 }
 
 /// The pieces of some intervals, of which the first has the index.
-pub fn pieces_of(
-    alloc: Global,
-    intervals: &[Interval],
-    index: usize,
-) -> Result<Vec<Piece>, NoMemory>
-    requires { index + length intervals.now < 2 ^ 64 }
+pub fn pieces_of(alloc: Global, intervals: &[Interval], index: u32) -> Result<Vec<Piece>, NoMemory>
+    requires { index + length intervals.now < 2 ^ 32 }
     ensures rising { IfOk result (λ pieces. IsRising 0 pieces.items) }
     ensures owners { IfOk result (λ pieces. (x : ℕ) → x < 2 ^ 64
         → owner_from None pieces.items x ≡ position_from (covers x) index intervals.now) }
@@ -130,7 +129,7 @@ pub fn pieces_of(
             let middle = intervals.len() / 2;
             let (front, back) = intervals.split_at(middle);
             let upper = pieces_of(alloc, front, index)?;
-            let lower = pieces_of(alloc, back, index + middle)?;
+            let lower = pieces_of(alloc, back, index + middle as u32)?;
             overlay(alloc, upper.as_slice(), lower.as_slice())
         }
     }
@@ -146,7 +145,7 @@ fn count_to(pieces: &[Piece], x: u64) -> usize
 }
 
 /// The owner of a number's piece.
-pub fn owner_at(pieces: &[Piece], x: u64) -> Option<usize>
+pub fn owner_at(pieces: &[Piece], x: u64) -> Option<u32>
     requires { IsRising 0 pieces.now }
     ensures { result ≡ owner_from None pieces.now x }
 {

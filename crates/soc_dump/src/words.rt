@@ -1,9 +1,13 @@
 //! The words of one width, found by their addresses.
-ghost use Rattle.std.specs.Prelude.{◌≡◌, ◌<◌, ◌≤◌, ◌+◌, ◌^◌, ◌++◌, Some, map, length, slice_get, IfOk, IfSome, None};
+ghost use Rattle.std.specs.Prelude.{◌≡◌, ℕ, ◌<◌, ◌≤◌, ◌+◌, ◌^◌, ◌++◌, Some, map, length, slice_get, IfOk, IfSome, OnOk};
+ghost use Rattle.std.specs.List.{position_from};
+ghost use Rattle.std.specs.Option.{option_or};
+ghost use Rattle.soc_dump.specs.Covering.{covers, owner_in};
 ghost use Rattle.soc_dump.specs.Memory.{word_in, word_interval, stack_of};
 ghost use Rattle.soc_dump.specs.Views.{memory_entry, thread_entry};
 
 use crate::covering::{FirstCovering, Interval};
+use crate::layer::LAYER;
 use crate::memory::Region;
 use crate::thread::Thread;
 use crate::word::{stack_region, word_of_region};
@@ -75,6 +79,31 @@ fn intervals_of_stacks(
     Ok(intervals)
 }
 
+/// Puts the intervals of regions behind those of a table, whose number is the index of their first.
+/// Those of more than a layer never stand in memory together.
+fn extend_by_memory(
+    alloc: Global,
+    table: &mut FirstCovering,
+    first: usize,
+    regions: &[Region<'_>],
+    width: usize,
+) -> Result<(), NoMemory>
+    requires some { 1 ≤ width }
+    requires fits { first + length regions.now < 2 ^ 63 }
+    ensures { OnOk result ((x : ℕ) → x < 2 ^ 64 → owner_in table.new x
+        ≡ option_or (owner_in table.old x) (position_from (covers x) first
+        (map (λ region. word_interval width (memory_entry region)) regions.now))) }
+{
+    if regions.len() > LAYER {
+        let middle = regions.len() / 2;
+        let (front, back) = regions.split_at(middle);
+        extend_by_memory(alloc, table, first, front, width)?;
+        return extend_by_memory(alloc, table, first + middle, back, width);
+    }
+    let intervals = intervals_of_memory(alloc, regions, width)?;
+    table.extend(alloc, first, intervals.as_slice())
+}
+
 /// A region of the memory list, or a stack behind them.
 fn region_at<'a>(memory: &[Region<'a>], threads: &[Thread<'a>], index: usize) -> Region<'a>
     requires { index < length memory.now + length threads.now }
@@ -89,7 +118,8 @@ fn region_at<'a>(memory: &[Region<'a>], threads: &[Thread<'a>], index: usize) ->
 }
 
 impl<'a> Words<'a> {
-    /// The words of the memory list's regions and of the threads' stacks.
+    /// The words of the memory list's regions and of the threads' stacks. The table takes 32 bytes
+    /// for each of them, and its making besides 16 bytes for each thread and less than 4 MB.
     pub(crate) fn new(
         alloc: Global,
         memory: &'a [Region<'a>],
@@ -105,10 +135,10 @@ impl<'a> Words<'a> {
               width = width;
             }) }
     {
-        let mut intervals = intervals_of_memory(alloc, memory, width)?;
+        let mut table = FirstCovering::empty(alloc);
+        extend_by_memory(alloc, &mut table, 0, memory, width)?;
         let stacks = intervals_of_stacks(alloc, threads, width)?;
-        intervals.extend_from_slice(stacks.as_slice())?;
-        let table = FirstCovering::new(alloc, intervals.as_slice())?;
+        table.extend(alloc, memory.len(), stacks.as_slice())?;
         Ok(Words {
             memory,
             threads,
@@ -118,7 +148,7 @@ impl<'a> Words<'a> {
     }
 
     /// The word at an address, the lowest byte first, from the first region that holds it whole. It
-    /// takes no memory, and a number of steps that grows with the logarithm of the regions' number.
+    /// takes no memory, and as many steps as `FirstCovering::at` for the regions and for the stacks.
     pub fn at(&self, address: u64) -> Option<u64>
         ensures value { result ≡ word_in self.now.regions address self.now.width }
         ensures small { IfSome result (λ word. word < 256 ^ self.now.width) }
