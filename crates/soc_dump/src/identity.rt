@@ -1,7 +1,6 @@
 //! How a module names its debug file.
-ghost use Rattle.std.specs.Prelude.{◌≡◌, ◌==◌, IfOk, IsTrue, map, slice_index, string_bytes};
+ghost use Rattle.std.specs.Prelude.{◌≡◌, ◌≤◌, ◌==◌, length, IfOk, IsTrue, map, slice_index, string_bytes};
 ghost use Rattle.std.specs.List.{before_first};
-ghost use Rattle.std.specs.Str.Lossy.{utf8_lossy};
 ghost use Rattle.soc_text.specs.Paths.{base_name_of};
 ghost use Rattle.soc_dump.specs.Identity.{is_pdb, is_build_id, guid_text, pdb_id_of, build_id_of, pdb_path_of, debug_id_of, debug_file_of, IfShort};
 ghost use Rattle.soc_dump.specs.Views.{module_entry};
@@ -109,39 +108,53 @@ fn name_of(path: &[u8]) -> &[u8]
 }
 
 /// The name of a PDB file.
-fn pdb_name(alloc: Global, bytes: &[u8], most: usize) -> Result<Option<Text>, NoMemory>
+fn pdb_name(bytes: &[u8]) -> &[u8]
     requires { IsTrue (is_pdb bytes.now) }
-    ensures { IfOk result (IfShort most (utf8_lossy (base_name_of (pdb_path_of bytes.now)))) }
+    ensures { result.now ≡ base_name_of (pdb_path_of bytes.now) }
 {
-    let name = name_of(before_nul(&bytes[PDB_FILE..]));
-    if name.len() > most {
-        return Ok(None);
-    }
-    Ok(Some(Text::lossy(alloc, name)?))
-}
-
-/// A module's own name.
-fn own_name(alloc: Global, module: &Module<'_>, most: usize) -> Result<Option<Text>, NoMemory>
-    ensures { IfOk result (IfShort most (module_entry «module».now).name) }
-{
-    if name_part(module.path).len() / 2 > most {
-        return Ok(None);
-    }
-    Ok(Some(module.name(alloc)?))
+    name_of(before_nul(&bytes[PDB_FILE..]))
 }
 
 /// The name of a module's debug file: the file name of a PDB file's path, or the module's own name
-/// for a build id. It is empty where no such record stands. `None` says that the name has more than
-/// `most` bytes; a longer one is not decoded.
-pub fn debug_file(alloc: Global, module: &Module<'_>, most: usize) -> Result<Option<Text>, NoMemory>
-    ensures { IfOk result (IfShort most (debug_file_of (module_entry «module».now))) }
+/// for a build id. It is empty where no such record stands.
+pub fn debug_file(alloc: Global, module: &Module<'_>) -> Result<Text, NoMemory>
+    ensures { IfOk result (λ text. text ≡ debug_file_of (module_entry «module».now)) }
 {
     let bytes = module.code_view;
     if names_pdb(bytes) {
-        return pdb_name(alloc, bytes, most);
+        return Text::lossy(alloc, pdb_name(bytes));
     }
     if holds_build_id(bytes) {
-        return own_name(alloc, module, most);
+        return module.name(alloc);
     }
-    Ok(Some(Text::of(alloc, "")?))
+    Text::of(alloc, "")
+}
+
+/// How many bytes that name has at least, by what it would be decoded from.
+fn least_length(module: &Module<'_>) -> usize
+    ensures { result ≤ length (debug_file_of (module_entry «module».now)) }
+{
+    let bytes = module.code_view;
+    if names_pdb(bytes) {
+        return pdb_name(bytes).len();
+    }
+    if holds_build_id(bytes) {
+        return name_part(module.path).len() / 2;
+    }
+    0
+}
+
+/// The name of a module's debug file, or `None` where it has more than `most` bytes. Where already
+/// what it would be decoded from is so long, nothing is decoded.
+pub fn short_debug_file(
+    alloc: Global,
+    module: &Module<'_>,
+    most: usize,
+) -> Result<Option<Text>, NoMemory>
+    ensures { IfOk result (IfShort most (debug_file_of (module_entry «module».now))) }
+{
+    if least_length(module) > most {
+        return Ok(None);
+    }
+    Ok(Some(debug_file(alloc, module)?))
 }

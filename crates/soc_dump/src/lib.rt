@@ -28,7 +28,7 @@ pub use covering::{FirstCovering, Interval};
 pub use dump::Dump;
 pub use error::DumpError;
 pub use exception::Exception;
-pub use identity::{debug_file, debug_id};
+pub use identity::{debug_file, debug_id, short_debug_file};
 pub use modules::Module;
 pub use names::{architecture_name, crash_reason, platform_name};
 pub use registers::{amd64_registers, x86_registers};

@@ -1,7 +1,7 @@
 //! Minidumps made of numbers, and what is asked of them.
 use soc_dump::{
     Dump, Exception, FirstCovering, Interval, Module, Thread, amd64_registers, architecture_name,
-    crash_reason, debug_file, debug_id, platform_name, x86_registers,
+    crash_reason, debug_file, debug_id, platform_name, short_debug_file, x86_registers,
 };
 use soc_tables::{Fault, Row, copy, number_at, number_of, shown, word};
 use std::alloc::Global;
@@ -203,7 +203,7 @@ pub fn debug(alloc: Global, row: &Row<'_>) -> Result<String, Fault> {
 
 fn debug_text(alloc: Global, module: &Module<'_>, most: u64) -> Result<String, Fault> {
     let id = debug_id(alloc, module)?;
-    match debug_file(alloc, module, most as usize)? {
+    match short_debug_file(alloc, module, most as usize)? {
         Some(file) => Ok(format!(in alloc; "{:?} {:?}", id.as_str(), file.as_str())?),
         None => Ok(format!(in alloc; "{:?} longer", id.as_str())?),
     }
@@ -230,8 +230,6 @@ fn name_of_first(alloc: Global, dump: &Dump<'_>) -> Result<String, Fault> {
         return copy(alloc, "none");
     };
     let name = module.name(alloc)?;
-    match debug_file(alloc, module, usize::MAX)? {
-        Some(file) => Ok(format!(in alloc; "{} {}", name.as_str(), file.as_str())?),
-        None => copy(alloc, "longer"),
-    }
+    let file = debug_file(alloc, module)?;
+    Ok(format!(in alloc; "{} {}", name.as_str(), file.as_str())?)
 }

@@ -1,7 +1,6 @@
 //! The modules of a dump as JSON.
 ghost use Rattle.std.specs.Prelude.{◌≡◌, ◌++◌, map, take, IfOk, OnOk};
 ghost use Rattle.std.specs.Option.{option_copied};
-ghost use Rattle.soc_dump.specs.Identity.{debug_file_of};
 ghost use Rattle.soc_dump.specs.Views.{module_entry};
 ghost use Rattle.soc_schema.specs.Commas.{joined};
 ghost use Rattle.soc_walk.specs.Process.{NoneLonger};
@@ -10,7 +9,7 @@ ghost use Rattle.soc_report.specs.StackText as spec;
 
 use crate::json::{number_member, place_member, put, text_member};
 use crate::kit::Kit;
-use soc_base::{NoMemory, Text};
+use soc_base::NoMemory;
 use soc_dump::{Dump, Module, debug_file, debug_id};
 use soc_schema::put_comma;
 use soc_walk::{Symbols, symbols_for};
@@ -24,16 +23,6 @@ fn shown(name: &str) -> Option<&str>
     ensures { option_copied result ≡ spec.shown name.now }
 {
     if name.is_empty() { None } else { Some(name) }
-}
-
-/// The name of a module's debug file, whatever its length.
-fn debug_file_of(alloc: Global, module: &Module<'_>) -> Result<Text, NoMemory>
-    ensures { IfOk result (λ name. name ≡ debug_file_of (module_entry «module».now)) }
-{
-    match debug_file(alloc, module, usize::MAX)? {
-        Some(name) => Ok(name),
-        None => Err(NoMemory),
-    }
 }
 
 fn flag_text(flag: bool) -> &'static str
@@ -78,7 +67,7 @@ fn put_module(
         ++ spec.module_json (kit_of kit.now) (module_entry «module».now)) }
 {
     let name = module.name(alloc)?;
-    let file = debug_file_of(alloc, module)?;
+    let file = debug_file(alloc, module)?;
     let id = debug_id(alloc, module)?;
     let has_symbols = symbols_for(alloc, module, kit, longest)?.is_some();
     put_named(

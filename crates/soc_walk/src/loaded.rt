@@ -7,7 +7,7 @@ ghost use Rattle.soc_walk.specs.Views.{loaded_entry};
 
 use crate::symbols::Symbols;
 use soc_base::NoMemory;
-use soc_dump::{Module, debug_file, debug_id};
+use soc_dump::{Module, debug_id, short_debug_file};
 use soc_symfile::SymFile;
 use std::alloc::Global;
 
@@ -30,7 +30,7 @@ pub fn symbols_for<'a, Y: Symbols>(
     ensures { IfOk result (λ found. option_copied found
         ≡ symbols_for (Y.symbols symbols.now) (module_entry entry.now)) }
 {
-    let Some(file) = debug_file(alloc, entry, longest)? else {
+    let Some(file) = short_debug_file(alloc, entry, longest)? else {
         return Ok(None);
     };
     if file.as_str().is_empty() {
