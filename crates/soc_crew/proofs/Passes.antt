@@ -1,7 +1,7 @@
 -- What passes put and take, one call after another.
-use Rattle.std.proofs.Common.{◌≡◌, ◌⊎◌, inl, inr, ℕ, ◌+◌, ◌-◌, ◌<◌, ◌≤◌, ◌^◌, List, [], ◌∷◌, ◌++◌, length, drop, map, take, Option, None, Some, IfSome, IsSomeAnd, All, refl, sym, ◌∙◌, ap, subst, ⊎_elim, arith, append_assoc, length-append}
+use Rattle.std.proofs.Common.{◌≡◌, inl, inr, ℕ, ◌+◌, ◌-◌, ◌<◌, ◌≤◌, List, [], ◌∷◌, ◌++◌, length, drop, map, take, Option, None, Some, IfSome, IsSomeAnd, All, refl, sym, ◌∙◌, ap, subst, ⊎_elim, arith, append_assoc}
 use Rattle.std.specs.Prelude.{IfNone, min}
-use Rattle.std.specs.List.{AllByRecursion, slice_get}
+use Rattle.std.specs.List.{slice_get}
 use mathlib.Core.List.{append-nil}
 use Rattle.std.proofs.Math.Nat.{min_comm, min-eq_left}
 use Rattle.std.proofs.lemmas.Bool.{cases_lt}
@@ -22,7 +22,7 @@ use Rattle.soc_collect.specs.Asked.{AsksAll, Step}
 use Rattle.soc_service.specs.Desks.{PutsJob}
 use Rattle.soc_service.specs.Works.{PutsCrashes, crash_jobs}
 use Rattle.soc_crew.proofs.Lists.{at_some}
-use Rattle.soc_crew.specs.Jobs.{OnlyPuts, TakesToEnd, PutsDue, PutsEnds, Shares, Starts, ends_in, left_after}
+use Rattle.soc_crew.specs.Jobs.{EndsBy, OnlyPuts, PutsDue, PutsEnds, Shares, Starts, TakesToEnd, left_after}
 
 -- ---- the jobs of crashes that are due
 
@@ -89,67 +89,27 @@ wait_all due waiting from n most none few are =
 
 -- ---- the ends
 
-ends_both : (jobs more : List Job) → ends_in (jobs ++ more) ≡ ends_in jobs + ends_in more
-ends_both [] more = omega arith
-ends_both (J.End ∷ jobs) more = let both = ends_both jobs more in omega arith
-ends_both (J.Crash id ∷ jobs) more = ends_both jobs more
-
-all_both : (P : Job → Type 0) (jobs more : List Job) → AllByRecursion P jobs → AllByRecursion P more → AllByRecursion P (jobs ++ more)
-all_both P [] more all rest = rest
-all_both P (job ∷ jobs) more all rest = (all.0, all_both P jobs more all.1 rest)
-
 pub ends_none : (ends : ℕ) (v : Seen) → PutsEnds ends ends v v
-ends_none ends v = record { put = []; out = []; puts = sym (append-nil v.puts); only = tt; takes = sym (append-nil v.takes); enough = λ few. omega arith }
+ends_none ends v = ([], (refl, refl))
 
 -- an `End` was put
 pub end_put : (left left' : ℕ) (v w : Seen) → left' + 1 ≡ left → Puts v J.End w → PutsEnds left left' v w
-end_put left left' v w one puts = record {
-  put = J.End ∷ [];
-  out = [];
-  puts = ap (λ s. s.puts) puts.is_now;
-  only = (refl, tt);
-  takes = ap (λ s. s.takes) puts.is_now ∙ sym (append-nil v.takes);
-  enough = λ few. omega arith;
-}
+end_put left left' v w one puts = (None ∷ [], (omega arith, w, puts, (omega arith, refl)))
 
 -- where the ring was full, a job was taken out, if there was one then
-pub taken_out : (left left' : ℕ) (v : Seen) (p q : Pass) (taken : Option Job) → seen_of p ≡ v → IfSome taken (λ job. Takes (seen_of p) job (seen_of q) × (empties_of q ≡ empties_of p))
+pub taken_out : (left left' : ℕ) (v : Seen) (p q : Pass) (taken : Option Job) → seen_of p ≡ v → WasHolding PLACES v → IfSome taken (λ job. Takes (seen_of p) job (seen_of q) × (empties_of q ≡ empties_of p))
     → IfNone taken ((seen_of q ≡ seen_of p) × WasHolding 0 (seen_of p) × (empties_of q ≡ once_more (empties_of p))) → left' ≡ left_after left taken → PutsEnds left left' v (seen_of q)
-taken_out left left' v p q (Some J.End) same takes none is = subst (λ s. PutsEnds left left' s (seen_of q)) same record {
-  put = [];
-  out = J.End ∷ [];
-  puts = ap (λ s. s.puts) takes.0.is_now ∙ sym (append-nil (seen_of p).puts);
-  only = tt;
-  takes = ap (λ s. s.takes) takes.0.is_now;
-  enough = λ few. let within : left + 1 ≤ 2 ^ 64 - 1 = omega (arith, few) in let more : left' ≡ left + 1 = is ∙ min-eq_left within in omega (arith, more);
-}
-taken_out left left' v p q (Some (J.Crash id)) same takes none is = subst (λ s. PutsEnds left left' s (seen_of q)) same record {
-  put = [];
-  out = J.Crash id ∷ [];
-  puts = ap (λ s. s.puts) takes.0.is_now ∙ sym (append-nil (seen_of p).puts);
-  only = tt;
-  takes = ap (λ s. s.takes) takes.0.is_now;
-  enough = λ few. omega (arith, is);
-}
-taken_out left left' v p q None same takes none is =
-    subst (λ s. PutsEnds left left' v s) (sym (none.0 ∙ same)) (subst (λ n. PutsEnds left n v v) (sym is) (ends_none left v))
+taken_out left left' v p q (Some job) same full takes none is = (Some job ∷ [], (full, seen_of q, subst (λ s. Takes s job (seen_of q)) same takes.0, (is, refl)))
+taken_out left left' v p q None same full takes none is = ([], (is, none.0 ∙ same))
+
+steps_more : (steps more : List (Option Job)) (ends left left' : ℕ) (v u w : Seen) → EndsBy steps ends left v u → EndsBy more left left' u w → EndsBy (steps ++ more) ends left' v w
+steps_more [] more ends left left' v u w first next = subst (λ n. EndsBy more n left' v w) first.0 (subst (λ s. EndsBy more left left' s w) first.1 next)
+steps_more (None ∷ steps) more ends left left' v u w (some, t, puts, rest) next = (some, t, puts, steps_more steps more (ends - 1) left left' t u w rest next)
+steps_more (Some job ∷ steps) more ends left left' v u w (full, t, takes, rest) next =
+    (full, t, takes, steps_more steps more (left_after ends (Some job)) left left' t u w rest next)
 
 pub ends_more : (ends left left' : ℕ) (v u w : Seen) → PutsEnds ends left v u → PutsEnds left left' u w → PutsEnds ends left' v w
-ends_more ends left left' v u w first next = record {
-  put = first.put ++ next.put;
-  out = first.out ++ next.out;
-  puts = next.puts ∙ (ap (λ l. l ++ next.put) first.puts ∙ append_assoc v.puts first.put next.put);
-  only = all_both (λ job. job ≡ J.End) first.put next.put first.only next.only;
-  takes = next.takes ∙ (ap (λ l. l ++ next.out) first.takes ∙ append_assoc v.takes first.out next.out);
-  enough = λ few.
-      let both = ends_both first.out next.out in
-      let long = length-append first.put next.put in
-      let few_first : ends + ends_in first.out < 2 ^ 64 = omega arith in
-      let a = first.enough few_first in
-      let few_next : left + ends_in next.out < 2 ^ 64 = omega arith in
-      let b = next.enough few_next in
-      omega arith;
-}
+ends_more ends left left' v u w first next = (first.0 ++ next.0, steps_more first.0 next.0 ends left left' v u w first.1 next.1)
 
 -- ---- collectors
 

@@ -1,16 +1,15 @@
 -- What seats know once their threads have ended, and what they tell of the closed hall's log.
-use Rattle.std.proofs.Common.{◌≡◌, inl, ℕ, suc, ◌+◌, ◌<◌, Bool, true, false, List, [], ◌∷◌, ◌++◌, length, map, Some, All, sum_by, refl, sym, ◌∙◌, ap, subst, arith}
+use Rattle.std.proofs.Common.{◌≡◌, inl, ℕ, suc, ◌+◌, ◌<◌, Bool, true, false, List, [], ◌∷◌, ◌++◌, length, map, sum_by, refl, sym, ◌∙◌, ap, subst, arith}
 use Rattle.std.specs.Prelude.{if◌then◌else◌}
 use mathlib.Core.List.{append-nil}
 use mathlib.Core.Option.{some-ne-none}
-use Rattle.std.proofs.Math.Logic.{∥∥₁_map₂}
 use Rattle.std.proofs.lemmas.List.Elements.{All-head, All-push}
 use Rattle.std.proofs.lemmas.List.Sums.{sum_by-append, sum_by-cons}
 use Rattle.soc_base.proofs.Folk.{some-injective}
 use Rattle.soc_hall.specs.Asked.{Closes, HasPart}
 use Rattle.soc_hall.specs.Log.{changes, pieces}
 use Rattle.soc_hall.specs.Seats.{IsNew, known_of}
-use Rattle.soc_hall.proofs.Totals.{closed_total, first_opening}
+use Rattle.soc_hall.proofs.Totals.{closed_total}
 use Rattle.soc_desk.specs.declared.desk.Receipt.{Receipt}
 use Rattle.soc_service.specs.declared.change.Change.{Change}
 use Rattle.soc_service.specs.Changes.{counts, events_in, kept_in}

@@ -1,11 +1,10 @@
 -- What the threads of a crew do with its ring of jobs.
-use Rattle.std.specs.Prelude.{◌⊎◌, ◌≡◌, ℕ, zero, suc, ◌+◌, ◌-◌, ◌<◌, ◌^◌, min, Option, Some, List, [], ◌∷◌, ◌++◌, length, take, All}
-use Rattle.std.specs.List.{AllByRecursion}
+use Rattle.std.specs.Prelude.{◌⊎◌, ◌≡◌, ℕ, ◌+◌, ◌-◌, ◌<◌, ◌^◌, min, Option, None, Some, List, [], ◌∷◌, ◌++◌, length, take, All}
 use Rattle.soc_pool.specs.declared.jobs.Job.{Job}
 use Rattle.soc_pool.specs.declared.jobs.Job.TheVariants as J
 use Rattle.soc_pool.specs.declared.jobs.TheConstants.{PLACES}
 use Rattle.soc_pool.specs.declared.rule.Seen.{Seen}
-use Rattle.soc_pool.specs.Ring.{WasHolding}
+use Rattle.soc_pool.specs.Ring.{Puts, Takes, WasHolding}
 use Rattle.soc_service.specs.Works.{crash_jobs}
 
 -- The jobs of the first crashes that are due were put, in order: so many as a ring has places, or until it was full.
@@ -14,24 +13,20 @@ pub record PutsDue (due : List (List ℕ)) (count : ℕ) (v w : Seen) : Type 0 w
   pub takes : w.takes ≡ v.takes
   pub all : (count ≡ min (length due) PLACES) ⊎ WasHolding PLACES w
 
-abbrev pub ends_in : List Job → ℕ
-ends_in [] = zero
-ends_in (J.End ∷ jobs) = suc (ends_in jobs)
-ends_in (J.Crash id ∷ jobs) = ends_in jobs
-
--- So many `End`s, and one more for each that was taken out, were put, but for those that are left.
-pub record PutsEnds (ends left : ℕ) (v w : Seen) : Type 0 where
-  pub put : List Job
-  pub out : List Job
-  pub puts : w.puts ≡ v.puts ++ put
-  pub only : AllByRecursion (λ job. job ≡ J.End) put
-  pub takes : w.takes ≡ v.takes ++ out
-  pub enough : ends + ends_in out < 2 ^ 64 → length put + left ≡ ends + ends_in out
-
--- how many are left to put where this job was taken out of a full ring
+-- how many `End`s are left to put where this job was taken out of a full ring
 abbrev pub left_after : ℕ → Option Job → ℕ
 left_after left (Some J.End) = min (left + 1) (2 ^ 64 - 1)
 left_after left _ = left
+
+-- By these steps so many `End`s come to so many that are left to put: each puts one, or takes a job out of a ring that was full.
+abbrev pub EndsBy : List (Option Job) → ℕ → ℕ → Seen → Seen → Type 0
+EndsBy [] ends left v w = (left ≡ ends) × (w ≡ v)
+EndsBy (None ∷ steps) ends left v w = (0 < ends) × (u : Seen) × Puts v J.End u × EndsBy steps (ends - 1) left u w
+EndsBy (Some job ∷ steps) ends left v w =
+    WasHolding PLACES v × (u : Seen) × Takes v job u × EndsBy steps (left_after ends (Some job)) left u w
+
+abbrev pub PutsEnds : ℕ → ℕ → Seen → Seen → Type 0
+PutsEnds ends left v w = (steps : List (Option Job)) × EndsBy steps ends left v w
 
 -- who starts a crew puts jobs of crashes that are due, and at the end an `End` for each processor
 abbrev pub Starts : List (List ℕ) → ℕ → Seen → Type 0

@@ -1,5 +1,5 @@
 use denote.Param.Send.{sendable}
-use Rattle.std.proofs.Common.{◌≡◌, ◌⊎◌, ◌+◌, ◌<◌, ◌^◌, true, [], ◌∷◌, ◌++◌, length, Some, IfSome, IsSomeAnd, sym, ◌∙◌, ap, subst, arith, length-append}
+use Rattle.std.proofs.Common.{◌≡◌, ◌⊎◌, ◌<◌, ◌^◌, true, [], ◌∷◌, ◌++◌, length, Some, IfSome, IsSomeAnd, sym, ◌∙◌, ap, subst, arith, length-append}
 use Rattle.std.specs.Prelude.{vec_len}
 use Rattle.std.proofs.Crossing.{crosses}
 use Rattle.std.proofs.lemmas.List.Elements.{All-append, All-push, All-same, All-weaker}

@@ -1,8 +1,6 @@
-use Rattle.std.proofs.Common.{◌≡◌, ◌<◌, length, sym, ◌∙◌, ap, subst, arith, rules}
-use Rattle.std.specs.Prelude.{vec_len}
+use Rattle.std.proofs.Common.{◌<◌, length, ◌∙◌, ap, subst, arith, rules}
 use Rattle.std.proofs.Math.Logic.{∥∥₁_map}
 use Rattle.soc_hall.specs.Seats.{seats_in}
-use Rattle.soc_pool.specs.Passes.{IsPassOf}
 use Rattle.soc_pool.proofs.Rolls.{all_stay, roll_stays}
 use Rattle.soc_crew.specs.Gains.{Ends}
 use Rattle.soc_crew.proofs.Passes.{started_with}
@@ -23,6 +21,11 @@ pub returns-in_default-with_capacity-2-clause-ends : goal.returns-in_default-wit
 returns-in_default-with_capacity-2-clause-ends g c =
     ∣ stays_as (c.unserved-in_default-with_capacity-2.ensures.0)
     g.T.Logged.log_of g.T.Logged.basis_of _ (ap (λ t. t.kept) c.unserved-in_default-with_capacity-2.ensures.3) ∣₁
+
+pub returns-in_default-put_due-clause-ends : goal.returns-in_default-put_due-clause-ends
+returns-in_default-put_due-clause-ends g c =
+    ∣ stays_as (c.unserved-in_default-put_due.ensures.0)
+    g.T.Logged.log_of g.T.Logged.basis_of _ (ap (λ t. t.kept) c.unserved-in_default-put_due.ensures.3) ∣₁
 
 pub returns-in-Err-clause-ends : goal.returns-in-Err-clause-ends
 returns-in-Err-clause-ends g c =
@@ -101,5 +104,5 @@ returns-clause-ends g c =
 
 pub returns-clause-jobs : goal.returns-clause-jobs
 returns-clause-jobs g c =
-    started_with _ c.in-Ok.stock.own _ _ _ _ _ _ c.in-Ok.ensures.own.1 c.put_due-own.ensures.due c.in-Ok.ensures.buffers
+    started_with _ c.in-Ok.stock.own _ _ _ _ _ _ c.in-Ok.ensures.own.1 c.in-Ok-put_due.ensures.due c.in-Ok.ensures.buffers
     c.close-jobs.ensures c.serve_in-served.ensures.jobs

@@ -1,5 +1,9 @@
-use Rattle.std.proofs.Common.{refl, sym}
-use Rattle.soc_crew.proofs.Passes.{put_full, put_more, put_none}
+use Rattle.std.proofs.Common.{◌≡◌, refl, sym, subst, arith}
+use Rattle.soc_ledger.specs.Due.{due_ids}
+use Rattle.soc_pool.specs.Passes.{seen_of}
+use Rattle.soc_service.specs.Changes.{events_in}
+use Rattle.soc_crew.proofs.Passes.{put_full, put_more, put_most, put_none}
+use Rattle.soc_crew.specs.Jobs.{PutsDue}
 use Rattle.soc_crew.proofs.jobs.put_first.Goals as goal
 
 pub loop-place-init : goal.loop-place-init
@@ -13,3 +17,11 @@ loop-place-preserved g c = record {
 
 pub returns-in-Err-clause-due : goal.returns-in-Err-clause-due
 returns-in-Err-clause-due g c = put_full _ _ _ _ _ c.in-Err.ensures.full.1 c.in-Err.ensures.full.2 c.loop-place.invariant.has
+
+pub returns-clause-due : goal.returns-clause-due
+returns-clause-due g c =
+    let due = due_ids (events_in (g.T.Logged.log_of c.args.desk.now)) in
+    let past = c.loop-place-test.false in
+    let end = c.loop-place.auto.place-end in
+    let all : c.loop-place.place ≡ 1_024 = omega arith in
+    subst (λ n. PutsDue due n (seen_of c.args.pass) (seen_of c.loop-place.pass)) all (put_most due c.loop-place.place _ _ all c.loop-place.invariant.has)

@@ -1,5 +1,5 @@
 use Rattle.std.proofs.Common.{◌≡◌, ◌⊎◌, inl, inr, ℕ, ◌+◌, ◌^◌, ◌<◌, Bool, true, ◌||◌, IsSomeAnd, sym, ◌∙◌, ap, subst, arith}
-use Rattle.std.proofs.Math.Logic.{∥∥₁_map, ∥∥₁_map₂}
+use Rattle.std.proofs.Math.Logic.{∥∥₁_map₂}
 use Rattle.soc_base.proofs.Folk.{or_second}
 use Rattle.soc_hall.specs.Seats.{IsNew, IsSeatOf, known_of, seats_in}
 use Rattle.soc_pool.specs.Passes.{IsPassOf, seen_of}

@@ -1,5 +1,4 @@
 use Rattle.std.proofs.Common.{◌≡◌, IsSomeAnd, sym, ◌∙◌, subst, arith}
-use Rattle.std.proofs.Math.Logic.{∥∥₁_map, ∥∥₁_map₂}
 use Rattle.soc_hall.specs.Seats.{IsNew, IsSeatOf, known_of}
 use Rattle.soc_pool.specs.Passes.{IsNew as IsNewPass, IsPassOf}
 use Rattle.soc_collect.specs.Tallies.{nothing_served}
