@@ -71,7 +71,7 @@ module _ {D R : Type 0} {d : disk.Ghosts D} {r : reporter.Ghosts R} (basis : Bas
 
 module _ {D R : Type 0} {d : disk.Ghosts D} {r : reporter.Ghosts R} (told : Bool) where
   -- what threads see of a book's log
-  abbrev log_by : Book D R d r → List Turned
+  abbrev pub log_by : Book D R d r → List Turned
   log_by book = changes_at told (disk_of book).content (log_in book)
 
   -- turns have led from the one book to the other

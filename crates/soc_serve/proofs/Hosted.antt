@@ -2,9 +2,11 @@
 use Rattle.std.proofs.Common.{◌≡◌, ◌⊎◌, ℕ, Option, None, Some, Result, Ok, refl, sym, subst, inl, inr, arith}
 use Rattle.std.specs.Prelude.{IfOk}
 use Rattle.soc_report.specs.Texts.{KitTexts}
+use Rattle.soc_pool.specs.declared.pass.RingEnd.{RingEnd}
 use Rattle.soc_words.specs.declared.words.Task.{Task}
 use Rattle.soc_words.specs.declared.words.Task.TheVariants as T
 use Rattle.soc_words.specs.declared.words.Words.{Words}
+use Rattle.soc_crew.specs.declared.crew.Crew.{Crew}
 use Rattle.soc_replay.specs.declared.ending.RunEnd.{RunEnd}
 use Rattle.soc_replay.specs.declared.ending.RunEnd.TheVariants as R
 use Rattle.soc_replay.specs.declared.setup.Setup.{Setup}
@@ -27,30 +29,30 @@ use Rattle.soc_serve.specs.inner.Hosting.{HostsFiles}
 use Rattle.soc_serve.specs.inner.Serving.{ServesDesk}
 
 -- a kit is seen as its texts
-pub serves_with : (kit texts : KitTexts) (setup : Setup) (kept : ℕ) (before after : Surroundings) (end : HostEnd) → kit ≡ texts
-    → ServesDesk (service (rows_of kit) (digest_of kit) (stacks_by kit) setup) kept before after end
-    → ServesDesk (service (rows_of texts) (digest_of texts) (stacks_by texts) setup) kept before after end
-serves_with kit texts setup kept before after end same serves =
-    subst (λ k. ServesDesk (service (rows_of k) (digest_of k) (stacks_by k) setup) kept before after end) same serves
+pub serves_with : (kit texts : KitTexts) (setup : Setup) (crew : Crew) (kept : ℕ) (ring : Option RingEnd) (before after : Surroundings) (end : HostEnd) → kit ≡ texts
+    → ServesDesk (service (rows_of kit) (digest_of kit) (stacks_by kit) setup) crew kept ring before after end
+    → ServesDesk (service (rows_of texts) (digest_of texts) (stacks_by texts) setup) crew kept ring before after end
+serves_with kit texts setup crew kept ring before after end same serves =
+    subst (λ k. ServesDesk (service (rows_of k) (digest_of k) (stacks_by k) setup) crew kept ring before after end) same serves
 
-early_of : (kept : ℕ) (before after : Outside) (end : RunEnd) → HostsFiles kept before after (H.Before end) → EndsEarly before after end
-early_of kept before after R.JournalRefused files = record { said = files.said; says = files.says; runs = files.serves.not }
-early_of kept before after R.OpenFault files = (record { said = files.said; says = files.says; runs = files.serves.not }, files.serves.cause refl)
-early_of kept before after R.LineFault files = inr (record { said = files.said; says = files.says; runs = files.serves.not })
-early_of kept before after R.NoMemory files = files.serves.not
-early_of kept before after (R.Served _ _) files = absurd files.serves.not
-early_of kept before after R.TextRefused files = absurd files.serves.not
-early_of kept before after R.TreeFault files = absurd files.serves.not
-early_of kept before after R.MakerFault files = absurd files.serves.not
-early_of kept before after R.Written files = absurd files.serves.not
-early_of kept before after R.Usage files = absurd files.serves.not
+early_of : (crew : Crew) (kept : ℕ) (ring : Option RingEnd) (before after : Outside) (end : RunEnd) → HostsFiles crew kept ring before after (H.Before end) → EndsEarly before after end
+early_of crew kept ring before after R.JournalRefused files = record { said = files.said; says = files.says; runs = files.serves.0.not }
+early_of crew kept ring before after R.OpenFault files = (record { said = files.said; says = files.says; runs = files.serves.0.not }, files.serves.0.cause refl)
+early_of crew kept ring before after R.LineFault files = inr (record { said = files.said; says = files.says; runs = files.serves.0.not })
+early_of crew kept ring before after R.NoMemory files = files.serves.0.not
+early_of crew kept ring before after (R.Served _ _) files = absurd files.serves.0.not
+early_of crew kept ring before after R.TextRefused files = absurd files.serves.0.not
+early_of crew kept ring before after R.TreeFault files = absurd files.serves.0.not
+early_of crew kept ring before after R.MakerFault files = absurd files.serves.0.not
+early_of crew kept ring before after R.Written files = absurd files.serves.0.not
+early_of crew kept ring before after R.Usage files = absurd files.serves.0.not
 
-pub hosts_of : (kept : ℕ) (before after : Outside) (end : HostEnd) → HostsFiles kept before after end → Hosts kept before after end
-hosts_of kept before after (H.Before end) files = early_of kept before after end files
-hosts_of kept before after (H.Swept fault) files = record { said = files.said; says = files.says; hosts = files.serves }
-hosts_of kept before after (H.Lines fault) files = record { said = files.said; says = files.says; hosts = files.serves }
-hosts_of kept before after H.Failed files = record { said = files.said; says = files.says; hosts = files.serves }
-hosts_of kept before after H.Done files = record { said = files.said; says = files.says; hosts = files.serves }
+pub hosts_of : (crew : Crew) (kept : ℕ) (ring : Option RingEnd) (before after : Outside) (end : HostEnd) → HostsFiles crew kept ring before after end → Hosts crew kept ring before after end
+hosts_of crew kept ring before after (H.Before end) files = (early_of crew kept ring before after end files, files.serves.1)
+hosts_of crew kept ring before after (H.Swept fault) files = record { said = files.said; says = files.says; hosts = files.serves }
+hosts_of crew kept ring before after (H.Lines fault) files = record { said = files.said; says = files.says; hosts = files.serves }
+hosts_of crew kept ring before after H.Failed files = record { said = files.said; says = files.says; hosts = files.serves }
+hosts_of crew kept ring before after H.Done files = record { said = files.said; says = files.says; hosts = files.serves }
 
 -- neither the tree nor the maker of patterns is blamed once the files are read
 BlamesNeither : ℕ → Type 0
@@ -69,16 +71,16 @@ early_blames before after R.TextRefused never = absurd never
 early_blames before after R.TreeFault never = absurd never
 early_blames before after R.MakerFault never = absurd never
 
-pub blames_neither : (by : Service) (kept : ℕ) (before after : Surroundings) (end : HostEnd) → ServesDesk by kept before after end
+pub blames_neither : (by : Service) (crew : Crew) (kept : ℕ) (ring : Option RingEnd) (before after : Surroundings) (end : HostEnd) → ServesDesk by crew kept ring before after end
     → (status_of end ≡ 8 → ⊥) × (status_of end ≡ 11 → ⊥)
 unfolding BlamesNeither
-blames_neither by kept before after (H.Before end) serves = early_blames before after end serves.not
-blames_neither by kept before after (H.Swept S.Disk) serves = ((λ is. omega (arith, is)), (λ is. omega (arith, is)))
-blames_neither by kept before after (H.Swept S.NoMemory) serves = ((λ is. omega (arith, is)), (λ is. omega (arith, is)))
-blames_neither by kept before after (H.Lines L.Cut) serves = ((λ is. omega (arith, is)), (λ is. omega (arith, is)))
-blames_neither by kept before after (H.Lines L.NoMemory) serves = ((λ is. omega (arith, is)), (λ is. omega (arith, is)))
-blames_neither by kept before after H.Failed serves = ((λ is. omega (arith, is)), (λ is. omega (arith, is)))
-blames_neither by kept before after H.Done serves = ((λ is. omega (arith, is)), (λ is. omega (arith, is)))
+blames_neither by crew kept ring before after (H.Before end) serves = early_blames before after end serves.0.not
+blames_neither by crew kept ring before after (H.Swept S.Disk) serves = ((λ is. omega (arith, is)), (λ is. omega (arith, is)))
+blames_neither by crew kept ring before after (H.Swept S.NoMemory) serves = ((λ is. omega (arith, is)), (λ is. omega (arith, is)))
+blames_neither by crew kept ring before after (H.Lines L.Cut) serves = ((λ is. omega (arith, is)), (λ is. omega (arith, is)))
+blames_neither by crew kept ring before after (H.Lines L.NoMemory) serves = ((λ is. omega (arith, is)), (λ is. omega (arith, is)))
+blames_neither by crew kept ring before after H.Failed serves = ((λ is. omega (arith, is)), (λ is. omega (arith, is)))
+blames_neither by crew kept ring before after H.Done serves = ((λ is. omega (arith, is)), (λ is. omega (arith, is)))
 
 -- the usage line was written, or a front of it
 usage_told : (before after : Outside) (end : RunEnd) → LeavesTexts before after → StaysQuiet before.around after.around → TellsUsage before.around.streams after.around.streams end
@@ -94,33 +96,34 @@ usage_told before after R.TreeFault texts quiet never = absurd never
 usage_told before after R.MakerFault texts quiet never = absurd never
 usage_told before after R.OpenFault texts quiet never = absurd never
 
-pub no_words : (said : Option Words) (kept : ℕ) (before after : Outside) (end : RunEnd) → said ≡ None → LeavesTexts before after → StaysQuiet before.around after.around
-    → TellsUsage before.around.streams after.around.streams end → HostsWords said kept before after (H.Before end)
-no_words said kept before after end is texts quiet tells =
-    inl (subst (λ (s : Option Words). HostsSaid s kept before after (H.Before end)) (sym is) (usage_told before after end texts quiet tells))
+pub no_words : (said : Option Words) (kept : ℕ) (ring : Option RingEnd) (before after : Outside) (end : RunEnd) → said ≡ None → LeavesTexts before after → StaysQuiet before.around after.around
+    → TellsUsage before.around.streams after.around.streams end → HostsWords said kept ring before after (H.Before end)
+no_words said kept ring before after end is texts quiet tells =
+    inl (subst (λ (s : Option Words). HostsSaid s kept ring before after (H.Before end)) (sym is) (usage_told before after end texts quiet tells))
 
-other_task : (words : Words) (task : Task) (kept : ℕ) (before after : Outside) (end : HostEnd) → (task ≡ T.Check) ⊎ ((task ≡ T.Make) ⊎ (task ≡ T.Replay)) → TellsOnly before after end
-    → HostsTask words task kept before after end
-other_task words task kept before after end (inl is) tells = subst (λ (t : Task). HostsTask words t kept before after end) (sym is) tells
-other_task words task kept before after end (inr (inl is)) tells = subst (λ (t : Task). HostsTask words t kept before after end) (sym is) tells
-other_task words task kept before after end (inr (inr is)) tells = subst (λ (t : Task). HostsTask words t kept before after end) (sym is) tells
+other_task : (words : Words) (task : Task) (kept : ℕ) (ring : Option RingEnd) (before after : Outside) (end : HostEnd) → (task ≡ T.Check) ⊎ ((task ≡ T.Make) ⊎ (task ≡ T.Replay)) → TellsOnly before after end
+    → HostsTask words task kept ring before after end
+other_task words task kept ring before after end (inl is) tells = subst (λ (t : Task). HostsTask words t kept ring before after end) (sym is) tells
+other_task words task kept ring before after end (inr (inl is)) tells = subst (λ (t : Task). HostsTask words t kept ring before after end) (sym is) tells
+other_task words task kept ring before after end (inr (inr is)) tells = subst (λ (t : Task). HostsTask words t kept ring before after end) (sym is) tells
 
-pub other_words : (said : Option Words) (words : Words) (kept : ℕ) (before after : Outside) (end : RunEnd) → said ≡ Some words
+pub other_words : (said : Option Words) (words : Words) (kept : ℕ) (ring : Option RingEnd) (before after : Outside) (end : RunEnd) → said ≡ Some words
     → (words.command ≡ T.Check) ⊎ ((words.command ≡ T.Make) ⊎ (words.command ≡ T.Replay)) → LeavesTexts before after → StaysQuiet before.around after.around
-    → TellsUsage before.around.streams after.around.streams end → HostsWords said kept before after (H.Before end)
-other_words said words kept before after end is other texts quiet tells =
-    inl (subst (λ (s : Option Words). HostsSaid s kept before after (H.Before end)) (sym is)
-    (other_task words words.command kept before after (H.Before end) other (usage_told before after end texts quiet tells)))
+    → TellsUsage before.around.streams after.around.streams end → HostsWords said kept ring before after (H.Before end)
+other_words said words kept ring before after end is other texts quiet tells =
+    inl (subst (λ (s : Option Words). HostsSaid s kept ring before after (H.Before end)) (sym is)
+    (other_task words words.command kept ring before after (H.Before end) other (usage_told before after end texts quiet tells)))
 
-pub hosts_words : (said : Option Words) (words : Words) (kept : ℕ) (before after : Outside) (end : HostEnd) → said ≡ Some words → words.command ≡ T.Serve → Hosts kept before after end
-    → HostsWords said kept before after end
-hosts_words said words kept before after end is serve hosts =
-    inl (subst (λ (s : Option Words). HostsSaid s kept before after end) (sym is) (subst (λ (task : Task). HostsTask words task kept before after end) (sym serve) hosts))
+pub hosts_words : (said : Option Words) (words : Words) (kept : ℕ) (ring : Option RingEnd) (before after : Outside) (end : HostEnd) → said ≡ Some words → words.command ≡ T.Serve
+    → Hosts (record { collectors = words.collectors; processors = words.processors }) kept ring before after end
+    → HostsWords said kept ring before after end
+hosts_words said words kept ring before after end is serve hosts =
+    inl (subst (λ (s : Option Words). HostsSaid s kept ring before after end) (sym is) (subst (λ (task : Task). HostsTask words task kept ring before after end) (sym serve) hosts))
 
-pub storms_words : (said : Option Words) (words : Words) (kept : ℕ) (before after : Outside) (end : HostEnd) → said ≡ Some words → words.command ≡ T.Storm → Storms words.count before after end
-    → HostsWords said kept before after end
-storms_words said words kept before after end is storm storms =
-    inl (subst (λ (s : Option Words). HostsSaid s kept before after end) (sym is) (subst (λ (task : Task). HostsTask words task kept before after end) (sym storm) storms))
+pub storms_words : (said : Option Words) (words : Words) (kept : ℕ) (ring : Option RingEnd) (before after : Outside) (end : HostEnd) → said ≡ Some words → words.command ≡ T.Storm → Storms words.count before after end
+    → HostsWords said kept ring before after end
+storms_words said words kept ring before after end is storm storms =
+    inl (subst (λ (s : Option Words). HostsSaid s kept ring before after end) (sym is) (subst (λ (task : Task). HostsTask words task kept ring before after end) (sym storm) storms))
 
 pub is_serve : (said : Option Words) (words : Words) → said ≡ Some words → words.command ≡ T.Serve → IsServe said
 is_serve said words is serve = subst IsServe (sym is) serve

@@ -11,6 +11,8 @@ use Rattle.soc_edge.specs.declared.disk.Disk as disk
 use Rattle.soc_edge.proofs.Disks.{GoesOn-append}
 use Rattle.soc_edge.specs.Told.{Told}
 use Rattle.soc_edge.specs.Ahead.{Outlook}
+use Rattle.soc_ledger.specs.Due.{due_ids}
+use Rattle.soc_pool.specs.declared.pass.RingEnd.{RingEnd}
 use Rattle.soc_vault.specs.Openings.{StandsSince}
 use Rattle.soc_hall.specs.Asked.{Closes as ClosesHall}
 use Rattle.soc_desk.specs.declared.desk.Command.{Command}
@@ -25,6 +27,7 @@ use Rattle.soc_book.specs.Books.{StandsFor, disk_of, limits_of, reporter_of}
 use Rattle.soc_book.specs.Openings.{IsBasisOf, OpensBook}
 use Rattle.soc_service.specs.declared.change.Change.{Change as Turned}
 use Rattle.soc_service.specs.Changes.{events_in, kept_in}
+use Rattle.soc_crew.specs.declared.crew.Crew.{Crew}
 use Rattle.soc_turns.specs.Logs.{change_of, changes_of}
 use Rattle.soc_turns.specs.Runs.{HasRun, RunsTurns}
 use Rattle.soc_turns.proofs.Logs.{events_are, log_is}
@@ -40,11 +43,12 @@ use Rattle.soc_edge.specs.World.{Surroundings, surroundings}
 use Rattle.soc_serve.specs.declared.ending.HostEnd.{HostEnd}
 use Rattle.soc_serve.specs.declared.ending.HostEnd.TheVariants as H
 use Rattle.soc_serve.specs.declared.sweep.SweepFault.TheVariants as S
-use Rattle.soc_serve.specs.Hosts.{Closes, HostsDesk, IsRight}
+use Rattle.soc_serve.specs.Ends.{status_of}
+use Rattle.soc_serve.specs.Hosts.{Closes, HostsDesk, IsRight, LeavesRing}
 use Rattle.soc_serve.specs.Sweep.{FailsSweep}
 use Rattle.soc_serve.specs.inner.Serving.{ClosesBook, ServesDesk, desk_at}
 use Rattle.soc_serve.specs.inner.Sweeping.{LeavesMore}
-use Rattle.soc_serve.proofs.Begun.{HasTurned, basis as basis_by, begun as begun_by, begun_at, is_basis as is_basis_by, opened as opened_by, run_of, seated_of}
+use Rattle.soc_serve.proofs.Begun.{HasTurned, basis as basis_by, begun as begun_by, begun_at, log_by, is_basis as is_basis_by, opened as opened_by, run_of, seated_of}
 use Rattle.soc_serve.proofs.Stops.{nothing_done}
 use Rattle.soc_serve.proofs.Sweeps.{still}
 
@@ -60,13 +64,13 @@ closes before after middle (H.Lines fault) basis served swept same ends = ends
 closes before after middle H.Failed basis served swept same ends = ends
 closes before after middle H.Done basis served swept same ends = ends
 
-as_served : (by : Service) (kept : ℕ) (before after : Surroundings) (end : HostEnd)
-    → ∥ HostsDesk by kept before after end ∥₁ → ServesDesk by kept before after end
-as_served by kept before after (H.Before end) hosts = absurd (∥∥₁_elim hosts (λ x y. absurd x) (λ (desk : HostsDesk by kept before after (H.Before end)). desk.closes))
-as_served by kept before after (H.Swept fault) hosts = hosts
-as_served by kept before after (H.Lines fault) hosts = hosts
-as_served by kept before after H.Failed hosts = hosts
-as_served by kept before after H.Done hosts = hosts
+as_served : (by : Service) (crew : Crew) (kept : ℕ) (ring : Option RingEnd) (before after : Surroundings) (end : HostEnd)
+    → ∥ HostsDesk by crew kept ring before after end ∥₁ → ServesDesk by crew kept ring before after end
+as_served by crew kept ring before after (H.Before end) hosts = absurd (∥∥₁_elim hosts (λ x y. absurd x) (λ (desk : HostsDesk by crew kept ring before after (H.Before end)). desk.closes))
+as_served by crew kept ring before after (H.Swept fault) hosts = hosts
+as_served by crew kept ring before after (H.Lines fault) hosts = hosts
+as_served by crew kept ring before after H.Failed hosts = hosts
+as_served by crew kept ring before after H.Done hosts = hosts
 
 -- ---- what was served
 
@@ -85,9 +89,10 @@ same_kept basis log added seen kept is count =
     ap (λ l. kept_in l) (sym (events_are basis added))
     ∙ (ap (λ l. kept_in (events_in l)) (append_cancel_left (changes_of basis log) (changes_of basis added) seen (sym (map-append (change_of basis) log added) ∙ is)) ∙ count)
 
-module _ {D R : Type 0} {d : disk.Ghosts D} {r : reporter.Ghosts R} (told : Bool) (by : R) (stack_of : Permissions → Crash → Option (List ℕ)) (setup : Setup) (kept : ℕ) (before after : Surroundings) (end : HostEnd)
+module _ {D R : Type 0} {d : disk.Ghosts D} {r : reporter.Ghosts R} (told : Bool) (by : R) (stack_of : Permissions → Crash → Option (List ℕ)) (setup : Setup) (crew : Crew) (kept : ℕ) (ring : Option RingEnd) (before after : Surroundings) (end : HostEnd)
     (steady : is_some before.disk.content ≡ told) (first second : Book D R d r) (reporter_is : reporter_of first ≡ by) (limits_are : limits_of first ≡ setup.limits)
     (to_opened : GoesOn before.disk (disk_of first))
+    (leaves_ring : LeavesRing (due_ids (events_in (log_by told first))) crew (status_of end) ring)
     (opens : (basis : Basis) → IsBasisOf (r.row_of by) (r.digest_of by) setup.limits before.disk.content basis → OpensBook basis before.disk (disk_of first) (StandsFor basis first))
     (ends : (basis : Basis) (state : State) → basis.row_of ≡ r.row_of (reporter_of second) → basis.digest ≡ r.digest_of (reporter_of second) → StandsFor basis second state
     → (swept : State) × (IsTrue basis.is_told → (image : List ℕ) → after.disk.images image → Allowed swept image)
@@ -153,7 +158,7 @@ module _ {D R : Type 0} {d : disk.Ghosts D} {r : reporter.Ghosts R} (told : Bool
       now = over.1 (told_so refl);
     }
 
-    desk_of : HostsDesk (service (r.row_of by) (r.digest_of by) stack_of setup) kept before after end
+    desk_of : HostsDesk (service (r.row_of by) (r.digest_of by) stack_of setup) crew kept ring before after end
     desk_of = record {
       opening = record {
         basis = basis;
@@ -176,6 +181,7 @@ module _ {D R : Type 0} {d : disk.Ghosts D} {r : reporter.Ghosts R} (told : Bool
       seats = turned.seats;
       seated = seated.0;
       seated_from = seated.1;
+      jobs = subst (λ l. LeavesRing (due_ids l) crew (status_of end) ring) (ap (λ l. events_in l) (log_is opened.now) ∙ events_are basis opened.log) leaves_ring;
       swept = over.0;
       closes = closes before after (disk_of second) end basis ran.last over.0 ran.over.faults_are over.2.ends;
       no_fewer = to_opened.faults_never_fall;
@@ -183,9 +189,9 @@ module _ {D R : Type 0} {d : disk.Ghosts D} {r : reporter.Ghosts R} (told : Bool
       survives = survives before.disk.content opened.stands (λ is. sym steady ∙ is);
     }
 
-  pub serves_desk : ∥ HasTurned told first second kept ∥₁ → ServesDesk (service (r.row_of by) (r.digest_of by) stack_of setup) kept before after end
+  pub serves_desk : ∥ HasTurned told first second kept ∥₁ → ServesDesk (service (r.row_of by) (r.digest_of by) stack_of setup) crew kept ring before after end
   serves_desk turned =
-      as_served (service (r.row_of by) (r.digest_of by) stack_of setup) kept before after end (∥∥₁_map turned (λ (t : HasTurned told first second kept). desk_of t))
+      as_served (service (r.row_of by) (r.digest_of by) stack_of setup) crew kept ring before after end (∥∥₁_map turned (λ (t : HasTurned told first second kept). desk_of t))
 
 -- nothing was swept
 pub unswept : (told : Told) (disk : DiskTold) (early late : Outlook) → IsDisk disk → (basis : Basis) (state : State)
@@ -198,11 +204,11 @@ unswept told disk early late is basis state allowed = record {
 
 -- the disk that was lent ends as this one
 pub served_on : {D : Type 0} (state : D → DiskTold) (final here : D) → final ≡ here
-    → (by : Service) (kept : ℕ) (before : Surroundings) (streams : Told) (ahead : Outlook) (end : HostEnd)
-    → ServesDesk by kept before (surroundings streams (state here) ahead) end
-    → ServesDesk by kept before (surroundings streams (state final) ahead) end
-served_on state final here same by kept before streams ahead end serves =
-    subst (λ d. ServesDesk by kept before (surroundings streams (state d) ahead) end) (sym same) serves
+    → (by : Service) (crew : Crew) (kept : ℕ) (ring : Option RingEnd) (before : Surroundings) (streams : Told) (ahead : Outlook) (end : HostEnd)
+    → ServesDesk by crew kept ring before (surroundings streams (state here) ahead) end
+    → ServesDesk by crew kept ring before (surroundings streams (state final) ahead) end
+served_on state final here same by crew kept ring before streams ahead end serves =
+    subst (λ d. ServesDesk by crew kept ring before (surroundings streams (state d) ahead) end) (sym same) serves
 
 -- where a journal isn't opened no listener was asked, and nothing was served
 pub not_served : (before after : Surroundings) (end : RunEnd) → OpensNot before after end → (run.status_of end ≡ 6 → ⊥) × (run.status_of end ≡ 0 → ⊥)

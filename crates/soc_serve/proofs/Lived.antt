@@ -11,6 +11,7 @@ use Rattle.soc_edge.specs.Told.{Told}
 use Rattle.soc_edge.specs.World.{Surroundings, surroundings}
 use Rattle.soc_ledger.specs.declared.event.Event.{Event}
 use Rattle.soc_ledger.specs.Due.{due_ids}
+use Rattle.soc_pool.specs.declared.pass.RingEnd.{RingEnd}
 use Rattle.soc_vault.specs.Openings.{AreEntriesOf}
 use Rattle.soc_desk.specs.declared.desk.Command.{Command}
 use Rattle.soc_desk.specs.declared.desk.Command.TheVariants as C
@@ -31,6 +32,7 @@ use Rattle.soc_desk.specs.State.{State, Allowed, StandsFor, doubted, has_room, k
 use Rattle.soc_lives.specs.Lives.{Action, asking, keeping, Follow, IsFound, IsTransition, LeavesInside, Transition, last_state}
 use Rattle.soc_lives.specs.Runs.{EndsBehind, IsLife, RunsAlong, actions_of}
 use Rattle.soc_lives.proofs.Carried.{opens_life, runs_are_lives}
+use Rattle.soc_crew.specs.declared.crew.Crew.{Crew}
 use Rattle.soc_turns.specs.Runs.{RunsTurns}
 use Rattle.soc_replay.specs.Serving.{Service, SurvivesStops}
 use Rattle.soc_serve.specs.declared.ending.HostEnd.{HostEnd}
@@ -309,8 +311,8 @@ module _ (basis : Basis) (is_told : IsTrue basis.is_told) where
 -- ---- the whole
 
 module _ (disk disk' : DiskTold) (bytes : List ℕ) (content : disk.content ≡ Some bytes)
-    (by : Service) (kept : ℕ) (streams streams' : Told) (ahead ahead' : Outlook) (end : HostEnd)
-    (run : HostsDesk by kept (surroundings streams disk ahead) (surroundings streams' disk' ahead') end) where
+    (by : Service) (crew : Crew) (kept : ℕ) (ring : Option RingEnd) (streams streams' : Told) (ahead ahead' : Outlook) (end : HostEnd)
+    (run : HostsDesk by crew kept ring (surroundings streams disk ahead) (surroundings streams' disk' ahead') end) where
   is_told : IsTrue run.opening.basis.is_told
   is_told = run.opening.told ∙ ap (λ (c : Option (List ℕ)). is_some c) content
 

@@ -6,6 +6,9 @@ use Rattle.soc_edge.specs.Told.{OnlyWrites, WriteFailed, Writes}
 use Rattle.soc_edge.specs.Tree.{OnlyLooks, TreeFailed}
 use Rattle.soc_edge.specs.World.{Outside, Surroundings}
 use Rattle.soc_hall.specs.Asked.{Closes as ClosesHall}
+use Rattle.soc_ledger.specs.Due.{due_ids}
+use Rattle.soc_pool.specs.declared.pass.RingEnd.{RingEnd}
+use Rattle.soc_pool.specs.Passes.{seen_in}
 use Rattle.soc_desk.specs.declared.desk.Command.{Command}
 use Rattle.soc_desk.specs.declared.desk.Receipt.{Receipt}
 use Rattle.soc_desk.specs.Basis.{Basis}
@@ -17,6 +20,8 @@ use Rattle.soc_service.specs.declared.change.Change.{Change as Turned}
 use Rattle.soc_service.specs.Answers.{Answers as AnswersTurn}
 use Rattle.soc_service.specs.Changes.{kept_in}
 use Rattle.soc_service.specs.Turns.{Knows}
+use Rattle.soc_crew.specs.declared.crew.Crew.{Crew}
+use Rattle.soc_crew.specs.Jobs.{Shares, Starts}
 use Rattle.soc_turns.specs.Logs.{changes_of}
 use Rattle.soc_turns.specs.Runs.{RunsTurns}
 use Rattle.soc_words.specs.declared.words.Task.{Task}
@@ -31,6 +36,7 @@ use Rattle.soc_replay.specs.Serving.{Service, SurvivesStops}
 use Rattle.soc_replay.specs.Tasks.{TellsHow, WantsMemory}
 use Rattle.soc_serve.specs.declared.ending.HostEnd.{HostEnd}
 use Rattle.soc_serve.specs.declared.ending.HostEnd.TheVariants as H
+use Rattle.soc_serve.specs.Ends.{status_of}
 use Rattle.soc_serve.specs.Lines.{CutsLines, counts_text}
 use Rattle.soc_serve.specs.Storm.{Storms}
 use Rattle.soc_serve.specs.Sweep.{FailsSweep, Sweeps}
@@ -53,9 +59,15 @@ Closes before after H.Done basis served swept =
 abbrev pub IsRight : Basis → List Turned → Command → Receipt → List Turned → Type 0
 IsRight basis log command receipt log' = ∥ AnswersTurn basis log command receipt log' ∥₁
 
+-- The ring of jobs that a crew leaves which began with these crashes due. Where no thread was started there is none, and the
+-- status blames neither a stop nor the listener.
+abbrev pub LeavesRing : List (List ℕ) → Crew → ℕ → Option RingEnd → Type 0
+LeavesRing due crew status None = ¬ (status ≡ 0) × ¬ (status ≡ 6)
+LeavesRing due crew status (Some ring) = Shares (Starts due crew.processors) crew.collectors crew.processors (seen_in ring)
+
 -- The journal is opened. The turns of all collectors and processors, in their order, are one run of a desk from the opened log,
 -- and what they have added to it counts so many kept changes and stops. Then comes the last sweep.
-pub record HostsDesk (by : Service) (kept : ℕ) (before after : Surroundings) (end : HostEnd) : Type 0 where
+pub record HostsDesk (by : Service) (crew : Crew) (kept : ℕ) (ring : Option RingEnd) (before after : Surroundings) (end : HostEnd) : Type 0 where
   pub opening : OpensJournal by.row_of by.digest by.setup.limits before.disk.content
   -- the desk when the journal stood, and when all threads had ended
   pub opened : DeskAt
@@ -72,6 +84,8 @@ pub record HostsDesk (by : Service) (kept : ℕ) (before after : Surroundings) (
   pub seats : List (Knows Command Basis)
   pub seated : ClosesHall IsRight (changes_of opening.basis served.state.log) opening.basis seats
   pub seated_from : seated.opening ≡ changes_of opening.basis opening.log
+  -- the jobs that each thread put and took
+  pub jobs : LeavesRing (due_ids (events opening.basis opening.log)) crew (status_of end) ring
   -- the sweep and the lines
   pub swept : State
   pub closes : Closes before after end opening.basis served swept
@@ -85,10 +99,10 @@ pub record HostsDesk (by : Service) (kept : ℕ) (before after : Surroundings) (
 -- ---- the whole
 
 -- no file is refused, and the desk is hosted by what they say
-pub record HostsBy (kept : ℕ) (before after : Outside) (end : HostEnd) : Type 0 where
+pub record HostsBy (crew : Crew) (kept : ℕ) (ring : Option RingEnd) (before after : Outside) (end : HostEnd) : Type 0 where
   pub said : Said
   pub says : Says before.tree.files (Ok said)
-  pub hosts : ∥ HostsDesk (service_of said) kept before.around after.around end ∥₁
+  pub hosts : ∥ HostsDesk (service_of said) crew kept ring before.around after.around end ∥₁
 
 -- as a replay ends before its session; the disk is blamed only where it failed
 abbrev pub EndsEarly : Outside → Outside → RunEnd → Type 0
@@ -96,12 +110,13 @@ EndsEarly before after (R.Served end keeping) = ⊥
 EndsEarly before after R.OpenFault = Replays before after R.OpenFault × DiskFailed before.around.disk after.around.disk
 EndsEarly before after end = Replays before after end
 
-abbrev pub Hosts : ℕ → Outside → Outside → HostEnd → Type 0
-Hosts kept before after (H.Before end) = EndsEarly before after end
-Hosts kept before after (H.Swept fault) = HostsBy kept before after (H.Swept fault)
-Hosts kept before after (H.Lines fault) = HostsBy kept before after (H.Lines fault)
-Hosts kept before after H.Failed = HostsBy kept before after H.Failed
-Hosts kept before after H.Done = HostsBy kept before after H.Done
+-- where no desk is hosted there is no ring
+abbrev pub Hosts : Crew → ℕ → Option RingEnd → Outside → Outside → HostEnd → Type 0
+Hosts crew kept ring before after (H.Before end) = EndsEarly before after end × (ring ≡ None)
+Hosts crew kept ring before after (H.Swept fault) = HostsBy crew kept ring before after (H.Swept fault)
+Hosts crew kept ring before after (H.Lines fault) = HostsBy crew kept ring before after (H.Lines fault)
+Hosts crew kept ring before after H.Failed = HostsBy crew kept ring before after H.Failed
+Hosts crew kept ring before after H.Done = HostsBy crew kept ring before after H.Done
 
 -- the usage line is told
 abbrev pub TellsOnly : Outside → Outside → HostEnd → Type 0
@@ -109,24 +124,25 @@ TellsOnly before after (H.Before end) = TellsHow before after end
 TellsOnly before after _ = ⊥
 
 -- a command, by the service's end; the others are carried by another call
-abbrev pub HostsTask : Words → Task → ℕ → Outside → Outside → HostEnd → Type 0
-HostsTask words T.Serve kept before after end = Hosts kept before after end
-HostsTask words T.Storm kept before after end = Storms words.count before after end
-HostsTask words T.Check kept before after end = TellsOnly before after end
-HostsTask words T.Make kept before after end = TellsOnly before after end
-HostsTask words T.Replay kept before after end = TellsOnly before after end
+abbrev pub HostsTask : Words → Task → ℕ → Option RingEnd → Outside → Outside → HostEnd → Type 0
+HostsTask words T.Serve kept ring before after end =
+    Hosts (record { collectors = words.collectors; processors = words.processors }) kept ring before after end
+HostsTask words T.Storm kept ring before after end = Storms words.count before after end
+HostsTask words T.Check kept ring before after end = TellsOnly before after end
+HostsTask words T.Make kept ring before after end = TellsOnly before after end
+HostsTask words T.Replay kept ring before after end = TellsOnly before after end
 
-abbrev pub HostsSaid : Option Words → ℕ → Outside → Outside → HostEnd → Type 0
-HostsSaid None kept before after end = TellsOnly before after end
-HostsSaid (Some words) kept before after end = HostsTask words words.command kept before after end
+abbrev pub HostsSaid : Option Words → ℕ → Option RingEnd → Outside → Outside → HostEnd → Type 0
+HostsSaid None kept ring before after end = TellsOnly before after end
+HostsSaid (Some words) kept ring before after end = HostsTask words words.command kept ring before after end
 
-abbrev pub WantsMemoryFirst : Outside → Outside → HostEnd → Type 0
-WantsMemoryFirst before after (H.Before end) = WantsMemory before after end
-WantsMemoryFirst before after _ = ⊥
+abbrev pub WantsMemoryFirst : Option RingEnd → Outside → Outside → HostEnd → Type 0
+WantsMemoryFirst ring before after (H.Before end) = WantsMemory before after end × (ring ≡ None)
+WantsMemoryFirst ring before after _ = ⊥
 
--- the service by what its words say, of whose turns so many changes and stops count as kept
-abbrev pub HostsWords : Option Words → ℕ → Outside → Outside → HostEnd → Type 0
-HostsWords said kept before after end = HostsSaid said kept before after end ⊎ WantsMemoryFirst before after end
+-- the service by what its words say, of whose turns so many changes and stops count as kept, and the ring that its crew leaves
+abbrev pub HostsWords : Option Words → ℕ → Option RingEnd → Outside → Outside → HostEnd → Type 0
+HostsWords said kept ring before after end = HostsSaid said kept ring before after end ⊎ WantsMemoryFirst ring before after end
 
 -- ---- the listener that is handed in
 

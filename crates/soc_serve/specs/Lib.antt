@@ -2,7 +2,6 @@ pub mod Ends
 pub mod Hosts
 pub mod Lines
 pub mod Lives
-pub mod Rings
 pub mod Storm
 pub mod Sweep
 pub mod inner

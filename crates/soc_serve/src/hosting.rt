@@ -8,7 +8,6 @@ ghost use Rattle.soc_listen.specs.Told.{HasEnded};
 ghost use Rattle.soc_replay.specs.inner.Replay.{IsFilesFault};
 ghost use Rattle.soc_words.specs.Words.{words_of};
 ghost use Rattle.soc_serve.specs.Ends.{status_of};
-ghost use Rattle.soc_serve.specs.Rings.{LeavesRing, LeavesRingBy};
 ghost use Rattle.soc_serve.specs.Hosts.{HostHasCause, Hosts, HostsOn, HostsWords, IsServe};
 ghost use Rattle.soc_serve.specs.declared.ending.HostEnd.{HostEnd as End};
 ghost use Rattle.soc_serve.specs.inner.Hosting.{HostsFiles, IsCrew};
@@ -70,8 +69,8 @@ pub fn run_hall<
     requires served { served.old ≡ nothing_served }
     ensures hosts { let told = ⟦<World<T, K, D, C, W, P> as TellsAll>⟧.told in
         (end : End) × (result.0 ≡ status_of end)
-        × HostsWords (words_of (map string_bytes words.now)) served.new.kept (told world.old)
-        (told world.new) end }
+        × HostsWords (words_of (map string_bytes words.now)) served.new.kept result.2
+        (told world.old) (told world.new) end }
     ensures handed { (L.told result.1).handed ≡ (L.told listener).handed + served.new.connections }
     ensures over { IsServe (words_of (map string_bytes words.now)) → result.0 ≡ 0
         → (served.new.stopped ≡ true) ⊎ HasEnded (L.told result.1) }
@@ -83,7 +82,6 @@ pub fn run_hall<
     ensures cause { let told = ⟦<World<T, K, D, C, W, P> as TellsAll>⟧.told in
         HostHasCause (told world.old) (told world.new) result.0 }
     ensures listener_cause { result.0 ≡ 6 → Rose (L.told listener).faults (L.told result.1).faults }
-    ensures jobs { LeavesRingBy (words_of (map string_bytes words.now)) result.0 result.2 }
 {
     match Words::read(alloc, words) {
         Ok(words) => match words.command {
@@ -141,7 +139,7 @@ fn host<
     requires crew { IsCrew site.now.crew }
     requires served { served.old ≡ nothing_served }
     ensures hosts { let told = ⟦<World<T, K, D, C, W, P> as TellsAll>⟧.told in
-        Hosts served.new.kept (told world.old) (told world.new) result.0 }
+        Hosts site.now.crew served.new.kept result.2 (told world.old) (told world.new) result.0 }
     ensures handed { (L.told result.1).handed ≡ (L.told listener).handed + served.new.connections }
     ensures over { status_of result.0 ≡ 0 → (served.new.stopped ≡ true)
         ⊎ ((L.told result.1).ended ≡ true) }
@@ -152,8 +150,6 @@ fn host<
         HostHasCause (told world.old) (told world.new) (status_of result.0) }
     ensures listener_cause { status_of result.0 ≡ 6
         → Rose (L.told listener).faults (L.told result.1).faults }
-    ensures jobs { let crew = site.now.crew in
-        LeavesRing crew.collectors crew.processors (status_of result.0) result.2 }
 {
     let (ended, listener, jobs) = by_files(site, world, listener, served);
     match ended {
@@ -189,7 +185,8 @@ fn by_files<
     requires crew { IsCrew site.now.crew }
     requires served { served.old ≡ nothing_served }
     ensures hosts { let told = ⟦<World<T, K, D, C, W, P> as TellsAll>⟧.told in
-        IfOk result.0 (HostsFiles served.new.kept (told world.old) (told world.new)) }
+        IfOk result.0 (HostsFiles site.now.crew served.new.kept result.2 (told world.old)
+        (told world.new)) }
     ensures fault { IfErr result.0
         (λ fault. IfSome (T.told world.old.tree).files
         (λ files. IsFilesFault files fault)) }
@@ -212,8 +209,6 @@ fn by_files<
         IfOk result.0 (λ end. HostHasCause (told world.old) (told world.new) (status_of end)) }
     ensures listener_cause { IfOk result.0 (λ end. status_of end ≡ 6
         → Rose (L.told listener).faults (L.told result.1).faults) }
-    ensures jobs { let crew = site.now.crew in IfOk result.0
-        (λ end. LeavesRing crew.collectors crew.processors (status_of end) result.2) }
 {
     let (texts, setup) = match read_files(site.alloc, &mut world.tree) {
         Ok(files) => files,

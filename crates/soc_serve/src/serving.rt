@@ -10,7 +10,6 @@ ghost use Rattle.soc_book.specs.Books.{StandsFor, disk_of, lent_to, reporter_of}
 ghost use Rattle.soc_edge.specs.World.{surroundings};
 ghost use Rattle.soc_replay.specs.Serving.{service};
 ghost use Rattle.soc_serve.specs.Ends.{status_of};
-ghost use Rattle.soc_serve.specs.Rings.{LeavesRing};
 ghost use Rattle.soc_serve.specs.inner.Hosting.{IsCrew};
 ghost use Rattle.soc_serve.specs.inner.Serving.{ClosesBook, ServesDesk};
 
@@ -78,7 +77,8 @@ pub(crate) fn serve<
     requires served { served.old ≡ nothing_served }
     ensures serves { ServesDesk
         (service (Q.row_of purpose.now.reporter.now) (Q.digest_of purpose.now.reporter.now)
-        (S.stack_of purpose.now.stacks.now) purpose.now.setup.now) served.new.kept
+        (S.stack_of purpose.now.stacks.now) purpose.now.setup.now) purpose.now.site.now.crew
+        served.new.kept result.2
         (surroundings (K.told output.old) (D.state disk.old)
         (outlook (C.told clock.old) (W.told draws.old)))
         (surroundings (K.told output.new) (D.state disk.new)
@@ -91,8 +91,6 @@ pub(crate) fn serve<
     ensures listener_cause { status_of result.0 ≡ 6
         → Rose (L.told listener).faults (L.told result.1).faults }
     ensures cause { status_of result.0 ≡ 7 → WriteFailed (K.told output.old) (K.told output.new) }
-    ensures jobs { let crew = purpose.now.site.now.crew in
-        LeavesRing crew.collectors crew.processors (status_of result.0) result.2 }
 {
     let alloc = purpose.site.alloc;
     let reporter = purpose.reporter;

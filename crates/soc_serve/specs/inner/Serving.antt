@@ -1,10 +1,12 @@
 -- The service over a desk, by its end.
-use Rattle.std.specs.Prelude.{◌≡◌, ℕ}
+use Rattle.std.specs.Prelude.{◌≡◌, ℕ, Option, None}
 use Rattle.soc_edge.specs.Disk.{DiskTold, DiskFailed}
 use Rattle.soc_edge.specs.World.{Surroundings}
+use Rattle.soc_pool.specs.declared.pass.RingEnd.{RingEnd}
 use Rattle.soc_desk.specs.Basis.{Basis}
 use Rattle.soc_desk.specs.Runs.{DeskAt}
 use Rattle.soc_desk.specs.State.{State}
+use Rattle.soc_crew.specs.declared.crew.Crew.{Crew}
 use Rattle.soc_replay.specs.declared.ending.RunEnd.{RunEnd}
 use Rattle.soc_replay.specs.Ends as run
 use Rattle.soc_replay.specs.Opening.{OpensNot}
@@ -28,6 +30,6 @@ pub record EndsOpening (before after : Surroundings) (end : RunEnd) : Type 0 whe
   pub not : OpensNot before after end
   pub cause : run.status_of end ≡ 4 → DiskFailed before.disk after.disk
 
-abbrev pub ServesDesk : Service → ℕ → Surroundings → Surroundings → HostEnd → Type 0
-ServesDesk by kept before after (H.Before end) = EndsOpening before after end
-ServesDesk by kept before after end = ∥ HostsDesk by kept before after end ∥₁
+abbrev pub ServesDesk : Service → Crew → ℕ → Option RingEnd → Surroundings → Surroundings → HostEnd → Type 0
+ServesDesk by crew kept ring before after (H.Before end) = EndsOpening before after end × (ring ≡ None)
+ServesDesk by crew kept ring before after end = ∥ HostsDesk by crew kept ring before after end ∥₁

@@ -43,10 +43,10 @@ returns-clause-hosts g c =
     record {
       said = record { setup = setup; texts = texts.kit };
       says = says_said _ texts setup c.in-Ok.ensures.told c.in-Ok.ensures.says c.in-Ok-read.ensures.reads.0;
-      serves = serves_with _ _ _ _ _ _ _ c.in-Ok-read.ensures.reads.1 c.serve-end.ensures.serves;
+      serves = serves_with _ _ _ _ _ _ _ _ _ c.in-Ok-read.ensures.reads.1 c.serve-end.ensures.serves;
     }
 
 pub returns-clause-cause : goal.returns-clause-cause
 returns-clause-cause g c =
-    let neither = blames_neither _ _ _ _ c.serve-end.result.0 c.serve-end.ensures.serves in
+    let neither = blames_neither _ _ _ _ _ _ c.serve-end.result.0 c.serve-end.ensures.serves in
     record { output = c.serve-end.ensures.cause; tree = λ is. absurd (neither.0 is); maker = λ is. absurd (neither.1 is) }

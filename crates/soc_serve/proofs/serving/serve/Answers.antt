@@ -1,5 +1,5 @@
 use denote.Param.Send.{sendable}
-use Rattle.std.proofs.Common.{◌≡◌, map, sym, ap, subst, ◌∙◌}
+use Rattle.std.proofs.Common.{◌≡◌, map, refl, sym, ap, subst, ◌∙◌}
 use Rattle.std.specs.Prelude.{None}
 use Rattle.std.specs.Coded.{Coded-set, coded_ℕ}
 use Rattle.std.proofs.Crossing.{crosses}
@@ -23,7 +23,7 @@ use Rattle.soc_serve.proofs.Rings.{leaves_ring}
 use Rattle.soc_serve.proofs.serving.serve.Goals as goal
 
 pub returns-in-Err-clause-serves : goal.returns-in-Err-clause-serves
-returns-in-Err-clause-serves g c = record { not = c.in-Err.ensures.refused _; cause = c.in-Err.ensures.disk_cause }
+returns-in-Err-clause-serves g c = (record { not = c.in-Err.ensures.refused _; cause = c.in-Err.ensures.disk_cause }, refl)
 
 pub returns-in-Err-clause-over : goal.returns-in-Err-clause-over
 returns-in-Err-clause-over g c is =
@@ -32,14 +32,6 @@ returns-in-Err-clause-over g c is =
 pub returns-in-Err-clause-listener_cause : goal.returns-in-Err-clause-listener_cause
 returns-in-Err-clause-listener_cause g c is =
     absurd ((not_served _ _ c.in-Err.end (c.in-Err.ensures.refused (record { moments = λ _. None; throttles = λ _. None; ids = λ _. None }))).0 is)
-
-pub returns-in-Err-clause-jobs : goal.returns-in-Err-clause-jobs
-returns-in-Err-clause-jobs g c =
-    let not = not_served _ _ c.in-Err.end (c.in-Err.ensures.refused (record { moments = λ _. None; throttles = λ _. None; ids = λ _. None })) in
-    (not.1, not.0)
-
-pub returns-clause-jobs : goal.returns-clause-jobs
-returns-clause-jobs g c = leaves_ring _ _ _ _ c.serve_together-book.result.failed c.serve_together-book.result.jobs c.serve_together-book.ensures.jobs c.close-end.ensures.failed c.close-end.ensures.done
 
 pub over-book-requires-clause-opens : goal.over-book-requires-clause-opens
 over-book-requires-clause-opens g c = rw c.of-opened.ensures c.in-Ok-open.ensures.opens
@@ -63,13 +55,14 @@ returns-clause-serves g c =
     let kept : second.vault.disk.ghost_name ≡ first.vault.disk.ghost_name =
     ∥∥₁_elim together (Coded-set coded_ℕ _ _) (λ t. ap (λ basis. basis.lent) t.same_basis) in
     let lent = sym e.same_disk ∙ (sym kept ∙ (sym (ap (λ book. book.vault.disk.ghost_name) c.into_book-book.ensures) ∙ (sym c.close-end.ensures.same_disk ∙ sym c.into_disk-disk.ensures.same_disk))) in
-    served_on g.D.Disk.state _ c.close-end.new.book.vault.disk.now (c.disk-1.given.1 lent ∙ c.into_disk-disk.ensures.disk) _ _ _ (g.K.Tells.told c.close-end.new.output) after _
-    (serves_desk g.D.Telling.tells c.args.purpose.now.reporter.now (g.S.Stacks.stack_of c.args.purpose.now.stacks.now) c.args.purpose.now.setup.now c.serve_together-book.result.served.kept
+    served_on g.D.Disk.state _ c.close-end.new.book.vault.disk.now (c.disk-1.given.1 lent ∙ c.into_disk-disk.ensures.disk) _ _ _ _ _ (g.K.Tells.told c.close-end.new.output) after _
+    (serves_desk g.D.Telling.tells c.args.purpose.now.reporter.now (g.S.Stacks.stack_of c.args.purpose.now.stacks.now) c.args.purpose.now.setup.now c.args.purpose.now.site.now.crew c.serve_together-book.result.served.kept c.serve_together-book.result.jobs
     (surroundings (g.K.Tells.told c.args.output.now) (g.D.Disk.state c.args.disk.now) before)
     (surroundings (g.K.Tells.told c.close-end.new.output) (g.D.Disk.state c.close-end.new.book.vault.disk.now) after)
     end ((g.met.D.Telling g.world.𝓛 g.world.𝓜 g.world.𝓡 ((λ s x. x), (λ x. x), (λ x. x), λ x. x)).steady c.args.disk.now)
     first second e.reporter e.limits
     (subst (λ d. GoesOn (g.D.Disk.state c.args.disk.now) (g.D.Disk.state d)) (sym e.disk) c.open.ensures.goes_on)
+    (leaves_ring _ c.args.purpose.now.site.now.crew _ c.serve_together-book.result.failed c.serve_together-book.result.jobs c.serve_together-book.ensures.jobs c.close-end.ensures.failed c.close-end.ensures.done)
     (λ basis is. opens_over g.D.Disk.state e.disk (e.stands basis) (c.in-Ok-open.ensures.opens basis is))
     (λ basis state rows digest stands.
     let over =
