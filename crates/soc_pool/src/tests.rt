@@ -5,6 +5,7 @@ use super::*;
 use soc_base::NoMemory;
 use soc_raw::{CrashId, Digit, FIRST_MOMENT};
 use std::alloc::Global;
+use std::ops::Range;
 use std::sync::Wait;
 use std::test::*;
 use std::thread;
@@ -43,13 +44,13 @@ fn put_all<R: Wait>(rt: &R, jobs: &Jobs, mut pass: Pass, count: u32) -> (Pass, O
     (pass, None)
 }
 
-// Takes as many jobs: whether they are the first, in order.
-fn take_all<R: Wait>(rt: &R, jobs: &Jobs, mut pass: Pass, count: u32) -> (Pass, bool)
+// Takes as many jobs: whether they are those of these numbers, in order.
+fn take_all<R: Wait>(rt: &R, jobs: &Jobs, mut pass: Pass, numbers: Range<u32>) -> (Pass, bool)
     requires { IsPassOf jobs.now pass }
     ensures { IsPassOf jobs.now result.0 }
 {
     let mut in_order = true;
-    for number in 0..count {
+    for number in numbers {
         let (after, job) = jobs.take(rt, pass);
         pass = after;
         in_order = in_order && job == Some(numbered(number));
@@ -65,7 +66,7 @@ fn a_ring_holds_its_places(rt: HostRuntime) -> Result<(), Fail> {
     let (pass, refused) = put_all(&rt, &jobs, pass, 2000);
     assert_eq!(rt; refused, Some((1024, numbered(1024))));
     assert_eq!(rt; (pass.fulls(), pass.empties()), (1, 0));
-    let (pass, in_order) = take_all(&rt, &jobs, pass, 1024);
+    let (pass, in_order) = take_all(&rt, &jobs, pass, 0..1024);
     assert!(rt; in_order);
     let (pass, job) = jobs.take(&rt, pass);
     assert_eq!(rt; job, None);
@@ -84,19 +85,16 @@ fn crashes_wait_for_a_place(rt: HostRuntime) -> Result<(), Fail> {
     let pass = jobs.put_or_wait(&rt, pass, crash(1024));
     let pass = jobs.put_or_wait(&rt, pass, crash(1025));
     assert_eq!(rt; pass.fulls(), 2);
-    let (pass, in_order) = take_all(&rt, &jobs, pass, 1);
+    let (pass, in_order) = take_all(&rt, &jobs, pass, 0..1);
     assert!(rt; in_order);
     let pass = jobs.refill(&rt, pass);
     let pass = jobs.refill(&rt, pass);
     let (pass, job) = jobs.take(&rt, pass);
     assert_eq!(rt; job, Some(numbered(1)));
     jobs.forget(&rt);
-    let mut pass = jobs.refill(&rt, pass);
-    for number in 2..1025 {
-        let (after, job) = jobs.take(&rt, pass);
-        pass = after;
-        assert_eq!(rt; job, Some(numbered(number)));
-    }
+    let pass = jobs.refill(&rt, pass);
+    let (pass, in_order) = take_all(&rt, &jobs, pass, 2..1025);
+    assert!(rt; in_order);
     let (_, job) = jobs.take(&rt, pass);
     assert_eq!(rt; job, None);
     Ok(())
