@@ -31,6 +31,7 @@ checks_not before after R.Usage never = absurd never
 checks_not before after R.TextRefused never = absurd never
 checks_not before after R.TreeFault never = absurd never
 checks_not before after R.MakerFault never = absurd never
+checks_not before after R.InputFault never = absurd never
 
 abbrev bare_basis : Option (List ℕ) → Basis
 bare_basis told = record { row_of = bare_row; digest = None; journal_bytes = check_limits.journal_bytes; crashes = check_limits.crashes; is_told = is_some told }
@@ -91,4 +92,5 @@ module _ (Stands : Basis → State → Type 0) (counts : Counts)
   checks_by state final here same before streams R.JournalRefused opens goes_on leaves never = absurd never
   checks_by state final here same before streams R.TreeFault opens goes_on leaves never = absurd never
   checks_by state final here same before streams R.MakerFault opens goes_on leaves never = absurd never
+  checks_by state final here same before streams R.InputFault opens goes_on leaves never = absurd never
   checks_by state final here same before streams R.OpenFault opens goes_on leaves never = absurd never

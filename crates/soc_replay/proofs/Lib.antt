@@ -1,5 +1,6 @@
 pub mod CheckLemmas
 pub mod DocumentLemmas
+pub mod ExportLemmas
 pub mod SettingLemmas
 pub mod TextLemmas
 pub mod OpeningLemmas

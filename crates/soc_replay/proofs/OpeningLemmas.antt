@@ -57,3 +57,4 @@ module _ (streams streams' : Told) (disk disk' : DiskTold) (outlook : Outlook)
   opens_not error R.TextRefused not_ours bad untouched never = absurd never
   opens_not error R.TreeFault not_ours bad untouched never = absurd never
   opens_not error R.MakerFault not_ours bad untouched never = absurd never
+  opens_not error R.InputFault not_ours bad untouched never = absurd never

@@ -260,6 +260,7 @@ runs_not by before after R.Usage never = absurd never
 runs_not by before after R.TextRefused never = absurd never
 runs_not by before after R.TreeFault never = absurd never
 runs_not by before after R.MakerFault never = absurd never
+runs_not by before after R.InputFault never = absurd never
 
 -- where a journal isn't opened the input wasn't read
 never_read : (before after : Surroundings) (end : RunEnd) → OpensNot before after end → status_of end ≡ 6 → ⊥
@@ -273,6 +274,7 @@ never_read before after R.Usage never is = never
 never_read before after R.TextRefused never is = never
 never_read before after R.TreeFault never is = never
 never_read before after R.MakerFault never is = never
+never_read before after R.InputFault never is = never
 
 pub opens_cause : (before after : Surroundings) (end : RunEnd) → OpensNot before after end → (status_of end ≡ 7 → WriteFailed before.streams after.streams)
     → HasCause (status_of end ≡ 6) (status_of end ≡ 7) before.streams after.streams

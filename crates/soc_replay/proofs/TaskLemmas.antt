@@ -35,6 +35,7 @@ check_status before after R.Usage never = absurd never
 check_status before after R.TextRefused never = absurd never
 check_status before after R.TreeFault never = absurd never
 check_status before after R.MakerFault never = absurd never
+check_status before after R.InputFault never = absurd never
 
 pub check_cause : (tree : TreeTold) (maker : ℕ) (before after : Surroundings) (end : RunEnd) → Checks before after end
     → (status_of end ≡ 7 → WriteFailed before.streams after.streams) → (status_of end ≡ 4 → DiskFailed before.disk after.disk)

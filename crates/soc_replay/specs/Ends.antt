@@ -36,4 +36,5 @@ status_of R.LineFault = 7
 status_of R.TreeFault = 8
 status_of R.MakerFault = 11
 status_of R.OpenFault = 4
+status_of R.InputFault = 6
 status_of R.NoMemory = 10

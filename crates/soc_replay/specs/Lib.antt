@@ -2,6 +2,7 @@ pub mod Blames
 pub mod Check
 pub mod Documents
 pub mod Ends
+pub mod Export
 pub mod Files
 pub mod Lives
 pub mod Opening

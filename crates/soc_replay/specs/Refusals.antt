@@ -1,4 +1,4 @@
--- Which file is refused, or that the journal is, and the line that tells it: this project's profile.
+-- Which file is refused, or that a key or the journal is, and the line that tells it: this project's profile.
 use Rattle.std.specs.Prelude.{ℕ, List, [], ◌++◌, codes, decimal}
 use Rattle.soc_edge.specs.declared.tree.TreeError.{TreeError}
 use Rattle.soc_edge.specs.declared.tree.TreeError.TheVariants as tree
@@ -7,7 +7,7 @@ use Rattle.soc_siglists.specs.declared.error.ListName.TheVariants.{Irrelevant, P
 use Rattle.soc_report.specs.declared.error.KitError.{KitError}
 use Rattle.soc_report.specs.declared.error.KitError.TheVariants as kit
 use Rattle.soc_replay.specs.declared.refusal.FileRefusal.{FileRefusal}
-use Rattle.soc_replay.specs.declared.refusal.FileRefusal.TheVariants.{SettingsNotToml, BadSetting, BadRule, TokensNotToml, BadToken, BadPattern, BadSymbols, Missing, NotJournal, BadEntry}
+use Rattle.soc_replay.specs.declared.refusal.FileRefusal.TheVariants.{SettingsNotToml, BadSetting, BadRule, TokensNotToml, BadToken, BadPattern, BadSymbols, Missing, UnknownKey, NotJournal, BadEntry, Altered}
 use Rattle.soc_replay.specs.declared.refusal.FilesFault.{FilesFault}
 use Rattle.soc_replay.specs.declared.refusal.FilesFault.TheVariants.{Refused, Tree, Maker, NoMemory}
 use Rattle.soc_replay.specs.declared.settings.SettingsError.{SettingsError}
@@ -56,5 +56,7 @@ refusal_line (BadToken index) = line_of (codes "tokens.toml") (codes ": 70 ") (d
 refusal_line (BadPattern list line) = line_of (list_file list) (codes ": 60 ") (decimal line)
 refusal_line (BadSymbols name line) = line_of name (codes ": 50 ") (decimal line)
 refusal_line (Missing name) = line_of name (codes ": 72") []
+refusal_line UnknownKey = line_of (codes "token") [] []
 refusal_line NotJournal = line_of (codes "journal") (codes ": 30") []
 refusal_line (BadEntry place) = line_of (codes "journal") (codes ": 33 ") (decimal place)
+refusal_line (Altered id) = line_of (codes "journal") (codes ": 34 ") id

@@ -59,5 +59,6 @@ Replays before after R.LineFault = TextRefused before after (WritesFront before.
 Replays before after R.TreeFault = StaysStill before.around after.around × (after.maker ≡ before.maker)
 Replays before after R.MakerFault = StaysStill before.around after.around × IfSome before.tree.files ReachesLists
 Replays before after R.NoMemory = StaysSilent before.around after.around
+Replays before after R.InputFault = ⊥
 Replays before after R.Written = ⊥
 Replays before after R.Usage = ⊥

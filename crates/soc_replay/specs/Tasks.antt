@@ -10,11 +10,12 @@ use Rattle.soc_words.specs.declared.words.Words.{Words}
 use Rattle.soc_replay.specs.declared.ending.RunEnd.{RunEnd}
 use Rattle.soc_replay.specs.declared.ending.RunEnd.TheVariants as R
 use Rattle.soc_replay.specs.Check.{Checks}
+use Rattle.soc_replay.specs.Export.{Exports}
 use Rattle.soc_edge.specs.World.{Outside, StaysQuiet, StaysStill}
 use Rattle.soc_replay.specs.Replay.{Replays}
 
 abbrev pub usage_line : List ℕ
-usage_line = codes "usage: socorro check|make|replay|serve|storm\n"
+usage_line = codes "usage: socorro check|make|replay|serve|storm|export\n"
 
 -- neither the tree nor the maker of patterns was asked
 pub record LeavesTexts (before after : Outside) : Type 0 where
@@ -57,6 +58,7 @@ RunsTask words T.Make before after end = MakesCrashes words before after end
 RunsTask words T.Replay before after end = Replays before after end
 RunsTask words T.Serve before after end = TellsHow before after end
 RunsTask words T.Storm before after end = TellsHow before after end
+RunsTask words T.Export before after end = Exports before after end
 
 abbrev pub RunsSaid : Option Words → Outside → Outside → RunEnd → Type 0
 RunsSaid None before after end = TellsHow before after end

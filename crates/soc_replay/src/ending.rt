@@ -37,8 +37,10 @@ pub enum RunEnd {
     TreeFault,
     /// The maker of patterns failed.
     MakerFault,
-    /// The disk failed while the journal was opened.
+    /// The disk failed while the journal was opened, or a crash was read to make its report.
     OpenFault,
+    /// The input failed while a key was read.
+    InputFault,
     /// An allocation was refused.
     NoMemory,
 }
@@ -60,6 +62,7 @@ impl RunEnd {
             RunEnd::TreeFault => 8,
             RunEnd::MakerFault => 11,
             RunEnd::OpenFault => 4,
+            RunEnd::InputFault => 6,
             RunEnd::NoMemory => 10,
         }
     }

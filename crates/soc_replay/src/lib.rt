@@ -4,6 +4,7 @@
 mod check;
 mod documents;
 mod ending;
+mod export;
 mod laws;
 mod opening;
 mod refusal;

@@ -8,11 +8,12 @@ use crate::settings::SettingsError;
 use crate::token_text::TokensError;
 use soc_base::{Bytes, NoMemory, Text};
 use soc_edge::{Failed, Sink, TreeError, write_all};
+use soc_raw::CrashId;
 use soc_report::KitError;
 use soc_siglists::ListName;
 use std::alloc::Global;
 
-/// Which file is refused, or that the journal is, and why.
+/// Which file is refused, or that a key or the journal is, and why.
 #[derive(Drop)]
 pub enum FileRefusal {
     SettingsNotToml,
@@ -26,10 +27,14 @@ pub enum FileRefusal {
     BadSymbols { name: Text, line: u64 },
     /// The file of this name is missing, or is no list of paths.
     Missing { name: Text },
+    /// The key is no token's.
+    UnknownKey,
     /// The disk doesn't begin as a journal does.
     NotJournal,
     /// Neither an entry of a legal log nor the closed gate stands at this place of the journal.
     BadEntry { place: u64 },
+    /// The disk gave back another record of the crash of this id than it was given.
+    Altered { id: CrashId },
 }
 
 /// Why a run's files give nothing to go by.
@@ -142,6 +147,7 @@ fn refusal_line(alloc: Global, refusal: &FileRefusal) -> Result<Bytes, NoMemory>
             line_of(alloc, name.as_str(), ": 50 ", digits.format(*at))
         }
         FileRefusal::Missing { name } => line_of(alloc, name.as_str(), ": 72", ""),
+        FileRefusal::UnknownKey => line_of(alloc, "token", "", ""),
         FileRefusal::NotJournal => line_of(alloc, "journal", ": 30", ""),
         FileRefusal::BadEntry { place } => line_of(
             alloc,
@@ -149,6 +155,7 @@ fn refusal_line(alloc: Global, refusal: &FileRefusal) -> Result<Bytes, NoMemory>
             ": 33 ",
             digits.format(*place),
         ),
+        FileRefusal::Altered { id } => line_of(alloc, "journal", ": 34 ", id.as_str()),
     }
 }
 

@@ -10,6 +10,7 @@ ghost use Rattle.soc_replay.specs.inner.Refusals.{TellsUsage};
 
 use crate::check::check;
 use crate::ending::RunEnd;
+use crate::export::export;
 use crate::replay::replay;
 use soc_edge::{Clock, Disk, Draws, Sink, Source, TellsAll, Tree, World, write_all};
 use soc_made::{MakeEnd, make};
@@ -18,21 +19,22 @@ use soc_words::{Task, Words, WordsError};
 use std::alloc::Global;
 
 /// What the program writes to other words.
-const USAGE: &[u8] = b"usage: socorro check|make|replay|serve|storm\n";
+const USAGE: &[u8] = b"usage: socorro check|make|replay|serve|storm|export\n";
 
 /// Runs the program.
 ///
 /// `replay` reads the tree's files, opens the disk's journal, answers the messages of the input, the streams' source, on
-/// the output, their sink, and keeps the reports that were made. `check` opens the journal and writes what its log has,
-/// counted. `make` writes messages that submit made crashes. With any other words, also those of commands that another call
-/// carries, the usage line is written.
+/// the output, their sink, and keeps the reports that were made. `export` reads the same files and who asks from the input,
+/// opens the journal, makes the reports that are missing, and writes the rows that are shown, keeping nothing. `check` opens
+/// the journal and writes what its log has, counted. `make` writes messages that submit made crashes. With any other words,
+/// also those of commands that another call carries, the usage line is written.
 ///
 /// The answer is the status that the process ends with: 0 where the input ended after the last message or a message asked
-/// for the end, and where `check` and `make` are done, 1 where a message was refused or cut short, 2 for other words, 3
-/// where a file was refused and its line was written, 4 where the disk failed while the journal was opened or reports were
-/// kept, 5 where the journal was refused and its line was written, 6 where the input failed, 7 where the output failed, 8
-/// where the tree failed, 9 where the messages answered hold `session_bytes` bytes or more, 10 where an allocation failed,
-/// 11 where the maker of patterns failed.
+/// for the end, and where `check`, `make` and `export` are done, 1 where a message was refused or cut short, 2 for other
+/// words, 3 where a file or a key was refused and its line was written, 4 where the disk failed while the journal was opened
+/// or reports were made or kept, 5 where the journal was refused and its line was written, 6 where the input failed, 7 where
+/// the output failed, 8 where the tree failed, 9 where the messages answered hold `session_bytes` bytes or more, 10 where an
+/// allocation failed, 11 where the maker of patterns failed.
 pub fn run_words<T: Tree, X: Source + Sink, D: Disk, C: Clock, W: Draws, P: Maker>(
     alloc: Global,
     words: &[String],
@@ -87,6 +89,7 @@ fn run_task<T: Tree, X: Source + Sink, D: Disk, C: Clock, W: Draws, P: Maker>(
         Task::Check => check(alloc, &mut world.streams, &mut world.disk),
         Task::Make => made_end(make(alloc, words.seed, words.count, &mut world.streams)),
         Task::Replay => replay(alloc, world),
+        Task::Export => export(alloc, world),
         Task::Serve | Task::Storm => tell_usage(&mut world.streams),
     }
 }

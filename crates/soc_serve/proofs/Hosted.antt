@@ -44,6 +44,7 @@ early_of crew kept ring before after (R.Served _ _) files = absurd files.serves.
 early_of crew kept ring before after R.TextRefused files = absurd files.serves.0.not
 early_of crew kept ring before after R.TreeFault files = absurd files.serves.0.not
 early_of crew kept ring before after R.MakerFault files = absurd files.serves.0.not
+early_of crew kept ring before after R.InputFault files = absurd files.serves.0.not
 early_of crew kept ring before after R.Written files = absurd files.serves.0.not
 early_of crew kept ring before after R.Usage files = absurd files.serves.0.not
 
@@ -70,6 +71,7 @@ early_blames before after R.Usage never = absurd never
 early_blames before after R.TextRefused never = absurd never
 early_blames before after R.TreeFault never = absurd never
 early_blames before after R.MakerFault never = absurd never
+early_blames before after R.InputFault never = absurd never
 
 pub blames_neither : (by : Service) (crew : Crew) (kept : ℕ) (ring : Option RingEnd) (before after : Surroundings) (end : HostEnd) → ServesDesk by crew kept ring before after end
     → (status_of end ≡ 8 → ⊥) × (status_of end ≡ 11 → ⊥)
@@ -94,6 +96,7 @@ usage_told before after R.TextRefused texts quiet never = absurd never
 usage_told before after R.JournalRefused texts quiet never = absurd never
 usage_told before after R.TreeFault texts quiet never = absurd never
 usage_told before after R.MakerFault texts quiet never = absurd never
+usage_told before after R.InputFault texts quiet never = absurd never
 usage_told before after R.OpenFault texts quiet never = absurd never
 
 pub no_words : (said : Option Words) (kept : ℕ) (ring : Option RingEnd) (before after : Outside) (end : RunEnd) → said ≡ None → LeavesTexts before after → StaysQuiet before.around after.around
@@ -101,14 +104,15 @@ pub no_words : (said : Option Words) (kept : ℕ) (ring : Option RingEnd) (befor
 no_words said kept ring before after end is texts quiet tells =
     inl (subst (λ (s : Option Words). HostsSaid s kept ring before after (H.Before end)) (sym is) (usage_told before after end texts quiet tells))
 
-other_task : (words : Words) (task : Task) (kept : ℕ) (ring : Option RingEnd) (before after : Outside) (end : HostEnd) → (task ≡ T.Check) ⊎ ((task ≡ T.Make) ⊎ (task ≡ T.Replay)) → TellsOnly before after end
+other_task : (words : Words) (task : Task) (kept : ℕ) (ring : Option RingEnd) (before after : Outside) (end : HostEnd) → (task ≡ T.Check) ⊎ ((task ≡ T.Make) ⊎ ((task ≡ T.Replay) ⊎ (task ≡ T.Export))) → TellsOnly before after end
     → HostsTask words task kept ring before after end
 other_task words task kept ring before after end (inl is) tells = subst (λ (t : Task). HostsTask words t kept ring before after end) (sym is) tells
 other_task words task kept ring before after end (inr (inl is)) tells = subst (λ (t : Task). HostsTask words t kept ring before after end) (sym is) tells
-other_task words task kept ring before after end (inr (inr is)) tells = subst (λ (t : Task). HostsTask words t kept ring before after end) (sym is) tells
+other_task words task kept ring before after end (inr (inr (inl is))) tells = subst (λ (t : Task). HostsTask words t kept ring before after end) (sym is) tells
+other_task words task kept ring before after end (inr (inr (inr is))) tells = subst (λ (t : Task). HostsTask words t kept ring before after end) (sym is) tells
 
 pub other_words : (said : Option Words) (words : Words) (kept : ℕ) (ring : Option RingEnd) (before after : Outside) (end : RunEnd) → said ≡ Some words
-    → (words.command ≡ T.Check) ⊎ ((words.command ≡ T.Make) ⊎ (words.command ≡ T.Replay)) → LeavesTexts before after → StaysQuiet before.around after.around
+    → (words.command ≡ T.Check) ⊎ ((words.command ≡ T.Make) ⊎ ((words.command ≡ T.Replay) ⊎ (words.command ≡ T.Export))) → LeavesTexts before after → StaysQuiet before.around after.around
     → TellsUsage before.around.streams after.around.streams end → HostsWords said kept ring before after (H.Before end)
 other_words said words kept ring before after end is other texts quiet tells =
     inl (subst (λ (s : Option Words). HostsSaid s kept ring before after (H.Before end)) (sym is)

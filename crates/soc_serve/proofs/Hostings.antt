@@ -222,3 +222,4 @@ not_served before after R.Usage never = absurd never
 not_served before after R.TextRefused never = absurd never
 not_served before after R.TreeFault never = absurd never
 not_served before after R.MakerFault never = absurd never
+not_served before after R.InputFault never = absurd never

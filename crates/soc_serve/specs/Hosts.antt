@@ -131,6 +131,7 @@ HostsTask words T.Storm kept ring before after end = Storms words.count before a
 HostsTask words T.Check kept ring before after end = TellsOnly before after end
 HostsTask words T.Make kept ring before after end = TellsOnly before after end
 HostsTask words T.Replay kept ring before after end = TellsOnly before after end
+HostsTask words T.Export kept ring before after end = TellsOnly before after end
 
 abbrev pub HostsSaid : Option Words → ℕ → Option RingEnd → Outside → Outside → HostEnd → Type 0
 HostsSaid None kept ring before after end = TellsOnly before after end

@@ -103,7 +103,7 @@ pub fn run_hall<
                 let end = storm(rt, alloc, &words, &mut world.streams, gate);
                 (end.status(), listener, None)
             }
-            Task::Check | Task::Make | Task::Replay => {
+            Task::Check | Task::Make | Task::Replay | Task::Export => {
                 let end = HostEnd::Before(tell_usage(&mut world.streams));
                 (end.status(), listener, None)
             }

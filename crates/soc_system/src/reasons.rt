@@ -51,6 +51,7 @@ fn refusal_reason(number: u8) -> &'static str {
         20 => "the rule at this place, counted from 0, isn't one",
         30 => "the file is no journal",
         33 => "the entry at this place can't be there",
+        34 => "the record of this crash isn't what was written",
         50 => "this line is no line of a symbol file",
         60 => "this line is no pattern",
         70 => "the token at this place, counted from 0, isn't one",
@@ -66,8 +67,8 @@ fn reason_of(status: u8) -> Option<&'static str> {
     Some(match status {
         1 => "a message was refused or cut short",
         2 => "these aren't words of a command",
-        3 => "a file is refused; its line names it",
-        4 => "the journal failed while it was opened or reports were kept",
+        3 => "a file or a key is refused; its line names it",
+        4 => "the journal failed while it was opened, or reports were made or kept",
         5 => "the journal is refused",
         6 => "the input, the address, the clock or the random bytes failed",
         7 => "the output can't be written",

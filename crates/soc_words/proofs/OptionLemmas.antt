@@ -1,6 +1,7 @@
 -- What clap's matches hold at the name of an option.
-use Rattle.std.proofs.Common.{◌≡◌, ◌≢◌, ℕ, ◌+◌, ◌<◌, ◌≤◌, true, List, [], ◌∷◌, length, drop, get_or, add-one, Option, None, Some, refl, sym, ap, ap₂, subst, ◌∙◌, option_map, ⊎_elim}
-use Rattle.std.specs.Prelude.{unwrap_or}
+use Rattle.std.proofs.Common.{◌≡◌, ◌≢◌, ℕ, ◌+◌, ◌<◌, ◌≤◌, Bool, true, false, cond, List, [], ◌∷◌, length, drop, get_or, add-one, Option, None, Some, refl, sym, ap, ap₂, subst, ◌∙◌, option_map, ⊎_elim}
+use Rattle.std.specs.Prelude.{find, unwrap_or}
+use Rattle.std.specs.List.{AllByRecursion}
 use Rattle.std.specs.Option.{option_map_or}
 use Rattle.std.specs.Borrow.{Bor}
 use Rattle.std.proofs.Math.Seq.{drop-cons}
@@ -15,7 +16,7 @@ use Rattle.clap.proofs.WalkLemmas.{first_value-rows}
 use Rattle.clap.proofs.OnLiterals.{clap_on_literals}
 use Rattle.soc_words.specs.declared.words.Task.{Task}
 use Rattle.soc_words.specs.declared.words.Words.{Words}
-use Rattle.soc_words.specs.declared.words.Task.TheVariants.{Check, Make, Replay, Serve, Storm}
+use Rattle.soc_words.specs.declared.words.Task.TheVariants.{Check, Make, Replay, Serve, Storm, Export}
 use Rattle.soc_words.specs.Words.{app_for, bare_app, name_of, number_between, option_rule, options_of, where_faultless, with_options, words_for, words_in}
 
 -- the text at a name, or another one
@@ -39,6 +40,11 @@ pub number-left : (f : Found) (name : List ℕ) (least most default : ℕ) (got 
 number-left f name least most default got found none =
     ap (λ (o : Option (List ℕ)). option_map_or (number_between least most) o (Some default)) (ap (option_map (λ (s : Bor (List ℕ)). s.now)) (sym none) ∙ (found ∙ first_value-rows f name))
 
+-- nothing that is looked for is there
+pub find_none : {X : Type 0} (test : X → Bool) (xs : List X) → AllByRecursion (λ x. test x ≡ false) xs → find test xs ≡ None
+find_none test [] all = refl
+find_none test (x ∷ xs) all = ap (λ b. cond b (Some x) (find test xs)) all.0 ∙ find_none test xs all.1
+
 -- ---- the commands are simple
 
 is_free : (task : Task) → is_simple_and_free (app_for task) ≡ true
@@ -48,6 +54,7 @@ is_free Make = refl
 is_free Replay = refl
 is_free Serve = refl
 is_free Storm = refl
+is_free Export = refl
 
 pub free : (task : Task) (app : App) → app ≡ app_for task → is_simple_and_free app ≡ true
 free task app is = ap is_simple_and_free is ∙ is_free task

@@ -2,7 +2,7 @@
 use Rattle.std.specs.Prelude.{◌≡◌, ℕ, [], ◌∷◌, None, Some, codes, refl}
 use Rattle.clap.proofs.OnLiterals.{clap_on_literals}
 use Rattle.soc_words.specs.declared.words.Task.{Task}
-use Rattle.soc_words.specs.declared.words.Task.TheVariants.{Check, Make, Replay, Storm}
+use Rattle.soc_words.specs.declared.words.Task.TheVariants.{Check, Export, Make, Replay, Storm}
 use Rattle.soc_words.specs.declared.words.Words.{Words}
 use Rattle.soc_words.specs.Words.{app_for, words_of}
 
@@ -34,6 +34,10 @@ in_one_word = refl
 texts_are_given : words_of (codes "replay" ∷ codes "--tree" ∷ codes "files" ∷ codes "--journal" ∷ codes "kept" ∷ []) ≡ Some (record (words Replay 1 1 2 2) { tree = codes "files"; journal = codes "kept" })
 unfolding words_of app_for clap_on_literals
 texts_are_given = refl
+
+export_takes_texts : words_of (codes "export" ∷ codes "--journal=kept" ∷ []) ≡ Some (record (words Export 1 1 2 2) { journal = codes "kept" })
+unfolding words_of app_for clap_on_literals
+export_takes_texts = refl
 
 no_command : words_of [] ≡ None
 unfolding words_of

@@ -11,14 +11,14 @@ use Rattle.clap.specs.Words.{App, Kinds, Shape, fault_of, first_of, matches_of, 
 use Rattle.clap.specs.Simple.{new_shape}
 use Rattle.clap.specs.declared.builder.action.ArgAction.TheVariants.{Set}
 use Rattle.soc_words.specs.declared.words.Task.{Task}
-use Rattle.soc_words.specs.declared.words.Task.TheVariants.{Check, Make, Replay, Serve, Storm}
+use Rattle.soc_words.specs.declared.words.Task.TheVariants.{Check, Make, Replay, Serve, Storm, Export}
 use Rattle.soc_words.specs.declared.words.Numbers.{Numbers}
 use Rattle.soc_words.specs.declared.words.Words.{Words}
 
 -- ---- commands and their options
 
 abbrev pub tasks : List Task
-tasks = Check ∷ Make ∷ Replay ∷ Serve ∷ Storm ∷ []
+tasks = Check ∷ Make ∷ Replay ∷ Serve ∷ Storm ∷ Export ∷ []
 
 abbrev pub name_of : Task → List ℕ
 name_of Check = codes "check"
@@ -26,6 +26,7 @@ name_of Make = codes "make"
 name_of Replay = codes "replay"
 name_of Serve = codes "serve"
 name_of Storm = codes "storm"
+name_of Export = codes "export"
 
 abbrev pub options_of : Task → List (List ℕ)
 options_of Check = codes "journal" ∷ []
@@ -33,6 +34,7 @@ options_of Make = codes "seed" ∷ codes "count" ∷ []
 options_of Replay = codes "journal" ∷ codes "tree" ∷ []
 options_of Serve = codes "journal" ∷ codes "tree" ∷ codes "listen" ∷ codes "collectors" ∷ codes "processors" ∷ []
 options_of Storm = codes "seed" ∷ codes "count" ∷ codes "collectors" ∷ codes "processors" ∷ []
+options_of Export = codes "journal" ∷ codes "tree" ∷ []
 
 -- an option that holds a text, and one that holds a number in a range
 pub record TextOption : Type 0 where

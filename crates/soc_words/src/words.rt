@@ -27,6 +27,7 @@ pub enum Task {
     Replay,
     Serve,
     Storm,
+    Export,
 }
 
 impl Task {
@@ -39,6 +40,7 @@ impl Task {
             "replay" => Some(Task::Replay),
             "serve" => Some(Task::Serve),
             "storm" => Some(Task::Storm),
+            "export" => Some(Task::Export),
             _ => None,
         }
     }
@@ -52,6 +54,7 @@ impl Task {
             Task::Replay => "replay",
             Task::Serve => "serve",
             Task::Storm => "storm",
+            Task::Export => "export",
         }
     }
 
@@ -62,7 +65,7 @@ impl Task {
         match self {
             Task::Check => &["journal"],
             Task::Make => &["seed", "count"],
-            Task::Replay => &["journal", "tree"],
+            Task::Replay | Task::Export => &["journal", "tree"],
             Task::Serve => &["journal", "tree", "listen", "collectors", "processors"],
             Task::Storm => &["seed", "count", "collectors", "processors"],
         }

@@ -44,7 +44,7 @@ fn answer<R: Threads + Wait + Sync>(threads: &R, rt: &HostRuntime, words: &[Stri
         Ok(said) => match draws_of(rt, said.command) {
             Some(draws) => match said.command {
                 Task::Serve | Task::Storm => serve(threads, rt, words, &said, draws),
-                Task::Check | Task::Make | Task::Replay => {
+                Task::Check | Task::Make | Task::Replay | Task::Export => {
                     run(rt, words, said.journal.as_str(), said.tree.as_str(), draws)
                 }
             },
@@ -65,7 +65,7 @@ fn draws_of(rt: &HostRuntime, command: Task) -> Option<SystemDraws> {
             }
             SystemDraws::new(rt).ok()
         }
-        Task::Check | Task::Make | Task::Storm => Some(SystemDraws::none()),
+        Task::Check | Task::Make | Task::Storm | Task::Export => Some(SystemDraws::none()),
     }
 }
 

@@ -1,0 +1,4 @@
+pub mod Asked
+pub mod KeyLemmas
+pub mod RowLines
+pub mod Shown
