@@ -45,5 +45,8 @@ pub(crate) enum Change {
 /// How many reports, or new crashes, are written together at most.
 pub(crate) const MOST_TOGETHER: u32 = 1_024;
 
+/// How many bytes of entries are written together at most, but for those of the last one.
+pub(crate) const MOST_BYTES: u64 = 4_194_304;
+
 /// How many events a writing command adds at most: the doubt that it settles, and its own.
 pub(crate) const ROOM: u32 = MOST_TOGETHER + 1;

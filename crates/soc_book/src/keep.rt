@@ -1,5 +1,5 @@
 //! Reports that are kept for later runs.
-ghost use Rattle.std.specs.Prelude.{◌≡◌, ◌+◌, ◌<◌, ◌≤◌, ◌^◌, not, ◌&&◌, ◌++◌, ◌∷◌, [], ℕ, IsTrue, IfOk, MatchResult, OnErr, OnOk, List, None, Some, length};
+ghost use Rattle.std.specs.Prelude.{◌≡◌, ◌+◌, ◌<◌, ◌≤◌, ◌&&◌, ◌++◌, ◌∷◌, [], ℕ, IfOk, MatchResult, OnErr, OnOk, List, None, Some, length};
 ghost use Rattle.std.specs.Option.{option_map};
 ghost use Rattle.soc_journal.specs.Entries.{entry_text, max_body};
 ghost use Rattle.soc_ledger.specs.State.{id_of};
@@ -11,12 +11,12 @@ ghost use Rattle.soc_book.specs.Books.{SameSetting, StandsFor, disk_of, reporter
 ghost use Rattle.soc_book.specs.Keeping.{KeepsByReporter};
 ghost use Rattle.soc_book.specs.inner.Keepings.{HasGathered, IsBatch, IsMost, IsSameBatch, KeepsBatch, LeavesSome, MakesEntry, MayMakeEntry, is_wanted, keep_reply, with_all};
 ghost use Rattle.soc_book.specs.inner.Pieces.{product_at};
-ghost use Rattle.soc_book.specs.inner.Stands.{AreReports, most_together};
+ghost use Rattle.soc_book.specs.inner.Stands.{AreReports, most_bytes, most_together};
 ghost use Rattle.soc_book.specs.inner.Steps.{Becomes, KeepsBook};
 
-use crate::book::{Book, Change, MOST_TOGETHER};
+use crate::book::{Book, Change};
 use crate::report::{HEAD, report_text, tells};
-use crate::writes::make_room;
+use crate::writes::{is_full, make_room};
 use soc_base::NoMemory;
 use soc_desk::{Refusal, Reply};
 use soc_edge::{Disk, Steps};
@@ -27,9 +27,6 @@ use soc_store::Store;
 use std::alloc::Global;
 use std::marker::Brand;
 use std::sync::ledger::{Blank, Ledger};
-
-/// How many bytes of entries are written together at most, but for those of the last one.
-const MOST_BYTES: u64 = 4_194_304;
 
 /// How many bytes stand beside an entry's body: its head, and the closed gate behind it.
 const BESIDE_BODY: u64 = ENTRY_HEAD as u64 + 1;
@@ -62,18 +59,9 @@ impl Batch {
         }
     }
 
-    /// Whether these are enough to be written together.
-    fn is_full(&self) -> bool
-        ensures few { IsTrue (not result) → length self.now.numbers.items < most_together }
-        ensures short { IsTrue (not result) → self.now.bytes < MOST_BYTES }
-        ensures some { IsTrue result → 0 < length self.now.numbers.items + self.now.bytes }
-    {
-        self.numbers.len() >= MOST_TOGETHER as usize || self.bytes >= MOST_BYTES
-    }
-
     /// Adds the report of the crash of a number. After an error nothing was added.
     fn push(&mut self, number: u32, entry: EntryText) -> Result<(), NoMemory>
-        requires { self.old.bytes < MOST_BYTES }
+        requires { self.old.bytes < most_bytes }
         ensures entries { OnOk result (self.new.entries.items ≡ self.old.entries.items
             ++ entry ∷ []) }
         ensures numbers { OnOk result (self.new.numbers.items ≡ self.old.numbers.items
@@ -178,7 +166,7 @@ impl<'a, D: Disk, R: Reporter> Book<'a, D, R> {
             batch.numbers.items batch.entries.items reports) (λ _. LeavesSome basis log from) }
     {
         let mut batch = Batch::new(self.alloc, from);
-        while batch.next < self.ledger.accepted() && !batch.is_full() {
+        while batch.next < self.ledger.accepted() && !is_full(batch.numbers.len(), batch.bytes) {
             match self.gather(&mut batch, digest) {
                 Ok(()) => batch.next += 1,
                 Err(_) if !batch.numbers.is_empty() => return Ok(batch),
@@ -193,7 +181,7 @@ impl<'a, D: Disk, R: Reporter> Book<'a, D, R> {
     fn gather(&self, batch: &mut Batch, digest: &[u8; 32]) -> Result<(), NoMemory>
         requires within { batch.old.next < length self.now.ledger.crashes }
         requires few { length batch.old.numbers.items < most_together }
-        requires short { batch.old.bytes < MOST_BYTES }
+        requires short { batch.old.bytes < most_bytes }
         requires batch { IsBatch self.now.ledger self.now.vault.journal batch.old }
         ensures batch { IsBatch self.now.ledger self.now.vault.journal batch.new }
         ensures next { batch.new.next ≡ batch.old.next }

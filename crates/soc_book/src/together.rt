@@ -16,11 +16,11 @@ ghost use Rattle.soc_book.specs.inner.Prepared.{IsPrepared, command_of};
 ghost use Rattle.soc_book.specs.inner.Stands.{most_together};
 ghost use Rattle.soc_book.specs.inner.Steps.{Becomes};
 
-use crate::book::{Book, Change, MOST_TOGETHER};
+use crate::book::{Book, Change};
 use crate::prepared::{Prepared, Work};
 use crate::submission::{NewCrash, Submission};
 use crate::submit::is_due_at_once;
-use crate::writes::make_room;
+use crate::writes::{is_full, make_room};
 use soc_base::NoMemory;
 use soc_desk::{Receipt, Refusal, Reply};
 use soc_edge::Disk;
@@ -85,8 +85,9 @@ impl NewCrashes {
 impl<'a, D: Disk, R: Reporter> Book<'a, D, R> {
     /// Carries out commands that were prepared, in order, and answers a receipt of each.
     ///
-    /// Submissions of new crashes that follow one another and fit both limits are written together, at most 1,024 at once:
-    /// all of them are kept, or each is answered `StoreFault`. Where there is no memory for the receipts, nothing is done.
+    /// Submissions of new crashes that follow one another and fit both limits are written together, at most 1,024 at once and
+    /// none behind 4 MiB of others: all of them are kept, or each is answered `StoreFault`. Where there is no memory for the
+    /// receipts, nothing is done.
     pub fn ask_all(&mut self, commands: Vec<Prepared>) -> Result<Vec<Receipt>, NoMemory>
         requires { AllByRecursion NeedsNothing commands.items }
         ensures setting { SameSetting self.old self.new }
@@ -223,7 +224,8 @@ impl<'a, D: Disk, R: Reporter> Book<'a, D, R> {
         self.ledger.number_of(id).is_none() && !batch.ids.as_slice().contains(&id)
     }
 
-    /// Whether an entry of so many bytes fits both limits behind these, and no doubt is to be settled first.
+    /// Whether an entry of so many bytes may be written with these and fits both limits behind them, and no doubt is to be
+    /// settled first.
     fn fits_behind(&self, batch: &NewCrashes, size: u64) -> bool
         ensures { IsTrue result → FitsBehind self.now.ledger self.now.vault.journal self.now.limits
             batch.now size }
@@ -231,12 +233,12 @@ impl<'a, D: Disk, R: Reporter> Book<'a, D, R> {
         if self.vault.is_in_doubt() {
             return false;
         }
-        let count = batch.ids.len() as u64;
-        if count >= u64::from(MOST_TOGETHER) {
+        let count = batch.ids.len();
+        if is_full(count, batch.bytes) {
             return false;
         }
         let most = self.limits.crashes;
-        let crashes = u64::from(self.ledger.accepted()) + count;
+        let crashes = u64::from(self.ledger.accepted()) + count as u64;
         if crashes >= u64::from(most) {
             return false;
         }

@@ -1,14 +1,14 @@
 //! What is written, and settled.
-ghost use Rattle.std.specs.Prelude.{◌≡◌, ◌<◌, ◌≤◌, ◌+◌, length, ℕ, IfErr, IfOk, IfSome, IsErrOf, MatchResult, None, Ok, OnOk};
+ghost use Rattle.std.specs.Prelude.{◌≡◌, ◌<◌, ◌≤◌, ◌+◌, not, length, ℕ, IfErr, IfOk, IfSome, IsErrOf, IsTrue, MatchResult, None, Ok, OnOk};
 ghost use Rattle.soc_edge.specs.Disk.{Looks};
 ghost use Rattle.soc_journal.specs.Entries.{sealed_all};
 ghost use Rattle.soc_desk.specs.Kinds.{RefusesWrite};
 ghost use Rattle.soc_book.specs.Books.{SameSetting, disk_of};
 ghost use Rattle.soc_book.specs.inner.Pieces.{IsWriteReply};
-ghost use Rattle.soc_book.specs.inner.Stands.{AcceptsNone, AddsSettled, FitNew, FitReports, Fits, Pushes, PushesNew, most_together, with_reports};
+ghost use Rattle.soc_book.specs.inner.Stands.{AcceptsNone, AddsSettled, FitNew, FitReports, Fits, Pushes, PushesNew, most_bytes, most_together, with_reports};
 ghost use Rattle.soc_book.specs.inner.Steps.{BeginsBook, WritesBook, WritesOne};
 
-use crate::book::{Book, Change, ROOM};
+use crate::book::{Book, Change, MOST_BYTES, MOST_TOGETHER, ROOM};
 use crate::submission::NewCrash;
 use soc_base::NoMemory;
 use soc_desk::{Refusal, Reply};
@@ -94,6 +94,15 @@ impl<'a, D: Disk, R: Reporter> Book<'a, D, R> {
             Err(refusal) => Reply::Refused(refusal),
         }
     }
+}
+
+/// Whether so many entries, of so many bytes, are enough to be written together.
+pub(crate) fn is_full(count: usize, bytes: u64) -> bool
+    ensures few { IsTrue (not result) → count < most_together }
+    ensures short { IsTrue (not result) → bytes < most_bytes }
+    ensures some { IsTrue result → 0 < count + bytes }
+{
+    count >= MOST_TOGETHER as usize || bytes >= MOST_BYTES
 }
 
 /// Takes the memory of the events that a command adds.

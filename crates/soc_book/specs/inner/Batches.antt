@@ -28,7 +28,7 @@ use Rattle.soc_book.specs.declared.submission.Submission.{Submission}
 use Rattle.soc_book.specs.declared.together.NewCrashes.{NewCrashes}
 use Rattle.soc_book.specs.Books.{SameSetting, StandsFor, disk_in, disk_of, reporter_of}
 use Rattle.soc_book.specs.inner.Books.{IsSubmissionOf}
-use Rattle.soc_book.specs.inner.Stands.{FitNew, most_together}
+use Rattle.soc_book.specs.inner.Stands.{FitNew, most_bytes, most_together}
 use Rattle.soc_book.specs.inner.Steps.{Becomes}
 
 -- ---- new crashes that wait
@@ -79,6 +79,7 @@ pub record MayStore (ledger : LedgerState) (journal : JournalState) (limits : Li
 pub record FitsBehind (ledger : LedgerState) (journal : JournalState) (limits : Limits) (batch : NewCrashes) (size : ℕ) : Type 0 where
   pub settled : journal.doubt ≡ None
   pub count : length batch.ids.items < most_together
+  pub bytes : batch.bytes < most_bytes
   pub few : length ledger.crashes + length batch.ids.items < limits.crashes
   pub below : limits.crashes < 2 ^ 32
   pub room : journal.gate + batch.bytes + size < journal.limit

@@ -39,6 +39,10 @@ FitsHeld ledger number = (0 < ledger.room) × (number < length ledger.crashes) �
 abbrev pub most_together : ℕ
 most_together = 1_024
 
+-- behind how many bytes of other entries none is written with them
+abbrev pub most_bytes : ℕ
+most_bytes = 4_194_304
+
 -- the crashes of the numbers are held
 abbrev pub AreHeld : LedgerState → List ℕ → Type 0
 AreHeld ledger numbers = AllByRecursion (λ number. (number < length ledger.crashes) × IsTrue (is_held ledger.log (id_of ledger number))) numbers

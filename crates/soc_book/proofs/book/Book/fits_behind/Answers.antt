@@ -8,6 +8,7 @@ returns g c less =
     record {
       settled = settled_by s.vault.journal.doubt c.is_in_doubt.ensures c.if-is_in_doubt.false;
       count = search rules;
+      bytes = search rules;
       few = search rules;
       below = search rules;
       room = search rules;
