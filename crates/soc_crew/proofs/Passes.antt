@@ -1,9 +1,8 @@
 -- What passes put and take, one call after another.
-use Rattle.std.proofs.Common.{◌≡◌, inl, inr, ℕ, ◌+◌, ◌-◌, ◌<◌, ◌≤◌, List, [], ◌∷◌, ◌++◌, length, drop, map, take, Option, None, Some, IfSome, IsSomeAnd, All, refl, sym, ◌∙◌, ap, subst, ⊎_elim, arith, append_assoc}
-use Rattle.std.specs.Prelude.{IfNone, min}
+use Rattle.std.proofs.Common.{◌≡◌, inl, inr, ℕ, ◌+◌, ◌-◌, ◌<◌, ◌≤◌, List, [], ◌∷◌, ◌++◌, length, drop, map, take, Option, None, Some, IsSomeAnd, All, refl, sym, ◌∙◌, ap, subst, ⊎_elim, arith, append_assoc}
+use Rattle.std.specs.Prelude.{MatchOption}
 use Rattle.std.specs.List.{slice_get}
 use mathlib.Core.List.{append-nil}
-use Rattle.std.proofs.Math.Nat.{min_comm, min-eq_left}
 use Rattle.std.proofs.lemmas.Bool.{cases_lt}
 use Rattle.std.proofs.lemmas.List.{drop-append-le, length-map, length-take-le, map-append, take_all, take_more}
 use Rattle.std.proofs.lemmas.List.Elements.{All-map}
@@ -14,15 +13,15 @@ use Rattle.soc_pool.specs.declared.jobs.Job.TheVariants as J
 use Rattle.soc_pool.specs.declared.jobs.TheConstants.{PLACES}
 use Rattle.soc_pool.specs.declared.pass.Pass.{Pass}
 use Rattle.soc_pool.specs.declared.rule.Seen.{Seen}
-use Rattle.soc_pool.specs.Passes.{IsNew, empties_of, once_more, seen_of}
-use Rattle.soc_pool.specs.Ring.{Puts, Takes, WasHolding}
+use Rattle.soc_pool.specs.Passes.{IsNew, seen_of}
+use Rattle.soc_pool.specs.Ring.{Puts, PutsOver}
 use Rattle.soc_desk.specs.declared.desk.Command.{Command}
 use Rattle.soc_desk.specs.declared.desk.Receipt.{Receipt}
 use Rattle.soc_collect.specs.Asked.{AsksAll, Step}
 use Rattle.soc_service.specs.Desks.{PutsJob}
 use Rattle.soc_service.specs.Works.{PutsCrashes, crash_jobs}
 use Rattle.soc_crew.proofs.Lists.{at_some}
-use Rattle.soc_crew.specs.Jobs.{EndsBy, OnlyPuts, PutsDue, PutsEnds, Shares, Starts, TakesToEnd, left_after}
+use Rattle.soc_crew.specs.Jobs.{EndsBy, OnlyPuts, PutsEnds, Shares, Starts, TakesToEnd, left_after}
 
 -- ---- the jobs of crashes that are due
 
@@ -53,23 +52,11 @@ put_more due n id v u w is has puts = record {
   takes = ap (λ s. s.takes) puts.is_now ∙ has.takes;
 }
 
-all_put : (n m k : ℕ) → n ≡ m → m ≤ k → n ≡ min m k
-all_put n m k is few = is ∙ sym (min-eq_left few)
-
-most_put : (n m k : ℕ) → n ≡ k → k ≤ m → n ≡ min m k
-most_put n m k is few = is ∙ (sym (min-eq_left few) ∙ min_comm k m)
-
 -- no further one is due
-pub put_all : (due : List (List ℕ)) (n : ℕ) (v w : Seen) → n ≤ PLACES → slice_get due n ≡ None → HasPut due n v w → PutsDue due n v w
-put_all due n v w few none has = record { puts = has.puts; takes = has.takes; all = inl (let over = past due n none in let within = has.within in all_put n (length due) PLACES (omega arith) (omega arith)) }
-
--- a ring has no place for further ones
-pub put_most : (due : List (List ℕ)) (n : ℕ) (v w : Seen) → n ≡ PLACES → HasPut due n v w → PutsDue due n v w
-put_most due n v w is has = record { puts = has.puts; takes = has.takes; all = inl (let within = has.within in most_put n (length due) PLACES is (omega arith)) }
-
--- the ring is full
-pub put_full : (due : List (List ℕ)) (n : ℕ) (v u w : Seen) → w ≡ u → WasHolding PLACES u → HasPut due n v u → PutsDue due n v w
-put_full due n v u w is full has = subst (λ s. PutsDue due n v s) (sym is) record { puts = has.puts; takes = has.takes; all = inr full }
+pub put_all : (due : List (List ℕ)) (n : ℕ) (v w : Seen) → n ≤ PLACES → slice_get due n ≡ None → HasPut due n v w → w.puts ≡ v.puts ++ crash_jobs (take PLACES due)
+put_all due n v w few none has =
+    let over = past due n none in
+    has.puts ∙ ap (λ l. v.puts ++ crash_jobs l) (take_all n due over ∙ sym (take_all PLACES due (omega arith)))
 
 -- those from a place on, with one more
 pub wait_more : (due waiting : List (List ℕ)) (from n : ℕ) (id : List ℕ) → slice_get due n ≡ Some id → from ≤ n → waiting ≡ drop from (take n due)
@@ -93,20 +80,12 @@ pub ends_none : (ends : ℕ) (v : Seen) → PutsEnds ends ends v v
 ends_none ends v = ([], (refl, refl))
 
 -- an `End` was put
-pub end_put : (left left' : ℕ) (v w : Seen) → left' + 1 ≡ left → Puts v J.End w → PutsEnds left left' v w
-end_put left left' v w one puts = (None ∷ [], (omega arith, w, puts, (omega arith, refl)))
-
--- where the ring was full, a job was taken out, if there was one then
-pub taken_out : (left left' : ℕ) (v : Seen) (p q : Pass) (taken : Option Job) → seen_of p ≡ v → WasHolding PLACES v → IfSome taken (λ job. Takes (seen_of p) job (seen_of q) × (empties_of q ≡ empties_of p))
-    → IfNone taken ((seen_of q ≡ seen_of p) × WasHolding 0 (seen_of p) × (empties_of q ≡ once_more (empties_of p))) → left' ≡ left_after left taken → PutsEnds left left' v (seen_of q)
-taken_out left left' v p q (Some job) same full takes none is = (Some job ∷ [], (full, seen_of q, subst (λ s. Takes s job (seen_of q)) same takes.0, (is, refl)))
-taken_out left left' v p q None same full takes none is = ([], (is, none.0 ∙ same))
+pub end_put : (left left' : ℕ) (v w : Seen) (out : Option Job) → 0 < left → left' ≡ left_after left out → MatchOption out (Puts v J.End w) (λ job. PutsOver v job J.End w) → PutsEnds left left' v w
+end_put left left' v w out some is put = (out ∷ [], (some, w, put, (is, refl)))
 
 steps_more : (steps more : List (Option Job)) (ends left left' : ℕ) (v u w : Seen) → EndsBy steps ends left v u → EndsBy more left left' u w → EndsBy (steps ++ more) ends left' v w
 steps_more [] more ends left left' v u w first next = subst (λ n. EndsBy more n left' v w) first.0 (subst (λ s. EndsBy more left left' s w) first.1 next)
-steps_more (None ∷ steps) more ends left left' v u w (some, t, puts, rest) next = (some, t, puts, steps_more steps more (ends - 1) left left' t u w rest next)
-steps_more (Some job ∷ steps) more ends left left' v u w (full, t, takes, rest) next =
-    (full, t, takes, steps_more steps more (left_after ends (Some job)) left left' t u w rest next)
+steps_more (out ∷ steps) more ends left left' v u w (some, t, puts, rest) next = (some, t, puts, steps_more steps more (left_after ends out) left left' t u w rest next)
 
 pub ends_more : (ends left left' : ℕ) (v u w : Seen) → PutsEnds ends left v u → PutsEnds left left' u w → PutsEnds ends left' v w
 ends_more ends left left' v u w first next = (first.0 ++ next.0, steps_more first.0 next.0 ends left left' v u w first.1 next.1)
@@ -219,25 +198,18 @@ shared Own passes collecting processing own collectors processors is c p put too
   started = started;
 }
 
--- the same with what was put at the start
-pub started : (due : List (List ℕ)) (count : ℕ) (p : Pass) (u : Seen) (collectors processors : ℕ) (passes : List Seen) → IsNew p → PutsDue due count (seen_of p) u → Shares (PutsEnds processors 0 u) collectors processors passes → Shares (Starts due processors) collectors processors passes
-started due count p u collectors processors passes new puts shares = record {
+-- the same with what was put at the start, of a ring that has ended with all passes, one for each buffer
+pub started_with : (due : List (List ℕ)) (p : Pass) (u : Seen) (collectors processors buffers : ℕ) (seen passes : List Seen)
+    → IsNew p → u.puts ≡ (seen_of p).puts ++ crash_jobs (take PLACES due) → u.takes ≡ (seen_of p).takes → buffers ≡ collectors → seen ≡ passes
+    → Shares (PutsEnds processors 0 u) buffers processors passes → Shares (Starts due processors) collectors processors seen
+started_with due p u collectors processors buffers seen passes new puts takes few same shares = record {
   collecting = shares.collecting;
   processing = shares.processing;
   own = shares.own;
-  passes_are = shares.passes_are;
-  collectors_are = shares.collectors_are;
+  passes_are = same ∙ shares.passes_are;
+  collectors_are = shares.collectors_are ∙ few;
   processors_are = shares.processors_are;
   put = shares.put;
   took = shares.took;
-  started = (seen_of p, count, u, ap (λ s. s.puts) new.seen, ap (λ s. s.takes) new.seen, puts, shares.started);
+  started = (u, puts ∙ ap (λ s. s.puts ++ crash_jobs (take PLACES due)) new.seen, takes ∙ ap (λ s. s.takes) new.seen, shares.started);
 }
-
--- and of a ring that has ended with all passes, one for each buffer
-pub started_with : (due : List (List ℕ)) (p : Pass) (u : Seen) (collectors processors buffers : ℕ) (seen passes : List Seen)
-    → IsNew p → (count : ℕ) × PutsDue due count (seen_of p) u → buffers ≡ collectors → seen ≡ passes
-    → Shares (PutsEnds processors 0 u) buffers processors passes → Shares (Starts due processors) collectors processors seen
-started_with due p u collectors processors buffers seen passes new puts few same shares =
-    started due puts.0 p u collectors processors seen new puts.1
-    (subst (λ n. Shares (PutsEnds processors 0 u) n processors seen) few
-    (subst (λ l. Shares (PutsEnds processors 0 u) buffers processors l) (sym same) shares))

@@ -1,37 +1,29 @@
 -- What the threads of a crew do with its ring of jobs.
-use Rattle.std.specs.Prelude.{◌⊎◌, ◌≡◌, ℕ, ◌+◌, ◌-◌, ◌<◌, ◌^◌, min, Option, None, Some, List, [], ◌∷◌, ◌++◌, length, take, All}
+use Rattle.std.specs.Prelude.{◌≡◌, ℕ, ◌-◌, ◌<◌, Option, Some, MatchOption, List, [], ◌∷◌, ◌++◌, length, take, All}
 use Rattle.soc_pool.specs.declared.jobs.Job.{Job}
 use Rattle.soc_pool.specs.declared.jobs.Job.TheVariants as J
 use Rattle.soc_pool.specs.declared.jobs.TheConstants.{PLACES}
 use Rattle.soc_pool.specs.declared.rule.Seen.{Seen}
-use Rattle.soc_pool.specs.Ring.{Puts, Takes, WasHolding}
+use Rattle.soc_pool.specs.Ring.{Puts, PutsOver}
 use Rattle.soc_service.specs.Works.{crash_jobs}
 
--- The jobs of the first crashes that are due were put, in order: so many as a ring has places, or until it was full.
-pub record PutsDue (due : List (List ℕ)) (count : ℕ) (v w : Seen) : Type 0 where
-  pub puts : w.puts ≡ v.puts ++ crash_jobs (take count due)
-  pub takes : w.takes ≡ v.takes
-  pub all : (count ≡ min (length due) PLACES) ⊎ WasHolding PLACES w
-
--- how many `End`s are left to put where this job was taken out of a full ring
+-- how many `End`s are left to put where one was put, and this job was taken out for it
 abbrev pub left_after : ℕ → Option Job → ℕ
-left_after left (Some J.End) = min (left + 1) (2 ^ 64 - 1)
-left_after left _ = left
+left_after left (Some J.End) = left
+left_after left _ = left - 1
 
--- By these steps so many `End`s come to so many that are left to put: each puts one, or takes a job out of a ring that was full.
+-- By these steps so many `End`s come to so many that are left to put: each puts one, for which a ring that was full gives a job.
 abbrev pub EndsBy : List (Option Job) → ℕ → ℕ → Seen → Seen → Type 0
 EndsBy [] ends left v w = (left ≡ ends) × (w ≡ v)
-EndsBy (None ∷ steps) ends left v w = (0 < ends) × (u : Seen) × Puts v J.End u × EndsBy steps (ends - 1) left u w
-EndsBy (Some job ∷ steps) ends left v w =
-    WasHolding PLACES v × (u : Seen) × Takes v job u × EndsBy steps (left_after ends (Some job)) left u w
+EndsBy (out ∷ steps) ends left v w =
+    (0 < ends) × (u : Seen) × MatchOption out (Puts v J.End u) (λ job. PutsOver v job J.End u) × EndsBy steps (left_after ends out) left u w
 
 abbrev pub PutsEnds : ℕ → ℕ → Seen → Seen → Type 0
 PutsEnds ends left v w = (steps : List (Option Job)) × EndsBy steps ends left v w
 
--- who starts a crew puts jobs of crashes that are due, and at the end an `End` for each processor
+-- who starts a crew puts the jobs of the first crashes that are due, in order, as many as a ring has places, and at the end an `End` for each processor
 abbrev pub Starts : List (List ℕ) → ℕ → Seen → Type 0
-Starts due processors w =
-    (v : Seen) × (count : ℕ) × (u : Seen) × (v.puts ≡ []) × (v.takes ≡ []) × PutsDue due count v u × PutsEnds processors 0 u w
+Starts due processors w = (u : Seen) × (u.puts ≡ crash_jobs (take PLACES due)) × (u.takes ≡ []) × PutsEnds processors 0 u w
 
 -- a collector puts jobs of crashes and takes none
 abbrev pub OnlyPuts : Seen → Type 0

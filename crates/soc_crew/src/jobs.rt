@@ -1,9 +1,11 @@
 //! The jobs that are put before the threads start, and when they are to end.
-ghost use Rattle.std.specs.Prelude.{◌≡◌, ℕ, ◌-◌, ◌<◌, ◌^◌, drop, take, IfOk};
+ghost use Rattle.std.specs.Prelude.{◌≡◌, ◌-◌, ◌<◌, ◌^◌, ◌++◌, drop, take, IfOk};
 ghost use Rattle.soc_ledger.specs.Due.{due_ids};
 ghost use Rattle.soc_pool.specs.Passes.{IsPassOf, seen_of};
+ghost use Rattle.soc_pool.specs.declared.jobs.TheConstants.{PLACES};
 ghost use Rattle.soc_service.specs.Changes.{events_in};
-ghost use Rattle.soc_crew.specs.Jobs.{PutsDue, PutsEnds, left_after};
+ghost use Rattle.soc_service.specs.Works.{crash_jobs};
+ghost use Rattle.soc_crew.specs.Jobs.{PutsEnds, left_after};
 
 use soc_base::NoMemory;
 use soc_pool::{Job, Jobs, PLACES, Pass};
@@ -13,42 +15,33 @@ use std::alloc::Global;
 use std::collections::VecDeque;
 use std::sync::Wait;
 
-/// Puts jobs of crashes that are due, the first ones in order, as many as a ring has places, or until it is full. The others
-/// wait for a place, in order.
+/// Puts jobs of crashes that are due, the first ones in order, as many as a ring has places. The others wait for a place, in
+/// order.
 pub(crate) fn put_due<T: SharedDesk, R: Wait>(
     rt: &R,
     alloc: Global,
     jobs: &Jobs,
-    pass: Pass,
+    mut pass: Pass,
     desk: &T,
 ) -> Result<Pass, NoMemory>
     requires { IsPassOf jobs.now pass }
     ensures pass { IfOk result (λ after. IsPassOf jobs.now after) }
-    ensures due { IfOk result (λ after. (count : ℕ)
-        × PutsDue (due_ids (events_in (T.log_of desk.now))) count (seen_of pass) (seen_of after)) }
-{
-    let (pass, count) = put_first(rt, jobs, pass, desk);
-    jobs.await_room(rt, due_from(alloc, desk, count)?);
-    Ok(pass)
-}
-
-/// Puts the first of them, and says how many.
-fn put_first<T: SharedDesk, R: Wait>(rt: &R, jobs: &Jobs, mut pass: Pass, desk: &T) -> (Pass, u32)
-    requires { IsPassOf jobs.now pass }
-    ensures pass { IsPassOf jobs.now result.0 }
-    ensures due { PutsDue (due_ids (events_in (T.log_of desk.now))) result.1 (seen_of pass)
-        (seen_of result.0) }
+    ensures puts { IfOk result (λ after. (seen_of after).puts
+        ≡ (seen_of pass).puts ++ crash_jobs (take PLACES (due_ids (events_in (T.log_of desk.now))))) }
+    ensures takes { IfOk result (λ after. (seen_of after).takes ≡ (seen_of pass).takes) }
 {
     for place in 0..PLACES as u32 {
         let Some(id) = desk.due_at(place) else {
-            return (pass, place);
+            return Ok(pass);
         };
         match jobs.put(rt, pass, Job::Crash(id)) {
             Ok(after) => pass = after,
-            Err((after, _)) => return (after, place),
+            // A new ring has room for all of them.
+            Err(_) => return Err(NoMemory),
         }
     }
-    (pass, PLACES as u32)
+    jobs.await_room(rt, due_from(alloc, desk, PLACES as u32)?);
+    Ok(pass)
 }
 
 /// The crashes that are due, from this place of their order on.
@@ -70,7 +63,8 @@ fn due_from<T: SharedDesk>(
     Ok(ids)
 }
 
-/// Puts so many `End`s, and one more for each that it takes out of a full ring.
+/// Puts so many `End`s, and one more for each that it takes out of a full ring. A crash whose job is taken out so is left to
+/// the last sweep.
 pub(crate) fn put_ends<R: Wait>(rt: &R, jobs: &Jobs, mut pass: Pass, ends: usize) -> Pass
     requires { IsPassOf jobs.now pass }
     ensures pass { IsPassOf jobs.now result }
@@ -81,36 +75,20 @@ pub(crate) fn put_ends<R: Wait>(rt: &R, jobs: &Jobs, mut pass: Pass, ends: usize
         if left == 0 {
             return pass;
         }
-        let (after, still) = put_end(rt, jobs, pass, left);
+        let (after, out) = jobs.put_over(rt, pass, Job::End);
         pass = after;
-        left = still;
+        left = left_after(left, out);
     }
     unreachable!()
 }
 
-/// Puts one of so many `End`s, and says how many are left then. Where the ring is full it takes a job out instead: a crash
-/// whose job is taken out so is left to the last sweep, and an `End` is to be put again.
-fn put_end<R: Wait>(rt: &R, jobs: &Jobs, pass: Pass, left: usize) -> (Pass, usize)
-    requires pass { IsPassOf jobs.now pass }
-    requires some { 0 < left }
-    ensures pass { IsPassOf jobs.now result.0 }
-    ensures ends { PutsEnds left result.1 (seen_of pass) (seen_of result.0) }
+/// How many `End`s are left to put where one was put, and this job was taken out for it.
+fn left_after(left: usize, out: Option<Job>) -> usize
+    requires { 0 < left }
+    ensures { result ≡ left_after left out }
 {
-    match jobs.put(rt, pass, Job::End) {
-        Ok(after) => (after, left - 1),
-        Err((after, _)) => {
-            let (after, taken) = jobs.take(rt, after);
-            (after, left_after(left, taken))
-        }
-    }
-}
-
-/// How many `End`s are left to put where this job was taken out.
-fn left_after(left: usize, taken: Option<Job>) -> usize
-    ensures { result ≡ left_after left taken }
-{
-    match taken {
-        Some(Job::End) => left.saturating_add(1),
-        _ => left,
+    match out {
+        Some(Job::End) => left,
+        _ => left - 1,
     }
 }

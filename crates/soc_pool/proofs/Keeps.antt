@@ -8,9 +8,10 @@ use mathlib.Core.List.{IsPrefix, append-nil}
 use mathlib.Core.Logic.{dite}
 use native.Mathlib.Decide.{ℕ_discrete}
 use lib.ListN.{get_elem?}
-use Rattle.crossbeam_queue.specs.Fifo.{Pushes, Pops, Forks, Merges, Learns}
+use Rattle.crossbeam_queue.specs.Fifo.{Pushes, PushesAfter, Pops, PopsFrom, Forks, Merges, Learns}
 use Rattle.crossbeam_queue.proofs.Lists.{at_set, at_longer, at_last, set_here, set_else}
 use Rattle.soc_pool.specs.declared.jobs.Job.{Job}
+use Rattle.soc_pool.specs.declared.jobs.TheConstants.{PLACES}
 use Rattle.soc_pool.specs.declared.rule.Entry.{Entry}
 use Rattle.soc_pool.specs.declared.rule.Role.{Role}
 use Rattle.soc_pool.specs.declared.rule.Role.TheVariants.{Makes, Works, Spent}
@@ -18,7 +19,7 @@ use Rattle.soc_pool.specs.declared.rule.Seen.{Seen}
 use Rattle.soc_pool.specs.declared.rule.View.{View}
 use Rattle.soc_pool.specs.Passes.{numbers_below}
 use Rattle.soc_pool.specs.Ring.{entry, jobs, jobs_by, HasPart, Closes}
-use Rattle.soc_pool.specs.inner.Rule.{maker, next_maker, newcomer, gathering, spent, puts_in, takes_in, has_content, has_closed, Lives, works, total, Fits, IsRing}
+use Rattle.soc_pool.specs.inner.Rule.{maker, next_maker, newcomer, gathering, spent, puts_in, takes_in, takes_from_full, has_nothing, has_closed, Lives, works, total, Fits, IsRing}
 
 -- ---- lists of entries
 
@@ -198,8 +199,10 @@ puts n pass v job is held views short r at =
       (record { put = r.put; taken = r.taken; begins = f.1.begins; is_now = refl; owns = record { in_order = (held ++ job ∷ [], content); puts = mine; takes = f.1.takes } }, refl),
     )
 
-pub takes : (pass : ℕ) (v : View) → v.role ≡ Works → Pops IsRing pass v (takes_in v)
-takes pass v is job held views r at =
+-- how many jobs are left is known then
+takes_one : (pass : ℕ) (v : View) → v.role ≡ Works → (job : Job) (held : List Job) (views : List View) → IsRing (job ∷ held) views → get_elem? views pass ≡ some v
+    → (w : View) × IsRing held (set views pass w) × takes_in v job w × (jobs w.seen.taken ++ held ≡ jobs w.seen.put)
+takes_one pass v is job held views r at =
     let s : Seen = v.seen in
     let f : (s.number < r.next) × HasPart r.put r.taken s = subst (Fits r.put r.taken r.next r.gone v) is (r.each pass v at) in
     let taken : List Entry = r.taken ++ entry s.number job ∷ [] in
@@ -213,13 +216,31 @@ takes pass v is job held views r at =
           (λ u ne p. record { begins = (p.begins.0, further u.taken r.taken (entry s.number job ∷ []) p.begins.1); puts = p.puts; takes = other u.number ne ∙ p.takes })
           (λ m ne none. (none.0, other m ne ∙ none.1)),
       (record { put = r.put; taken = r.taken; begins = f.1.begins; is_now = refl; owns = record { in_order = (held, content); puts = f.1.puts; takes = mine } }, refl),
+      content,
     )
 
--- what a pass learns of a full or an empty ring
-pub learns : (pass : ℕ) (v : View) → v.role ≡ Works → Learns IsRing pass v (has_content v)
-learns pass v is held views r at =
-    let f : (v.seen.number < r.next) × HasPart r.put r.taken v.seen = subst (Fits r.put r.taken r.next r.gone v) is (r.each pass v at) in
-    (r.put, r.taken, f.1.begins, r.content)
+pub takes : (pass : ℕ) (v : View) → v.role ≡ Works → Pops IsRing pass v (takes_in v)
+takes pass v is job held views r at = let one = takes_one pass v is job held views r at in (one.0, one.1, one.2)
+
+jobs_length : (xs : List Entry) → length (jobs xs) ≡ length xs
+jobs_length [] = refl
+jobs_length (e ∷ es) = ap suc (jobs_length es)
+
+-- a job more than a ring has places is put, and room was made before
+pub takes_full : (pass : ℕ) (v : View) → v.role ≡ Works → PopsFrom IsRing PLACES pass v (takes_from_full v)
+takes_full pass v is job held views full r at =
+    let one = takes_one pass v is job held views r at in
+    let w : View = one.0 in
+    let both : length (jobs w.seen.taken) + length held ≡ length (jobs w.seen.put) = sym (length-append (jobs w.seen.taken) held) ∙ ap length one.3 in
+    let put = jobs_length w.seen.put in
+    let taken = jobs_length w.seen.taken in
+    (w, one.1, ((one.2.0, omega arith), one.2.1))
+
+pub puts_after : (n pass : ℕ) (v : View) (job : Job) → v.role ≡ Works → PushesAfter IsRing n pass (takes_from_full v) job puts_in
+puts_after n pass v job is out w taken = puts n pass w job (taken.1 ∙ is)
+
+pub learns : (pass : ℕ) (v : View) → Learns IsRing pass v (has_nothing v)
+learns pass v held views r at = tt
 
 -- ---- the maker
 

@@ -3,20 +3,19 @@ use Rattle.std.specs.Prelude.{◌⊎◌, ◌≡◌, ℕ, zero, suc, ◌+◌, ◌
 use Rattle.crossbeam_queue.specs.Passes as kit
 use Rattle.soc_pool.specs.declared.jobs.Job.{Job}
 use Rattle.soc_pool.specs.declared.jobs.Job.TheVariants as J
-use Rattle.soc_pool.specs.declared.jobs.TheConstants.{PLACES}
 use Rattle.soc_pool.specs.declared.rule.Seen.{Seen}
 use Rattle.soc_pool.specs.declared.rule.View.{View}
 use Rattle.soc_pool.specs.declared.pass.Pass.{Pass}
 use Rattle.soc_pool.specs.declared.pass.Passes.{Passes}
 use Rattle.soc_pool.specs.declared.pass.RingEnd.{RingEnd}
 use Rattle.soc_pool.specs.declared.jobs.Jobs.{Jobs}
-use Rattle.soc_pool.specs.Ring.{Puts, WasHolding}
+use Rattle.soc_pool.specs.Ring.{Puts}
 
 -- what the pass has seen
 abbrev pub seen_of : Pass → Seen
 seen_of pass = (kit.view pass.ring).seen
 
--- how often it met a full and an empty ring
+-- how often a put of it was refused, and how often it found no job
 abbrev pub fulls_of : Pass → ℕ
 fulls_of pass = pass.fulls
 
@@ -64,12 +63,11 @@ numbers_below (suc n) = numbers_below n ++ n ∷ []
 abbrev pub once_more : ℕ → ℕ
 once_more n = min (n + 1) (2 ^ 64 - 1)
 
--- the job of the crash was put, or the ring was full, which the pass has counted
+-- the job of the crash was put, or the ring refused it, which the pass has counted
 abbrev pub PutsOrWaits : List ℕ → Pass → Pass → Type 0
 PutsOrWaits crash before after =
     (Puts (seen_of before) (J.Crash crash) (seen_of after) × (fulls_of after ≡ fulls_of before))
-    ⊎ ((seen_of after ≡ seen_of before) × WasHolding PLACES (seen_of before)
-    × (fulls_of after ≡ once_more (fulls_of before)))
+    ⊎ ((seen_of after ≡ seen_of before) × (fulls_of after ≡ once_more (fulls_of before)))
 
 -- the job of some crash was put, or none
 abbrev pub MayPut : Seen → Seen → Type 0

@@ -1,5 +1,5 @@
 -- What a put and a take say: of the lists of jobs put and taken, which only grow, and of which what was taken is a front of what was put. And what all passes say when the ring ends.
-use Rattle.std.specs.Prelude.{◌⊎◌, ◌≡◌, ℕ, ◌==◌, cond, List, [], ◌∷◌, ◌++◌, length, All, refl}
+use Rattle.std.specs.Prelude.{◌⊎◌, ◌≡◌, ℕ, ◌+◌, ◌==◌, cond, List, [], ◌∷◌, ◌++◌, length, All, refl}
 use mathlib.Core.Option.{some}
 use mathlib.Core.List.{IsPrefix}
 use lib.ListN.{get_elem?}
@@ -49,13 +49,13 @@ pub record Takes (v : Seen) (job : Job) (w : Seen) : Type 0 where
   pub is_now : w ≡ record v { put = put; taken = taken ++ entry v.number job ∷ []; takes = v.takes ++ job ∷ [] }
   pub owns : Owns w
 
--- the ring holds these jobs: those put and not yet taken
-abbrev pub IsContent : Seen → List Job → Type 0
-IsContent v held = (put : List Entry) × (taken : List Entry) × Begins v put taken × (jobs taken ++ held ≡ jobs put)
+-- the same of a ring that was full, and so holds one job less than it has places
+abbrev pub TakesFromFull : Seen → Job → Seen → Type 0
+TakesFromFull v job w = Takes v job w × (length w.put + 1 ≡ length w.taken + PLACES)
 
--- at a moment in the call the ring held so many jobs
-abbrev pub WasHolding : ℕ → Seen → Type 0
-WasHolding n v = (held : List Job) × (length held ≡ n) × IsContent v held
+-- the ring was full, so its next job was taken, and then this one was put
+abbrev pub PutsOver : Seen → Job → Job → Seen → Type 0
+PutsOver v out job w = (u : Seen) × TakesFromFull v out u × Puts u job w
 
 -- the pass has seen a front of both lists, and its puts and takes are the entries that bear its number
 pub record HasPart (put taken : List Entry) (v : Seen) : Type 0 where

@@ -1,11 +1,11 @@
 //! The ring.
-ghost use Rattle.std.specs.Prelude.{◌≡◌, ◌<◌, ◌≤◌, [], length, map, All, vec_capacity, IfOk, IfErr, IfSome, IfNone, MatchResult};
+ghost use Rattle.std.specs.Prelude.{◌≡◌, ◌<◌, ◌≤◌, [], length, map, All, vec_capacity, IfOk, IfErr, IfSome, IfNone, MatchOption, MatchResult};
 ghost use Rattle.crossbeam_queue.specs.Passes.{ruled_capacity};
 ghost use Rattle.soc_pool.specs.declared.jobs.TheConstants.{PLACES};
 ghost use Rattle.soc_pool.specs.declared.rule.Role.TheVariants.{Makes};
 
 use crate::pass::{Pass, Passes, RingEnd};
-use crate::rule::{Another, Close, Gather, OneRing, Put, Take, View};
+use crate::rule::{Another, Close, Gather, MakeRoom, OneRing, Put, Take, View};
 use crossbeam_queue::RuledArrayQueue;
 use soc_base::NoMemory;
 use soc_raw::CrashId;
@@ -38,7 +38,7 @@ pub struct Jobs {
 
 impl Jobs {
     ghost use Rattle.crossbeam_queue.specs.Passes as kit;
-    ghost use Rattle.soc_pool.specs.Ring.{Puts, Takes, WasHolding};
+    ghost use Rattle.soc_pool.specs.Ring.{Puts, PutsOver, Takes};
     ghost use Rattle.soc_pool.specs.Passes.{seen_of, fulls_of, empties_of, passes_in, room_of, all_of, seen_in, numbers_below, once_more, IsPassOf, IsRollOf, IsNew};
     ghost use Rattle.soc_pool.specs.inner.Rule.{maker};
 
@@ -98,8 +98,8 @@ impl Jobs {
             (λ back. IsPassOf self.now back.0) }
         ensures put { IfOk result (λ after. Puts (seen_of pass) job (seen_of after)
             × (fulls_of after ≡ fulls_of pass)) }
-        ensures full { IfErr result (λ back. (back.1 ≡ job) × (seen_of back.0 ≡ seen_of pass)
-            × WasHolding PLACES (seen_of pass) × (fulls_of back.0 ≡ once_more (fulls_of pass))) }
+        ensures refused { IfErr result (λ back. (back.1 ≡ job) × (seen_of back.0 ≡ seen_of pass)
+            × (fulls_of back.0 ≡ once_more (fulls_of pass))) }
         ensures empties { MatchResult result (λ after. empties_of after ≡ empties_of pass)
             (λ back. empties_of back.0 ≡ empties_of pass) }
     {
@@ -116,6 +116,23 @@ impl Jobs {
         }
     }
 
+    /// Puts the job last. Where the ring is full, its next job is taken out for that.
+    pub fn put_over<R: Wait>(&self, rt: &R, mut pass: Pass, job: Job) -> (Pass, Option<Job>)
+        requires { IsPassOf self.now pass }
+        ensures pass { IsPassOf self.now result.0 }
+        ensures put { MatchOption result.1 (Puts (seen_of pass) job (seen_of result.0))
+            (λ out. PutsOver (seen_of pass) out job (seen_of result.0)) }
+        ensures counts { (fulls_of result.0 ≡ fulls_of pass)
+            × (empties_of result.0 ≡ empties_of pass) }
+    {
+        let out = self
+            .ring
+            .force_push_as::<Put, MakeRoom, R>(rt, &mut pass.ring, job);
+        self.puts.fetch_add(1, SeqCst);
+        self.puts.wake_one();
+        (pass, out)
+    }
+
     /// Takes the next job. None where the ring was empty.
     pub fn take<R: Wait>(&self, rt: &R, mut pass: Pass) -> (Pass, Option<Job>)
         requires { IsPassOf self.now pass }
@@ -124,7 +141,7 @@ impl Jobs {
             (λ job. Takes (seen_of pass) job (seen_of result.0)
             × (empties_of result.0 ≡ empties_of pass)) }
         ensures empty { IfNone result.1
-            ((seen_of result.0 ≡ seen_of pass) × WasHolding 0 (seen_of pass)
+            ((seen_of result.0 ≡ seen_of pass)
             × (empties_of result.0 ≡ once_more (empties_of pass))) }
         ensures fulls { fulls_of result.0 ≡ fulls_of pass }
     {

@@ -35,14 +35,14 @@ pub struct RingEnd {
 impl Pass {
     ghost use Rattle.soc_pool.specs.Passes.{fulls_of, empties_of};
 
-    /// How often the ring was full, at most 2^64 - 1.
+    /// How often a put was refused since the ring was full, at most 2^64 - 1.
     pub fn fulls(&self) -> u64
         ensures { result ≡ fulls_of self.now }
     {
         self.fulls
     }
 
-    /// How often the ring was empty, at most 2^64 - 1.
+    /// How often no job was there to take, at most 2^64 - 1.
     pub fn empties(&self) -> u64
         ensures { result ≡ empties_of self.now }
     {

@@ -1,5 +1,5 @@
 //! The rule of the ring: what was taken is a front of what was put, and each job bears the number of the pass that put or took it.
-ghost use Rattle.soc_pool.specs.inner.Rule.{IsRing, maker, next_maker, newcomer, gathering, spent, puts_in, takes_in, has_content, has_closed};
+ghost use Rattle.soc_pool.specs.inner.Rule.{IsRing, maker, next_maker, newcomer, gathering, spent, puts_in, takes_in, takes_from_full, has_nothing, has_closed};
 
 use crate::jobs::Job;
 use crossbeam_queue::protocol::{Join, Lesson, Outcome, Protocol, Split};
@@ -79,7 +79,7 @@ impl Outcome<Job, View> for Put {
 }
 
 impl Lesson<Job, View> for Put {
-    ghost fact = { has_content };
+    ghost fact = { has_nothing };
 }
 
 pub(crate) struct Take;
@@ -89,5 +89,12 @@ impl Outcome<Job, View> for Take {
 }
 
 impl Lesson<Job, View> for Take {
-    ghost fact = { has_content };
+    ghost fact = { has_nothing };
+}
+
+/// A job is taken from a ring that is full.
+pub(crate) struct MakeRoom;
+
+impl Outcome<Job, View> for MakeRoom {
+    ghost then = { takes_from_full };
 }

@@ -78,6 +78,24 @@ fn a_ring_holds_its_places(rt: HostRuntime) -> Result<(), Fail> {
 }
 
 #[test]
+fn a_job_is_put_over_the_next_of_a_full_ring(rt: HostRuntime) -> Result<(), Fail> {
+    let (jobs, mut passes) = Jobs::new(rt.alloc(), 1)?;
+    let pass = passes.pop().expect(&rt, "one pass");
+    let (pass, _) = put_all(&rt, &jobs, pass, 1023);
+    let (pass, out) = jobs.put_over(&rt, pass, Job::End);
+    assert_eq!(rt; out, None);
+    let (pass, out) = jobs.put_over(&rt, pass, numbered(1024));
+    assert_eq!(rt; out, Some(numbered(0)));
+    let (pass, in_order) = take_all(&rt, &jobs, pass, 1..1023);
+    assert!(rt; in_order);
+    let (pass, job) = jobs.take(&rt, pass);
+    assert_eq!(rt; job, Some(Job::End));
+    let (_, job) = jobs.take(&rt, pass);
+    assert_eq!(rt; job, Some(numbered(1024)));
+    Ok(())
+}
+
+#[test]
 fn crashes_wait_for_a_place(rt: HostRuntime) -> Result<(), Fail> {
     let (jobs, mut passes) = Jobs::new(rt.alloc(), 1)?;
     let pass = passes.pop().expect(&rt, "one pass");

@@ -8,7 +8,7 @@ use Rattle.soc_pool.specs.declared.rule.Role.{Role}
 use Rattle.soc_pool.specs.declared.rule.Role.TheVariants.{Makes, Works, Spent}
 use Rattle.soc_pool.specs.declared.rule.Seen.{Seen}
 use Rattle.soc_pool.specs.declared.rule.View.{View}
-use Rattle.soc_pool.specs.Ring.{jobs, jobs_by, Puts, Takes, IsContent, HasPart, Closes}
+use Rattle.soc_pool.specs.Ring.{jobs, jobs_by, Puts, Takes, TakesFromFull, HasPart, Closes}
 
 -- ---- steps
 
@@ -38,8 +38,12 @@ puts_in v job w = Puts v.seen job w.seen × (w.role ≡ v.role)
 abbrev pub takes_in : View → Job → View → Type 0
 takes_in v job w = Takes v.seen job w.seen × (w.role ≡ v.role)
 
-abbrev pub has_content : View → List Job → Type 0
-has_content v held = IsContent v.seen held
+abbrev pub takes_from_full : View → Job → View → Type 0
+takes_from_full v job w = TakesFromFull v.seen job w.seen × (w.role ≡ v.role)
+
+-- a pass whose call did nothing learns nothing: what it has seen may be long ago
+abbrev pub has_nothing : View → List Job → Type 0
+has_nothing v held = ⊤
 
 -- whoever has taken back as many passes as were made knows all of them
 abbrev pub has_closed : View → List Job → Type 0

@@ -104,5 +104,5 @@ returns-clause-ends g c =
 
 pub returns-clause-jobs : goal.returns-clause-jobs
 returns-clause-jobs g c =
-    started_with _ c.in-Ok.stock.own _ _ _ _ _ _ c.in-Ok.ensures.own.1 c.in-Ok-put_due.ensures.due c.in-Ok.ensures.buffers
+    started_with _ c.in-Ok.stock.own _ _ _ _ _ _ c.in-Ok.ensures.own.1 c.in-Ok-put_due.ensures.puts c.in-Ok-put_due.ensures.takes c.in-Ok.ensures.buffers
     c.close-jobs.ensures c.serve_in-served.ensures.jobs

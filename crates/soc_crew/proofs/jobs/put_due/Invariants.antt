@@ -2,7 +2,7 @@ use Rattle.soc_ledger.specs.Due.{due_ids}
 use Rattle.soc_pool.specs.Passes.{IsPassOf, seen_of}
 use Rattle.soc_service.specs.Changes.{events_in}
 use Rattle.soc_crew.proofs.Passes.{HasPut}
-use Rattle.soc_crew.proofs.jobs.put_first.Given as goal
+use Rattle.soc_crew.proofs.jobs.put_due.Given as goal
 
 abbrev pub invariant-loop-place : goal.invariant-loop-place
 invariant-loop-place g l = record {
