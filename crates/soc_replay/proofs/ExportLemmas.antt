@@ -6,8 +6,8 @@ use Rattle.soc_schema.specs.declared.caller.Caller.{Caller}
 use Rattle.soc_schema.specs.declared.value.Cell.{Cell}
 use Rattle.soc_edge.specs.Disk.{DiskFailed, DiskTold, GoesOn, IsDisk, LeavesOnly, Looks}
 use Rattle.soc_edge.specs.Faults.{Rose}
-use Rattle.soc_edge.specs.Told.{HasCause, OnlyReads, Told, WriteFailed, Writes, WritesFront}
-use Rattle.soc_edge.specs.World.{Outside, StaysQuiet, StaysStill, Surroundings, surroundings}
+use Rattle.soc_edge.specs.Told.{OnlyReads, Told, WriteFailed, Writes, WritesFront}
+use Rattle.soc_edge.specs.World.{Outside, RunHasCause, StaysQuiet, StaysStill, Surroundings, surroundings}
 use Rattle.soc_edge.proofs.Disks.{GoesOn-append}
 use Rattle.soc_journal.specs.Entries.{Entry}
 use Rattle.soc_vault.specs.Openings.{OpeningLeaves, StandsSince}
@@ -67,10 +67,10 @@ rose_later before middle after at_most (inl rose) = inl (omega (arith, at_most, 
 rose_later before middle after at_most (inr last) = inr last
 
 -- nothing was read
-pub still_asks : (before after : Outside) → StaysStill before.around after.around → OnlyAsks before.around after.around
+pub still_asks : (before after : Surroundings) → StaysStill before after → OnlyAsks before after
 still_asks before after still = record {
   quiet = still.quiet;
-  only = subst (OnlyReads before.around.streams) (sym still.streams) (record { held_stays = refl; reads_never_fall = omega arith; write_faults_stay = refl });
+  only = subst (OnlyReads before.streams) (sym still.streams) (record { held_stays = refl; reads_never_fall = omega arith; write_faults_stay = refl });
 }
 
 module _ (before middle after : DiskTold) (goes_on : GoesOn before middle) (sound : IsDisk middle) (looks : Looks middle after) where
@@ -239,7 +239,7 @@ pub file_refused : (before after : Outside) (refusal : FileRefusal) (end : RunEn
     → RefusesText before.around.streams after.around.streams refusal end → Exports before after end
 file_refused before after refusal R.TextRefused says quiet told = inl (record { refusal = refusal; says = says; quiet = quiet; line = told })
 file_refused before after refusal R.LineFault says quiet told = inl (record { refusal = refusal; says = says; quiet = quiet; line = told })
-file_refused before after refusal R.NoMemory says quiet same = inl (still_asks before after (record { quiet = quiet; streams = same }))
+file_refused before after refusal R.NoMemory says quiet same = inl (still_asks before.around after.around (record { quiet = quiet; streams = same }))
 file_refused before after refusal (R.Served _ _) says quiet never = absurd never
 file_refused before after refusal R.Written says quiet never = absurd never
 file_refused before after refusal R.Usage says quiet never = absurd never
@@ -266,42 +266,51 @@ disk_failed row_of digest limits caller before after R.TreeFault never is = absu
 disk_failed row_of digest limits caller before after R.MakerFault never is = absurd never
 disk_failed row_of digest limits caller before after R.InputFault never is = absurd never
 
--- the input is never blamed for a journal
-pub never_input : (row_of : Crash → List Cell) (digest : Option (List ℕ)) (limits : Limits) (caller : Caller) (before after : Surroundings) (end : RunEnd)
-    → ExportsJournal row_of digest limits caller before after end → status_of end ≡ 6 → ⊥
-never_input row_of digest limits caller before after R.Written exports is = omega (arith, is)
-never_input row_of digest limits caller before after R.JournalRefused exports is = omega (arith, is)
-never_input row_of digest limits caller before after R.OpenFault exports is = omega (arith, is)
-never_input row_of digest limits caller before after R.LineFault exports is = omega (arith, is)
-never_input row_of digest limits caller before after R.NoMemory exports is = omega (arith, is)
-never_input row_of digest limits caller before after (R.Served _ _) never is = never
-never_input row_of digest limits caller before after R.Usage never is = never
-never_input row_of digest limits caller before after R.TextRefused never is = never
-never_input row_of digest limits caller before after R.TreeFault never is = never
-never_input row_of digest limits caller before after R.MakerFault never is = never
-never_input row_of digest limits caller before after R.InputFault never is = never
+-- neither the input nor the tree nor the maker is blamed
+abbrev Spares : ℕ → Type 0
+Spares status = (status ≡ 6 → ⊥) × ((status ≡ 8 → ⊥) × (status ≡ 11 → ⊥))
 
--- an output that failed after the input was read
-pub cause_behind : (before asked after : Told) (end : RunEnd) → OnlyReads before asked → (status_of end ≡ 6 → ⊥) → (status_of end ≡ 7 → WriteFailed asked after)
-    → HasCause (status_of end ≡ 6) (status_of end ≡ 7) before after
-cause_behind before asked after end only never write = record {
-  read = λ is. absurd (never is);
-  write = λ is. subst (λ (n : ℕ). Rose n after.write_faults) only.write_faults_stay (write is);
+pub journal_spares : (row_of : Crash → List Cell) (digest : Option (List ℕ)) (limits : Limits) (caller : Caller) (before after : Surroundings) (end : RunEnd)
+    → ExportsJournal row_of digest limits caller before after end → Spares (status_of end)
+journal_spares row_of digest limits caller before after R.Written exports = ((λ is. omega (arith, is)), ((λ is. omega (arith, is)), (λ is. omega (arith, is))))
+journal_spares row_of digest limits caller before after R.JournalRefused exports = ((λ is. omega (arith, is)), ((λ is. omega (arith, is)), (λ is. omega (arith, is))))
+journal_spares row_of digest limits caller before after R.OpenFault exports = ((λ is. omega (arith, is)), ((λ is. omega (arith, is)), (λ is. omega (arith, is))))
+journal_spares row_of digest limits caller before after R.LineFault exports = ((λ is. omega (arith, is)), ((λ is. omega (arith, is)), (λ is. omega (arith, is))))
+journal_spares row_of digest limits caller before after R.NoMemory exports = ((λ is. omega (arith, is)), ((λ is. omega (arith, is)), (λ is. omega (arith, is))))
+journal_spares row_of digest limits caller before after (R.Served _ _) never = absurd never
+journal_spares row_of digest limits caller before after R.Usage never = absurd never
+journal_spares row_of digest limits caller before after R.TextRefused never = absurd never
+journal_spares row_of digest limits caller before after R.TreeFault never = absurd never
+journal_spares row_of digest limits caller before after R.MakerFault never = absurd never
+journal_spares row_of digest limits caller before after R.InputFault never = absurd never
+
+-- the blame of what came after the files and the input's first line were read
+pub cause_behind : (before after : Outside) (asked : Told) (end : RunEnd) → OnlyReads before.around.streams asked → Spares (status_of end)
+    → (status_of end ≡ 7 → WriteFailed asked after.around.streams) → (status_of end ≡ 4 → DiskFailed before.around.disk after.around.disk)
+    → RunHasCause before after (status_of end)
+cause_behind before after asked end only spares write disk = record {
+  streams = record {
+    read = λ is. absurd (spares.0 is);
+    write = λ is. subst (λ (n : ℕ). Rose n after.around.streams.write_faults) only.write_faults_stay (write is);
+  };
+  tree = λ is. absurd (spares.1.0 is);
+  maker = λ is. absurd (spares.1.1 is);
+  disk = disk;
 }
 
--- what the line that refuses a file or a key may be blamed for
-pub text_never : (before after : Told) (refusal : FileRefusal) (end : RunEnd) → RefusesText before after refusal end → (status_of end ≡ 6 → ⊥) × (status_of end ≡ 4 → ⊥)
-text_never before after refusal R.TextRefused told = ((λ is. omega (arith, is)), (λ is. omega (arith, is)))
-text_never before after refusal R.LineFault told = ((λ is. omega (arith, is)), (λ is. omega (arith, is)))
-text_never before after refusal R.NoMemory told = ((λ is. omega (arith, is)), (λ is. omega (arith, is)))
-text_never before after refusal (R.Served _ _) never = absurd never
-text_never before after refusal R.Written never = absurd never
-text_never before after refusal R.Usage never = absurd never
-text_never before after refusal R.JournalRefused never = absurd never
-text_never before after refusal R.TreeFault never = absurd never
-text_never before after refusal R.MakerFault never = absurd never
-text_never before after refusal R.InputFault never = absurd never
-text_never before after refusal R.OpenFault never = absurd never
+-- the line that refuses a file or a key isn't blamed on what was read, nor on the disk
+pub text_spares : (before after : Told) (refusal : FileRefusal) (end : RunEnd) → RefusesText before after refusal end → Spares (status_of end) × (status_of end ≡ 4 → ⊥)
+text_spares before after refusal R.TextRefused told = (((λ is. omega (arith, is)), ((λ is. omega (arith, is)), (λ is. omega (arith, is)))), (λ is. omega (arith, is)))
+text_spares before after refusal R.LineFault told = (((λ is. omega (arith, is)), ((λ is. omega (arith, is)), (λ is. omega (arith, is)))), (λ is. omega (arith, is)))
+text_spares before after refusal R.NoMemory told = (((λ is. omega (arith, is)), ((λ is. omega (arith, is)), (λ is. omega (arith, is)))), (λ is. omega (arith, is)))
+text_spares before after refusal (R.Served _ _) never = absurd never
+text_spares before after refusal R.Written never = absurd never
+text_spares before after refusal R.Usage never = absurd never
+text_spares before after refusal R.JournalRefused never = absurd never
+text_spares before after refusal R.TreeFault never = absurd never
+text_spares before after refusal R.MakerFault never = absurd never
+text_spares before after refusal R.InputFault never = absurd never
+text_spares before after refusal R.OpenFault never = absurd never
 
 pub text_seven : (before after : Told) (refusal : FileRefusal) (end : RunEnd) → RefusesText before after refusal end → (end ≡ R.LineFault → WriteFailed before after)
     → status_of end ≡ 7 → WriteFailed before after

@@ -3,7 +3,7 @@ ghost use Rattle.std.specs.Prelude.{◌≡◌, ◌⊎◌, IfErr, IfOk, IfSome, I
 ghost use Rattle.soc_edge.specs.Ahead.{Outlook};
 ghost use Rattle.soc_edge.specs.Disk.{DiskFailed, GoesOn};
 ghost use Rattle.soc_edge.specs.Faults.{Rose};
-ghost use Rattle.soc_edge.specs.Told.{HasCause, OnlyWrites, WriteFailed};
+ghost use Rattle.soc_edge.specs.Told.{OnlyWrites, WriteFailed};
 ghost use Rattle.soc_edge.specs.Tree.{TreeFailed};
 ghost use Rattle.soc_edge.specs.World.{RunHasCause, RunsOn, StaysStill, surroundings};
 ghost use Rattle.soc_replay.specs.Ends.{status_of};
@@ -67,10 +67,8 @@ fn run<T: Tree, X: Source + Sink, D: Disk, C: Clock, W: Draws, P: Maker>(
         → P.faults world.new.maker ≡ P.faults world.old.maker }
     ensures maker_cause { IsErrOf result FilesFault.Maker
         → Rose (P.faults world.old.maker) (P.faults world.new.maker) }
-    ensures cause { IfOk result (λ end. HasCause (status_of end ≡ 6) (status_of end ≡ 7)
-        (X.told world.old.streams) (X.told world.new.streams)) }
-    ensures disk_cause { IfOk result (λ end. status_of end ≡ 4
-        → DiskFailed (D.state world.old.disk) (D.state world.new.disk)) }
+    ensures cause { let told = ⟦<World<T, X, D, C, W, P> as TellsAll>⟧.told in
+        IfOk result (λ end. RunHasCause (told world.old) (told world.new) (status_of end)) }
 {
     let texts = read_texts(alloc, &mut world.tree)?;
     let setup = set_up(alloc, &texts)?;

@@ -2,7 +2,7 @@ use Rattle.std.proofs.Common.{Err, ap, arith, inl, refl}
 use Rattle.soc_edge.proofs.Disks.{GoesOn-none, Looks-none}
 use Rattle.soc_edge.specs.Ahead.{outlook}
 use Rattle.soc_replay.specs.declared.refusal.FileRefusal.TheVariants as F
-use Rattle.soc_replay.proofs.ExportLemmas.{cause_behind, exports_by, exports_with, key_refused, never_input, text_never, text_seven}
+use Rattle.soc_replay.proofs.ExportLemmas.{cause_behind, exports_by, exports_with, journal_spares, key_refused, text_seven, text_spares}
 use Rattle.soc_replay.proofs.FileLemmas.{kit_fault, kit_maker, kit_not_tree, says_said}
 use Rattle.soc_replay.proofs.export.run.Goals as goal
 
@@ -42,8 +42,8 @@ returns-in-Ok-Some-clause-runs g c =
 pub returns-in-Ok-Some-clause-cause : goal.returns-in-Ok-Some-clause-cause
 returns-in-Ok-Some-clause-cause g c =
     cause_behind _ _ _ c.export_journal.result c.read_caller.ensures.only
-    (never_input _ _ _ _ _ _ c.export_journal.result (c.export_journal.ensures.exports (outlook (g.C.Clock.told c.args.world.now.clock) (g.W.Draws.told c.args.world.now.draws))))
-    c.export_journal.ensures.cause
+    (journal_spares _ _ _ _ _ _ c.export_journal.result (c.export_journal.ensures.exports (outlook (g.C.Clock.told c.args.world.now.clock) (g.W.Draws.told c.args.world.now.draws))))
+    c.export_journal.ensures.cause c.export_journal.ensures.disk_cause
 
 pub returns-in-Ok-None-clause-runs : goal.returns-in-Ok-None-clause-runs
 returns-in-Ok-None-clause-runs g c =
@@ -55,12 +55,10 @@ returns-in-Ok-None-clause-runs g c =
 
 pub returns-in-Ok-None-clause-cause : goal.returns-in-Ok-None-clause-cause
 returns-in-Ok-None-clause-cause g c =
-    cause_behind _ _ _ c.refuse_text.result c.read_caller.ensures.only
-    (text_never _ _ F.UnknownKey c.refuse_text.result c.refuse_text.ensures.refuses).0
+    let spares = text_spares _ _ F.UnknownKey c.refuse_text.result c.refuse_text.ensures.refuses in
+    cause_behind _ _ _ c.refuse_text.result c.read_caller.ensures.only spares.0
     (text_seven _ _ F.UnknownKey c.refuse_text.result c.refuse_text.ensures.refuses c.refuse_text.ensures.cause)
-
-pub returns-in-Ok-None-clause-disk_cause : goal.returns-in-Ok-None-clause-disk_cause
-returns-in-Ok-None-clause-disk_cause g c = λ is. absurd ((text_never _ _ F.UnknownKey c.refuse_text.result c.refuse_text.ensures.refuses).1 is)
+    (λ is. absurd (spares.1 is))
 
 pub returns-in-Ok-Some-clause-runs_on : goal.returns-in-Ok-Some-clause-runs_on
 returns-in-Ok-Some-clause-runs_on g c = record {
