@@ -25,7 +25,7 @@ QUESTIONS = {
     "signatures of all": "select signature, count(*) from crash group by 1 order by 2 desc limit 50",
     "crashes a day": "select product, version, day, count from crashes_a_day",
     "a crash by its id": "select signature from crash where uuid = '%s'",
-    "the newest 100 of a signature": "select uuid from crash where signature = 'frame_77 | caller' order by date desc limit 100",
+    "the newest 100 of a signature": "select uuid from crash where signature = 'IPCError-content | frame_77 | caller' order by date desc limit 100",
 }
 
 
@@ -35,7 +35,7 @@ def main(instances):
         try:
             schema = os.path.join(TOP, "examples", "warehouse", "postgresql.sql")
             subprocess.run(["psql", "-q", "-f", schema], check=True, env=database.environment)
-            reports = warehouse.made_reports(65536)
+            reports = [crash.report() for crash in warehouse.made_crashes(65536)]
             for instance in range(instances):
                 for report in reports:
                     report["uuid"] = "%04x%s" % (instance, report["uuid"][4:])
